@@ -1,0 +1,10 @@
+//! Pages of dark and light pixels, packed eight to a byte, and lists of bytes.
+//!
+//! `BitPage` owns a page and `BitView` borrows the packed rows of one. Contracts see both as a
+//! `Page` of `vx_plane`: a width, a height and rows of truth values. Padding bits aren't seen.
+#![tactic(auto)]
+
+mod bytes;
+
+pub use bytes::Bytes;
+pub use std::alloc::AllocError as OutOfMemory;
