@@ -1,0 +1,15 @@
+//! The outside as three traits, and what stands behind them.
+//!
+//! `Inputs` are named files, a `Sink` takes bytes, a `Keeper` keeps records. Each means what it
+//! holds, told or not told, and a count of faults: a call answers `Failed` only where that count
+//! rose in the call. `MemInputs`, `MemSink` and `MemKeeper` hold everything in memory and fail
+//! exactly at the listed calls; `StdInputs` and `StdSink` are the real files and the real standard
+//! output. `take` reads an input whole and `give` writes a text whole. `Words` are the words of a
+//! command.
+//!
+//! The definitions stand in `specs/Outside.antt`.
+#![tactic(auto)]
+
+mod outside;
+
+pub use outside::{Failed, Inputs, Keeper, KeeperError, Sink};
