@@ -1,0 +1,3 @@
+pub mod Status
+pub mod Numeral
+pub mod Command
