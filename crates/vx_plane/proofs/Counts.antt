@@ -1,6 +1,5 @@
 -- Laws of counts in rectangles.
-use Rattle.std.proofs.Common.{◌≡◌, ℕ, zero, suc, ◌+◌, ◌*◌, ◌≤◌, Bool, true, false, cond, not, ◌||◌, ◌&&◌, ℤ, pos, ◌+ℤ◌, ◌≤ℤ◌, ◌<ℤ◌, refl, ap, sym, ◌∙◌, arith, true≢false}
-use Rattle.std.proofs.lemmas.Int.{ints}
+use Rattle.std.proofs.Common.{◌≡◌, ℕ, ◌+◌, ◌*◌, ◌≤◌, Bool, true, false, not, ◌||◌, ℤ, pos, ◌+ℤ◌, ◌≤ℤ◌, ◌<ℤ◌, refl, ap, sym, ◌∙◌, arith}
 use Rattle.vx_plane.specs.Plane.{Pixels, union}
 use Rattle.vx_plane.specs.Count.{one_if, sum_from, count_in, outside_of}
 use Rattle.vx_plane.proofs.Sums.{sum_from-same, sum_from-le, sum_from-parts, sum_from-more, sum_from-moved, sum_from-add, sum_from-same_number, sum_from-orders, sum_from-member}

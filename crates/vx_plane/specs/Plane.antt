@@ -1,5 +1,5 @@
 -- Sets of places in the whole-number plane, and pages.
-use Rattle.std.specs.Prelude.{ℕ, suc, zero, List, [], map, Bool, true, false, cond, ◌&&◌, ◌||◌, ℤ, pos, negsuc, ◌+ℤ◌, int_lt, int_le, slice_index_or}
+use Rattle.std.specs.Prelude.{ℕ, suc, zero, List, [], map, Bool, false, cond, ◌&&◌, ◌||◌, ℤ, pos, negsuc, ◌+ℤ◌, int_lt, int_le, slice_index_or}
 use Rattle.std.specs.Ordering.{int_eq}
 use Rattle.std.specs.List.{range_with_len}
 
