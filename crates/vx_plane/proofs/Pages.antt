@@ -1,0 +1,211 @@
+-- Laws of pages: what lies where, what makes one page, and what painting does.
+use Rattle.std.proofs.Common.{◌≡◌, ℕ, zero, suc, ◌+◌, ◌≤◌, ◌<◌, List, [], length, map, get_or, Bool, true, false, cond, ◌||◌, ◌&&◌, ◌⊎◌, ⊎_elim, inl, inr, ℤ, pos, negsuc, ◌+ℤ◌, ◌≤ℤ◌, ◌<ℤ◌, refl, ap, sym, ◌∙◌, arith, add-one}
+use Rattle.std.specs.List.{range_with_len}
+use Rattle.std.specs.Ordering.{int_eq}
+use Rattle.std.proofs.lemmas.Int.{ints, by_lt_z}
+use Rattle.std.proofs.lemmas.List.{same_lists, get_or_past}
+use Rattle.std.proofs.lemmas.List.FromFn.{length-map-range_with_len, get_or-map-range_with_len}
+use Rattle.std.proofs.lemmas.Bool.{cases_lt}
+use Rattle.vx_plane.specs.Plane.{Pixels, Page, rows_of, page_of, dark_at, with_pixel, union, rectangle, painted, in_any}
+
+-- the same numbers, the same list
+map-same : {X : Type 0} (f g : ℕ → X) (n : ℕ) → ((k : ℕ) → k < n → f k ≡ g k) → map f (range_with_len 0 n) ≡ map g (range_with_len 0 n)
+map-same f g n same =
+    same_lists _ _
+    (length-map-range_with_len f 0 n ∙ sym (length-map-range_with_len g 0 n))
+    (λ k d h.
+    let within : k < n = omega (arith, length-map-range_with_len f 0 n) in
+    get_or-map-range_with_len f 0 n k k d within (omega arith)
+    ∙ same k within
+    ∙ sym (get_or-map-range_with_len g 0 n k k d within (omega arith)))
+
+-- two sets that agree in the frame make one page
+pub page_of-same : (width height : ℕ) (a b : Pixels) → ((x y : ℕ) → x < width → y < height → a (pos x) (pos y) ≡ b (pos x) (pos y)) → page_of width height a ≡ page_of width height b
+unfolding rows_of
+page_of-same width height a b same =
+    let rows : rows_of width height a ≡ rows_of width height b =
+    map-same _ _ height (λ y h. map-same _ _ width (λ x l. same x y l h)) in
+    ap (λ (r : List (List Bool)). let p : Page = record { width = width; height = height; rows = r } in p) rows
+
+-- a page has its height's number of rows
+pub length-rows_of : (width height : ℕ) (set : Pixels) → length (rows_of width height set) ≡ height
+unfolding rows_of
+length-rows_of width height set = length-map-range_with_len _ 0 height
+
+-- the row of a page
+row_at : (width height y : ℕ) (set : Pixels) → y < height → get_or (rows_of width height set) y [] ≡ map (λ x. set (pos x) (pos y)) (range_with_len 0 width)
+unfolding rows_of
+row_at width height y set h = get_or-map-range_with_len _ 0 height y y [] h (omega arith)
+
+-- a place inside the frame is dark where the set says so
+pub dark_at-inside : (width height x y : ℕ) (set : Pixels) → x < width → y < height → dark_at (page_of width height set) (pos x) (pos y) ≡ set (pos x) (pos y)
+dark_at-inside width height x y set l h =
+    ap (λ (row : List Bool). get_or row x false) (row_at width height y set h)
+    ∙ get_or-map-range_with_len _ 0 width x x false l (omega arith)
+
+-- a place beside the frame is light
+pub dark_at-beside : (width height x y : ℕ) (set : Pixels) → width ≤ x → dark_at (page_of width height set) (pos x) (pos y) ≡ false
+dark_at-beside width height x y set l =
+    by_lt_z (pos y) (pos height)
+    (λ h.
+    let within : y < height = omega (arith, ints) in
+    ap (λ (row : List Bool). get_or row x false) (row_at width height y set within)
+    ∙ get_or_past _ x false (omega (arith, length-map-range_with_len (λ (x : ℕ). set (pos x) (pos y)) 0 width)))
+    (λ h.
+    let past : height ≤ y = omega (arith, ints) in
+    ap (λ (row : List Bool). get_or row x false) (get_or_past (rows_of width height set) y [] (omega (arith, length-rows_of width height set))))
+
+-- a place under the frame is light
+pub dark_at-under : (width height x y : ℕ) (set : Pixels) → height ≤ y → dark_at (page_of width height set) (pos x) (pos y) ≡ false
+dark_at-under width height x y set h =
+    ap (λ (row : List Bool). get_or row x false) (get_or_past (rows_of width height set) y [] (omega (arith, length-rows_of width height set)))
+
+-- the dark places of a page make it again
+pub page_of-dark_at : (width height : ℕ) (set : Pixels) → page_of width height (dark_at (page_of width height set)) ≡ page_of width height set
+page_of-dark_at width height set = page_of-same width height _ set (λ x y l h. dark_at-inside width height x y set l h)
+
+-- painting two shapes that agree in the frame makes one page
+pub painted-same : (page : Page) (a b : Pixels) → ((x y : ℕ) → x < page.width → y < page.height → a (pos x) (pos y) ≡ b (pos x) (pos y)) → painted page a ≡ painted page b
+painted-same page a b same = page_of-same page.width page.height _ _ (λ x y l h. ap (λ (t : Bool). dark_at page (pos x) (pos y) || t) (same x y l h))
+
+or_assoc : (a b c : Bool) → (a || b) || c ≡ a || (b || c)
+or_assoc true b c = refl
+or_assoc false b c = refl
+
+or_false : (a : Bool) → a || false ≡ a
+or_false true = refl
+or_false false = refl
+
+or_cases : {P : Type 0} (a b : Bool) → a || b ≡ true → (a ≡ true → P) → (b ≡ true → P) → P
+or_cases true b h left right = left refl
+or_cases false b h left right = right h
+
+or_left : (a b : Bool) → a ≡ true → a || b ≡ true
+or_left true b h = refl
+or_left false b h = absurd (cc)
+
+or_right : (a b : Bool) → b ≡ true → a || b ≡ true
+or_right true b h = refl
+or_right false b h = h
+
+-- painting a union is painting one after the other
+pub painted-union : (page : Page) (a b : Pixels) → painted page (union a b) ≡ painted (painted page a) b
+painted-union page a b =
+    page_of-same page.width page.height _ _ (λ x y l h.
+    sym (ap (λ (t : Bool). t || b (pos x) (pos y)) (dark_at-inside page.width page.height x y (union (dark_at page) a) l h)
+    ∙ or_assoc (dark_at page (pos x) (pos y)) (a (pos x) (pos y)) (b (pos x) (pos y))))
+
+-- painting nothing that lies in the frame leaves the page
+pub painted-none : (page : Page) (shape : Pixels) → page ≡ page_of page.width page.height (dark_at page) → ((x y : ℕ) → x < page.width → y < page.height → shape (pos x) (pos y) ≡ false) → painted page shape ≡ page
+painted-none page shape whole none =
+    page_of-same page.width page.height _ (dark_at page) (λ x y l h. ap (λ (t : Bool). dark_at page (pos x) (pos y) || t) (none x y l h) ∙ or_false (dark_at page (pos x) (pos y)))
+    ∙ sym whole
+
+-- one set more of a family
+pub in_any-more : (n : ℕ) (family : ℕ → Pixels) (u v : ℤ) → in_any (n + 1) family u v ≡ in_any n family u v || family n u v
+in_any-more n family u v = rw add-one refl
+
+-- painting one set more of a family
+pub painted-in_any_more : (page : Page) (n : ℕ) (family : ℕ → Pixels) → painted page (in_any (n + 1) family) ≡ painted (painted page (in_any n family)) (family n)
+painted-in_any_more page n family =
+    painted-same page _ (union (in_any n family) (family n)) (λ x y l h. in_any-more n family (pos x) (pos y))
+    ∙ painted-union page (in_any n family) (family n)
+
+-- a place of the first n sets lies in one of them
+pub in_any-some : (n : ℕ) (family : ℕ → Pixels) (u v : ℤ) → in_any n family u v ≡ true → (k : ℕ) × (k < n) × (family k u v ≡ true)
+in_any-some zero family u v h = absurd (cc)
+in_any-some (suc n) family u v h =
+    or_cases (in_any n family u v) (family n u v) h
+    (λ before. let some : (k : ℕ) × (k < n) × (family k u v ≡ true) = in_any-some n family u v before in (some.0, omega (arith, some.1), some.2))
+    (λ here. (n, omega arith, here))
+
+-- a place of one of the first n sets is among them
+pub in_any-one : (n k : ℕ) (family : ℕ → Pixels) (u v : ℤ) → k < n → family k u v ≡ true → in_any n family u v ≡ true
+in_any-one zero k family u v l h = absurd (omega arith)
+in_any-one (suc n) k family u v l h =
+    ⊎_elim
+    (λ before. or_left (in_any n family u v) (family n u v) (in_any-one n k family u v before h))
+    (λ here. let at : n ≡ k = omega arith in or_right (in_any n family u v) (family n u v) (ap (λ (i : ℕ). family i u v) at ∙ h))
+    (cases_lt k n)
+
+-- a place between the sides of a rectangle lies in it
+pub rectangle-inside : (left top : ℤ) (width height : ℕ) (u v : ℤ) → left ≤ℤ u → u <ℤ (left +ℤ pos width) → top ≤ℤ v → v <ℤ (top +ℤ pos height) → rectangle left top width height u v ≡ true
+rectangle-inside left top width height u v a b c d = grind (arith, ints)
+
+-- a place of a rectangle stands between its sides
+pub rectangle-sides : (left top : ℤ) (width height : ℕ) (u v : ℤ) → rectangle left top width height u v ≡ true → (left ≤ℤ u) × (u <ℤ (left +ℤ pos width)) × (top ≤ℤ v) × (v <ℤ (top +ℤ pos height))
+rectangle-sides left top width height u v h = grind (arith, ints)
+
+-- a place that isn't between the sides of a rectangle isn't in it
+pub rectangle-outside : (left top : ℤ) (width height : ℕ) (u v : ℤ) → (u <ℤ left) ⊎ ((left +ℤ pos width) ≤ℤ u) ⊎ (v <ℤ top) ⊎ ((top +ℤ pos height) ≤ℤ v) → rectangle left top width height u v ≡ false
+rectangle-outside left top width height u v h = grind (arith, ints)
+
+-- one row more is the rectangle and its new row
+pub rectangle-row_more : (left top : ℤ) (width height : ℕ) (u v : ℤ) → rectangle left top width (height + 1) u v ≡ rectangle left top width height u v || rectangle left (top +ℤ pos height) width 1 u v
+rectangle-row_more left top width height u v = grind (arith, ints)
+
+-- one column more is the rectangle and its new column
+pub rectangle-column_more : (left top : ℤ) (width height : ℕ) (u v : ℤ) → rectangle left top (width + 1) height u v ≡ rectangle left top width height u v || rectangle (left +ℤ pos width) top 1 height u v
+rectangle-column_more left top width height u v = grind (arith, ints)
+
+-- a rectangle of one place
+pub rectangle-one : (x y u v : ℤ) → rectangle x y 1 1 u v ≡ int_eq u x && int_eq v y
+rectangle-one x y u v = grind (arith, ints)
+
+put : (here old : Bool) → cond here true old ≡ old || here
+put true true = refl
+put true false = refl
+put false true = refl
+put false false = refl
+
+no_rows : (left top : ℤ) (width : ℕ) (u v : ℤ) → rectangle left top width 0 u v ≡ false
+no_rows left top width u v = grind (arith, ints)
+
+no_columns : (left top : ℤ) (height : ℕ) (u v : ℤ) → rectangle left top 0 height u v ≡ false
+no_columns left top height u v = grind (arith, ints)
+
+-- a place of the plane inside the frame is dark where the set says so
+pub dark_at-in_frame : (width height : ℕ) (set : Pixels) (u v : ℤ) → pos 0 ≤ℤ u → u <ℤ pos width → pos 0 ≤ℤ v → v <ℤ pos height → dark_at (page_of width height set) u v ≡ set u v
+dark_at-in_frame width height set (pos u) (pos v) a b c d = dark_at-inside width height u v set (omega (arith, ints)) (omega (arith, ints))
+dark_at-in_frame width height set (pos u) (negsuc v) a b c d = absurd (omega (arith, ints))
+dark_at-in_frame width height set (negsuc u) v a b c d = absurd (omega (arith, ints))
+
+-- a place of the plane outside the frame is light
+pub dark_at-out_of_frame : (width height : ℕ) (set : Pixels) (u v : ℤ) → (u <ℤ pos 0) ⊎ (pos width ≤ℤ u) ⊎ (v <ℤ pos 0) ⊎ (pos height ≤ℤ v) → dark_at (page_of width height set) u v ≡ false
+dark_at-out_of_frame width height set (pos u) (pos v) h =
+    elim (cases_lt u width) [
+      | inl beside ↦ elim (cases_lt v height) [ inl under ↦ absurd (omega (arith, ints)) | inr under ↦ dark_at-under width height u v set under ]
+      | inr beside ↦ dark_at-beside width height u v set beside
+    ]
+dark_at-out_of_frame width height set (pos u) (negsuc v) h = refl
+dark_at-out_of_frame width height set (negsuc u) v h = refl
+
+-- one pixel made dark is a rectangle of one place, painted
+pub painted-one : (page : Page) (x y : ℕ) → page_of page.width page.height (with_pixel (dark_at page) (pos x) (pos y) true) ≡ painted page (rectangle (pos x) (pos y) 1 1)
+painted-one page x y =
+    page_of-same page.width page.height _ _ (λ u v l h.
+    put (int_eq (pos u) (pos x) && int_eq (pos v) (pos y)) (dark_at page (pos u) (pos v))
+    ∙ ap (λ (t : Bool). dark_at page (pos u) (pos v) || t) (sym (rectangle-one (pos x) (pos y) (pos u) (pos v))))
+
+-- painting one row more of a rectangle
+pub painted-row_more : (page : Page) (left top : ℤ) (width height : ℕ) → painted page (rectangle left top width (height + 1)) ≡ painted (painted page (rectangle left top width height)) (rectangle left (top +ℤ pos height) width 1)
+painted-row_more page left top width height =
+    painted-same page _ (union (rectangle left top width height) (rectangle left (top +ℤ pos height) width 1)) (λ x y l h. rectangle-row_more left top width height (pos x) (pos y))
+    ∙ painted-union page (rectangle left top width height) (rectangle left (top +ℤ pos height) width 1)
+
+-- painting one column more of a rectangle
+pub painted-column_more : (page : Page) (left top : ℤ) (width height : ℕ) → painted page (rectangle left top (width + 1) height) ≡ painted (painted page (rectangle left top width height)) (rectangle (left +ℤ pos width) top 1 height)
+painted-column_more page left top width height =
+    painted-same page _ (union (rectangle left top width height) (rectangle (left +ℤ pos width) top 1 height)) (λ x y l h. rectangle-column_more left top width height (pos x) (pos y))
+    ∙ painted-union page (rectangle left top width height) (rectangle (left +ℤ pos width) top 1 height)
+
+-- a rectangle without rows or without columns paints nothing
+pub painted-no_rows : (page : Page) (left top : ℤ) (width : ℕ) → page ≡ page_of page.width page.height (dark_at page) → painted page (rectangle left top width 0) ≡ page
+painted-no_rows page left top width whole = painted-none page _ whole (λ x y l h. no_rows left top width (pos x) (pos y))
+
+pub painted-no_columns : (page : Page) (left top : ℤ) (height : ℕ) → page ≡ page_of page.width page.height (dark_at page) → painted page (rectangle left top 0 height) ≡ page
+painted-no_columns page left top height whole = painted-none page _ whole (λ x y l h. no_columns left top height (pos x) (pos y))
+
+-- a painted page is made of its dark places
+pub painted-whole : (page : Page) (shape : Pixels) → painted page shape ≡ page_of page.width page.height (dark_at (painted page shape))
+painted-whole page shape = sym (page_of-dark_at page.width page.height (union (dark_at page) shape))
