@@ -11,5 +11,7 @@
 #![tactic(auto)]
 
 mod outside;
+mod words;
 
 pub use outside::{Failed, Inputs, Keeper, KeeperError, Sink};
+pub use words::Words;
