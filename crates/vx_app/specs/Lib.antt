@@ -1,3 +1,4 @@
 pub mod Status
 pub mod Numeral
 pub mod Command
+pub mod Outcome

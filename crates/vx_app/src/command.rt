@@ -1,9 +1,12 @@
-ghost use Rattle.std.specs.Prelude.{◌≡◌, ◌≢◌, MatchOption};
+ghost use Rattle.std.specs.Prelude.{◌≡◌, ◌≢◌, ◌↔◌, Bool, IsTrue, MatchOption};
 ghost use Rattle.vx_grid.specs.declared.kind.Kind.{Kind as KindOf};
 ghost use Rattle.vx_grid.specs.declared.kind.Kind.TheVariants.{Other};
-ghost use Rattle.vx_app.specs.Command.{kind_name, kind_word};
+ghost use Rattle.vx_app.specs.Command.{kind_name, kind_word, IsArgument, NoCommand, Spells};
 
 use vx_grid::Kind;
+use vx_io::Words;
+
+use crate::numeral::read_number;
 
 /// What the words ask for. The election is always the word after the command's name.
 #[derive(Clone, Copy, Debug, PartialEq, Eq)]
@@ -27,4 +30,40 @@ fn plain_kind(word: &str) -> Option<Kind>
     } else {
         None
     }
+}
+
+/// A kind's word, perhaps with `test-` before it: the kind, and whether it is a test ballot's.
+fn kind_and_test(word: &str) -> Option<(Kind, bool)>
+    ensures {
+        MatchOption result
+          ((kind : KindOf) (test : Bool) → kind ≢ Other → word.now ≢ kind_word kind test)
+          (λ found. (found.0 ≢ Other) × (word.now ≡ kind_word found.0 found.1))
+    }
+{
+    match word.strip_prefix("test-") {
+        Some(rest) => Some((plain_kind(rest)?, true)),
+        None => Some((plain_kind(word)?, false)),
+    }
+}
+
+/// Whether a word may be an argument.
+fn is_argument(word: &str) -> bool
+    ensures { IsTrue result ↔ IsArgument word.now }
+{
+    match word.as_bytes() {
+        [] => false,
+        [first, ..] => *first != b'-',
+    }
+}
+
+/// The command that the words spell, if any.
+pub fn parse(words: &Words) -> Option<Command>
+    ensures { MatchOption result (NoCommand words.now) (Spells words.now) }
+{
+    if words.count() != 4 || words.word(0) != "print" || !is_argument(words.word(1)) {
+        return None;
+    }
+    let card = read_number(words.word(2), 1023)?;
+    let (kind, test) = kind_and_test(words.word(3))?;
+    Some(Command::Print { card, kind, test })
 }
