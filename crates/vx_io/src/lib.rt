@@ -10,8 +10,12 @@
 //! The definitions stand in `specs/Outside.antt`.
 #![tactic(auto)]
 
+mod giving;
 mod outside;
+mod taking;
 mod words;
 
+pub use giving::give;
 pub use outside::{Failed, Inputs, Keeper, KeeperError, Sink};
+pub use taking::{TakeFault, take};
 pub use words::Words;
