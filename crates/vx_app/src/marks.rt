@@ -1,0 +1,32 @@
+ghost use Rattle.std.specs.Prelude.{◌≡◌, ◌<◌, IfOk};
+ghost use Rattle.vx_plane.specs.Plane.{page_of, dark_at, painted};
+ghost use Rattle.vx_grid.specs.Marks.{mark_pixels};
+ghost use Rattle.vx_app.specs.Outcome.{mark_page};
+
+use std::alloc::Global;
+use vx_bits::{BitPage, OutOfMemory};
+use vx_grid::{mark_of, x_of, y_of, MARKS, PAGE_HEIGHT, PAGE_WIDTH};
+
+/// Paints timing mark `k`.
+fn paint_mark(page: &mut BitPage, k: u32)
+    requires number { k < 146 }
+    requires width { page.old.width ≡ 1700 }
+    requires height { page.old.height ≡ 2200 }
+    ensures { page.new ≡ painted page.old (mark_pixels k) }
+{
+    let (column, row) = mark_of(k);
+    let left = x_of(column) as u32 - 18;
+    let top = y_of(row) as u32 - 6;
+    page.darken(left, top, 36, 12);
+}
+
+/// The page of the timing marks alone.
+pub fn make_mark_page(alloc: Global) -> Result<BitPage, OutOfMemory>
+    ensures { IfOk result (λ page. page ≡ mark_page) }
+{
+    let mut page = BitPage::new(alloc, PAGE_WIDTH, PAGE_HEIGHT)?;
+    for k in 0..MARKS {
+        paint_mark(&mut page, k);
+    }
+    Ok(page)
+}
