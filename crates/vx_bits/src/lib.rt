@@ -5,6 +5,11 @@
 #![tactic(auto)]
 
 mod bytes;
+mod packed;
+mod page;
+mod view;
 
 pub use bytes::Bytes;
+pub use page::BitPage;
 pub use std::alloc::AllocError as OutOfMemory;
+pub use view::BitView;

@@ -1,15 +1,16 @@
 -- Laws of pages: what lies where, what makes one page, and what painting does.
-use Rattle.std.proofs.Common.{◌≡◌, ℕ, zero, suc, ◌+◌, ◌≤◌, ◌<◌, List, [], length, map, get_or, Bool, true, false, cond, ◌||◌, ◌&&◌, ◌⊎◌, ⊎_elim, inl, inr, ℤ, pos, negsuc, ◌+ℤ◌, ◌≤ℤ◌, ◌<ℤ◌, refl, ap, sym, ◌∙◌, arith, add-one}
+use Rattle.std.proofs.Common.{◌≡◌, ℕ, zero, suc, ◌+◌, ◌≤◌, ◌<◌, List, [], length, map, get_or, Bool, true, false, cond, ◌||◌, ◌&&◌, ◌⊎◌, ⊎_elim, inl, inr, ℤ, pos, negsuc, ◌+ℤ◌, ◌≤ℤ◌, ◌<ℤ◌, refl, ap, ap₂, sym, ◌∙◌, arith, add-one}
 use Rattle.std.specs.List.{range_with_len}
 use Rattle.std.specs.Ordering.{int_eq}
 use Rattle.std.proofs.lemmas.Int.{ints, by_lt_z}
 use Rattle.std.proofs.lemmas.List.{same_lists, get_or_past}
 use Rattle.std.proofs.lemmas.List.FromFn.{length-map-range_with_len, get_or-map-range_with_len}
 use Rattle.std.proofs.lemmas.Bool.{cases_lt}
+use Rattle.std.proofs.lemmas.Bool.Decides.{Decides-int_eq}
 use Rattle.vx_plane.specs.Plane.{Pixels, Page, rows_of, page_of, dark_at, with_pixel, union, rectangle, painted, in_any}
 
 -- the same numbers, the same list
-map-same : {X : Type 0} (f g : ℕ → X) (n : ℕ) → ((k : ℕ) → k < n → f k ≡ g k) → map f (range_with_len 0 n) ≡ map g (range_with_len 0 n)
+pub map-same : {X : Type 0} (f g : ℕ → X) (n : ℕ) → ((k : ℕ) → k < n → f k ≡ g k) → map f (range_with_len 0 n) ≡ map g (range_with_len 0 n)
 map-same f g n same =
     same_lists _ _
     (length-map-range_with_len f 0 n ∙ sym (length-map-range_with_len g 0 n))
@@ -32,8 +33,8 @@ pub length-rows_of : (width height : ℕ) (set : Pixels) → length (rows_of wid
 unfolding rows_of
 length-rows_of width height set = length-map-range_with_len _ 0 height
 
--- the row of a page
-row_at : (width height y : ℕ) (set : Pixels) → y < height → get_or (rows_of width height set) y [] ≡ map (λ x. set (pos x) (pos y)) (range_with_len 0 width)
+-- a row of a page, by its columns
+pub row_at : (width height y : ℕ) (set : Pixels) → y < height → get_or (rows_of width height set) y [] ≡ map (λ x. set (pos x) (pos y)) (range_with_len 0 width)
 unfolding rows_of
 row_at width height y set h = get_or-map-range_with_len _ 0 height y y [] h (omega arith)
 
@@ -209,3 +210,21 @@ painted-no_columns page left top height whole = painted-none page _ whole (λ x 
 -- a painted page is made of its dark places
 pub painted-whole : (page : Page) (shape : Pixels) → painted page shape ≡ page_of page.width page.height (dark_at (painted page shape))
 painted-whole page shape = sym (page_of-dark_at page.width page.height (union (dark_at page) shape))
+
+at : (a b : ℕ) → int_eq (pos a) (pos b) ≡ true → a ≡ b
+at a b h = let e : pos a ≡ pos b = (Decides-int_eq (pos a) (pos b)).0 h in cc
+
+elsewhere : (a b dark old : Bool) → (a ≡ true → b ≡ true → ⊥) → cond (a && b) dark old ≡ old
+elsewhere true true dark old h = absurd (h refl refl)
+elsewhere true false dark old h = refl
+elsewhere false b dark old h = refl
+
+-- the pixel that was put, and every other one
+pub with_pixel-here : (set : Pixels) (x y : ℕ) (dark : Bool) → with_pixel set (pos x) (pos y) dark (pos x) (pos y) ≡ dark
+with_pixel-here set x y dark =
+    let across : int_eq (pos x) (pos x) ≡ true = (Decides-int_eq (pos x) (pos x)).1 refl in
+    let down : int_eq (pos y) (pos y) ≡ true = (Decides-int_eq (pos y) (pos y)).1 refl in
+    ap₂ (λ (a b : Bool). cond (a && b) dark (set (pos x) (pos y))) across down
+
+pub with_pixel-elsewhere : (set : Pixels) (x y u v : ℕ) (dark : Bool) → (u ≡ x → v ≡ y → ⊥) → with_pixel set (pos x) (pos y) dark (pos u) (pos v) ≡ set (pos u) (pos v)
+with_pixel-elsewhere set x y u v dark apart = elsewhere (int_eq (pos u) (pos x)) (int_eq (pos v) (pos y)) dark (set (pos u) (pos v)) (λ a b. apart (at u x a) (at v y b))

@@ -1,0 +1,103 @@
+ghost use Rattle.std.specs.Prelude.{◌≡◌, ◌+◌, ◌<◌, ◌≤◌, Bool, IfOk, false, pos};
+ghost use Rattle.vx_plane.specs.Plane.{page_of, dark_at, nowhere, with_pixel, rectangle, painted};
+
+use crate::packed::{put, stride};
+use crate::view::BitView;
+use std::alloc::{AllocError, Global};
+use std::marker::Model;
+
+/// A page in memory, of 1 to 4096 pixels each way.
+#[derive(Drop)]
+pub struct BitPage {
+    width: u32,
+    height: u32,
+    rows: Vec<u8>,
+}
+
+impl Model for BitPage {
+    ghost use Rattle.std.specs.Prelude.{◌≡◌, ◌*◌, ◌<◌, ◌≤◌, length};
+    ghost use Rattle.vx_plane.specs.Plane.{Page};
+
+    ghost Value = { Page };
+
+    ghost use Rattle.vx_bits.specs.Packed.{packed_page, IsPackedPage};
+
+    ghost view = { λ a. packed_page a.width a.height a.rows.items };
+
+    ghost invariant = { λ a. IsPackedPage a.width a.height a.rows.items };
+}
+
+impl BitPage {
+    /// A light page.
+    pub fn new(alloc: Global, width: u32, height: u32) -> Result<BitPage, AllocError>
+        requires width { (0 < width) × (width ≤ 4096) }
+        requires height { (0 < height) × (height ≤ 4096) }
+        ensures { IfOk result (λ page. page ≡ page_of width height nowhere) }
+    {
+        let size = height as usize * stride(width);
+        Ok(BitPage {
+            width,
+            height,
+            rows: vec![in alloc; 0; size]?,
+        })
+    }
+
+    /// The number of columns.
+    pub fn width(&self) -> u32
+        ensures value { result ≡ self.now.width }
+        ensures bound { (0 < result) × (result ≤ 4096) }
+        ensures whole { self.now ≡ page_of self.now.width self.now.height (dark_at self.now) }
+    {
+        self.width
+    }
+
+    /// The number of rows.
+    pub fn height(&self) -> u32
+        ensures value { result ≡ self.now.height }
+        ensures bound { (0 < result) × (result ≤ 4096) }
+        ensures whole { self.now ≡ page_of self.now.width self.now.height (dark_at self.now) }
+    {
+        self.height
+    }
+
+    /// Makes the pixel in column `x` and row `y` dark or light.
+    pub fn set_dark(&mut self, x: u32, y: u32, dark: bool)
+        requires column { x < self.old.width }
+        requires row { y < self.old.height }
+        ensures { self.new ≡ page_of self.old.width self.old.height (with_pixel (dark_at self.old) (pos x) (pos y) dark) }
+    {
+        let start = y as usize * stride(self.width);
+        put(&mut self.rows, start, x, dark);
+    }
+
+    /// The same page, borrowed.
+    pub fn view(&self) -> BitView<'_>
+        ensures { result ≡ self.now }
+    {
+        BitView::new(self.width, self.height, self.rows.as_slice())
+    }
+
+    /// Makes the part of row `y` from column `left` on, `width` pixels of it, dark.
+    fn darken_row(&mut self, left: u32, y: u32, width: u32)
+        requires columns { left + width ≤ self.old.width }
+        requires row { y < self.old.height }
+        ensures { self.new ≡ painted self.old (rectangle (pos left) (pos y) width 1) }
+    {
+        let _columns = self.width();
+        for i in 0..width {
+            self.set_dark(left + i, y, true);
+        }
+    }
+
+    /// Makes every pixel of a rectangle dark.
+    pub fn darken(&mut self, left: u32, top: u32, width: u32, height: u32)
+        requires columns { left + width ≤ self.old.width }
+        requires rows { top + height ≤ self.old.height }
+        ensures { self.new ≡ painted self.old (rectangle (pos left) (pos top) width height) }
+    {
+        let _rows = self.height();
+        for i in 0..height {
+            self.darken_row(left, top + i, width);
+        }
+    }
+}
