@@ -141,14 +141,3 @@ pub ReadsFrom-further : (told now : Option Files) (name : List ℕ) (at count : 
 ReadsFrom-further told now name at count buffer piece e a b p q =
     subst (λ (s : List ℕ). ReadsFrom told name 0 s) (take_written at count buffer piece a b)
     (ReadsFrom-append told name (take at buffer) (take count piece) at (length-take-le at buffer a) p (subst (λ (o : Option Files). ReadsFrom o name at (take count piece)) e q))
-
-whole_file : (file : Option (List ℕ)) (whole : List ℕ) → Some (length whole) ≡ option_map length file → IfSome file (λ bytes. whole ≡ take (length whole) (drop 0 bytes)) → file ≡ Some whole
-whole_file None whole e p = cc
-whole_file (Some bytes) whole e p =
-    let n : length whole ≡ length bytes = cc in
-    ap Some (sym (p ∙ take_all (length whole) bytes (omega (arith, n))))
-
--- as many bytes as are held, read from the start, are what is held
-pub whole_read : (told : Option Files) (name whole : List ℕ) → IsSizeOf told name (Some (length whole)) → ReadsFrom told name 0 whole → IfSome told (λ files. files name ≡ Some whole)
-whole_read None name whole p q = tt
-whole_read (Some files) name whole p q = whole_file (files name) whole p q
