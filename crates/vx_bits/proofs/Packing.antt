@@ -1,16 +1,17 @@
 -- Laws of packed pixels.
-use Rattle.std.proofs.Common.{◌≡◌, ℕ, zero, suc, ◌+◌, ◌-◌, ◌*◌, ◌/◌, ◌%◌, ◌<◌, ◌≤◌, ◌≢◌, ◌⊎◌, ◌==◌, List, [], map, length, get_or, set, take, drop, replicate, Bool, true, false, ℤ, pos, negsuc, ◌≤ℤ◌, nat_abs, refl, ap, ap₂, sym, subst, ◌∙◌, arith, get_or-set_same, get_or-set_other, inl, inr}
+use Rattle.std.proofs.Common.{◌≡◌, ℕ, zero, suc, ◌+◌, ◌-◌, ◌*◌, ◌/◌, ◌%◌, ◌<◌, ◌≤◌, ◌≢◌, ◌⊎◌, ◌==◌, List, [], map, length, get_or, set, take, drop, replicate, bit_and, ◌^◌, ◌++◌, ◌∷◌, div-mul-le_self, Bool, true, false, ℤ, pos, negsuc, ◌≤ℤ◌, nat_abs, refl, ap, ap₂, sym, subst, ◌∙◌, arith, get_or-set_same, get_or-set_other, inl, inr}
 use Rattle.std.specs.Int.{bit_at}
 use Rattle.std.specs.List.{range_with_len}
-use Rattle.std.proofs.lemmas.Bool.{cases_eq}
+use Rattle.std.proofs.lemmas.Bool.{cases_eq, cases_lt}
 use Rattle.std.proofs.lemmas.Int.{ints}
-use Rattle.std.proofs.lemmas.List.{get_or-take, get_or-drop}
+use Rattle.std.proofs.lemmas.List.{get_or-take, get_or-drop, get_or_past, length-take-le}
+use Rattle.std.proofs.lemmas.List.FromFn.{length-map-range_with_len, get_or-map-range_with_len, map-range_with_len_more, fill_by_all}
 use Rattle.std.proofs.lemmas.Nat.{same_from_place}
-use Rattle.std.proofs.lemmas.Nat.Bits.{bit_at-zero}
+use Rattle.std.proofs.lemmas.Nat.Bits.{bit_at-zero, bit_at-lt, bit_at_and, bit_at_mask_inside, bit_at_mask_below, and_high_mask, ones_shl}
 use Rattle.vx_plane.specs.Plane.{Page, page_of, dark_at, nowhere, with_pixel}
 use Rattle.vx_plane.specs.Count.{one_if}
 use Rattle.vx_plane.proofs.Pages.{map-same, row_at, page_of-same, page_of-dark_at, dark_at-inside, dark_at-beside, dark_at-under, with_pixel-here, with_pixel-elsewhere}
-use Rattle.vx_bits.specs.Packed.{stride_of, packed_pixel, packed_pixels, packed_page, unpacked}
+use Rattle.vx_bits.specs.Packed.{stride_of, packed_pixel, packed_pixels, packed_page, unpacked, packed_byte, packed_row}
 
 test_of : (dark : Bool) (n : ℕ) → n ≡ one_if dark → (n == 1) ≡ dark
 test_of true n h = rw h refl
@@ -117,3 +118,94 @@ packed-row_at width height y size n bytes page e h sized more =
     let across : page.width ≡ width = sym (ap (λ (p : Page). p.width) e) in
     let down : height ≡ page.height = ap (λ (p : Page). p.height) e in
     rw (across, sized) (packed-row width height y n bytes page e (omega arith) (more ∙ sized))
+
+two_cases : (b : ℕ) → b < 2 → one_if (b == 1) ≡ b
+two_cases zero h = refl
+two_cases (suc zero) h = refl
+two_cases (suc (suc b)) h = absurd (omega arith)
+
+-- a byte is the sum of its bits
+byte-bits : (n : ℕ) → n < 256 → 128 * bit_at n 7 + 64 * bit_at n 6 + 32 * bit_at n 5 + 16 * bit_at n 4 + 8 * bit_at n 3 + 4 * bit_at n 2 + 2 * bit_at n 1 + bit_at n 0 ≡ n
+byte-bits n h = omega arith
+
+-- a byte of a packed row, by the bits of any number that has its pixels
+packed_byte-is : (row : List Bool) (k n : ℕ) → n < 256 → ((i : ℕ) → i < 8 → one_if (get_or row (8 * k + i) false) ≡ bit_at n (7 - i)) → packed_byte row k ≡ n
+packed_byte-is row k n h bits =
+    let zero_on : 8 * k + 0 ≡ 8 * k = omega arith in
+    let first : one_if (get_or row (8 * k) false) ≡ bit_at n 7 = ap (λ x. one_if (get_or row x false)) (sym zero_on) ∙ bits 0 (omega arith) in
+    omega (arith, byte-bits n h, first, bits 1 (omega arith), bits 2 (omega arith), bits 3 (omega arith), bits 4 (omega arith), bits 5 (omega arith), bits 6 (omega arith), bits 7 (omega arith))
+
+-- the rows of unpacked pixels are as long as asked
+pub length-unpacked : (width : ℕ) (bytes : List ℕ) → length (unpacked width bytes) ≡ width
+unfolding unpacked
+length-unpacked width bytes = length-map-range_with_len _ 0 width
+
+get_or-unpacked : (width x : ℕ) (bytes : List ℕ) → x < width → get_or (unpacked width bytes) x false ≡ packed_pixel bytes 0 x
+unfolding unpacked
+get_or-unpacked width x bytes h = get_or-map-range_with_len _ 0 width x x false h (omega arith)
+
+-- a pixel of a row is a bit of its byte
+row-bit : (width k i : ℕ) (bytes : List ℕ) (row : List Bool) → unpacked width bytes ≡ row → i < 8 → 8 * k + i < width → one_if (get_or row (8 * k + i) false) ≡ bit_at (get_or bytes k 0) (7 - i)
+row-bit width k i bytes row e h l =
+    let place : 0 + (8 * k + i) / 8 ≡ k = omega arith in
+    let bit : 7 - (8 * k + i) % 8 ≡ 7 - i = omega arith in
+    ap (λ (r : List Bool). one_if (get_or r (8 * k + i) false)) (sym e)
+    ∙ ap one_if (get_or-unpacked width (8 * k + i) bytes l)
+    ∙ two_cases (bit_at (get_or bytes (0 + (8 * k + i) / 8) 0) (7 - (8 * k + i) % 8)) (bit_at-lt _ _)
+    ∙ ap₂ (λ p q. bit_at (get_or bytes p 0) q) place bit
+
+-- past the row's end no bit is set
+row-pad : (width x : ℕ) (bytes : List ℕ) (row : List Bool) → unpacked width bytes ≡ row → width ≤ x → one_if (get_or row x false) ≡ 0
+row-pad width x bytes row e h =
+    ap one_if (get_or_past row x false (omega (arith, length-unpacked width bytes, ap length e)))
+
+-- a byte that has only pixels of the row is as it was
+whole-byte : (width k : ℕ) (bytes : List ℕ) (row : List Bool) → unpacked width bytes ≡ row → get_or bytes k 0 < 256 → 8 * k + 8 ≤ width → packed_byte row k ≡ get_or bytes k 0
+whole-byte width k bytes row e small h = packed_byte-is row k (get_or bytes k 0) small (λ i l. row-bit width k i bytes row e l (omega arith))
+
+bit-kept : (n pad i : ℕ) → pad ≤ i → i < 8 → bit_at (bit_and n (2 ^ 8 - 2 ^ pad)) i ≡ bit_at n i
+bit-kept n pad i l h =
+    let one : bit_at (2 ^ 8 - 2 ^ pad) i ≡ 1 = bit_at_mask_inside pad 8 i l h in
+    omega (arith, bit_at_and n (2 ^ 8 - 2 ^ pad) i, bit_at-lt n i)
+
+bit-cleared : (n pad i : ℕ) → i < pad → bit_at (bit_and n (2 ^ 8 - 2 ^ pad)) i ≡ 0
+bit-cleared n pad i l =
+    let none : bit_at (2 ^ 8 - 2 ^ pad) i ≡ 0 = bit_at_mask_below pad 8 i l in
+    omega (arith, bit_at_and n (2 ^ 8 - 2 ^ pad) i)
+
+-- the row's last byte is as it was but for the bits that pad it
+last-byte : (width k pad : ℕ) (bytes : List ℕ) (row : List Bool) → unpacked width bytes ≡ row → get_or bytes k 0 < 256 → pad < 8 → width + pad ≡ 8 * k + 8 → packed_byte row k ≡ bit_and (get_or bytes k 0) (2 ^ 8 - 2 ^ pad)
+last-byte width k pad bytes row e small l h =
+    let less : get_or bytes k 0 / 2 ^ pad * 2 ^ pad ≤ get_or bytes k 0 = div-mul-le_self (get_or bytes k 0) (2 ^ pad) in
+    packed_byte-is row k (bit_and (get_or bytes k 0) (2 ^ 8 - 2 ^ pad))
+    (omega (arith, and_high_mask 8 pad (omega arith) (get_or bytes k 0) small))
+    (λ i m.
+        elim (cases_lt (8 * k + i) width) [
+          inl inside ↦ row-bit width k i bytes row e m inside ∙ sym (bit-kept (get_or bytes k 0) pad (7 - i) (omega arith) (omega arith))
+        | inr past ↦ row-pad width (8 * k + i) bytes row e past ∙ sym (bit-cleared (get_or bytes k 0) pad (7 - i) (omega arith))
+        ])
+
+-- a row whose width is a multiple of 8 is packed as it stands
+pub packed_row-whole : (width : ℕ) (bytes : List ℕ) (row : List Bool) → unpacked width bytes ≡ row → length bytes ≡ stride_of width → width % 8 ≡ 0 → ((i : ℕ) → get_or bytes i 0 < 256) → packed_row row ≡ bytes
+unfolding packed_row
+packed_row-whole width bytes row e sized even small =
+    let long : length row ≡ width = sym (ap length e) ∙ length-unpacked width bytes in
+    let size : stride_of (length row) ≡ length bytes = omega arith in
+    sym (fill_by_all (packed_byte row) bytes (stride_of (length row)) 0 (sym size) (λ k h. sym (whole-byte width k bytes row e (small k) (omega arith))))
+
+-- any other row is packed as it stands but for its last byte, whose padding is cleared
+pub packed_row-padded : (width pad : ℕ) (bytes : List ℕ) (row : List Bool) → unpacked width bytes ≡ row → length bytes ≡ stride_of width → 0 < width → pad < 8 → (width + pad) % 8 ≡ 0 → ((i : ℕ) → get_or bytes i 0 < 256) → packed_row row ≡ take (length bytes - 1) bytes ++ bit_and (get_or bytes (length bytes - 1) 0) (255 * 2 ^ pad % 256) ∷ []
+unfolding packed_row
+packed_row-padded width pad bytes row e sized some l even small =
+    let k : ℕ = length bytes - 1 in
+    let long : length row ≡ width = sym (ap length e) ∙ length-unpacked width bytes in
+    let size : stride_of (length row) ≡ k + 1 = omega arith in
+    let front_long : length (take k bytes) ≡ k = length-take-le k bytes (omega arith) in
+    let front : take k bytes ≡ map (packed_byte row) (range_with_len 0 k) =
+        fill_by_all (packed_byte row) (take k bytes) k 0 front_long
+        (λ j h. get_or-take k bytes j 0 h ∙ sym (whole-byte width j bytes row e (small j) (omega arith))) in
+    let last : packed_byte row k ≡ bit_and (get_or bytes k 0) (255 * 2 ^ pad % 256) =
+        last-byte width k pad bytes row e (small k) l (omega arith) ∙ ap (bit_and (get_or bytes k 0)) (sym (ones_shl 8 pad (omega arith))) in
+    ap (λ n. map (packed_byte row) (range_with_len 0 n)) size
+    ∙ map-range_with_len_more (packed_byte row) 0 k k (omega arith)
+    ∙ ap₂ (λ xs x. xs ++ x ∷ []) (sym front) last
