@@ -1,4 +1,5 @@
 pub mod Status
+pub mod Stop
 pub mod Numeral
 pub mod Command
 pub mod Outcome

@@ -12,8 +12,8 @@ use Rattle.vx_app.specs.declared.status.Status.TheVariants.{Ok, Usage, NoInput, 
 
 -- a text is written, or a record is appended to the journal
 pub data Act : Type 0 where
-  pub Write : List ℕ → Act
-  pub Append : List ℕ → Act
+  Write : List ℕ → Act
+  Append : List ℕ → Act
 
 -- the acts of a command and its status, where nothing fails
 pub record Outcome : Type 0 where

@@ -13,7 +13,7 @@ length-rows page whole = ap (λ (p : Page). length p.rows) whole ∙ length-rows
 -- a text that ends in the first rows of a raster, with the next row
 pub row_more : (front before after : List ℕ) (rows : List (List Bool)) (v : ℕ) → v < length rows → before ≡ front ++ flat_map packed_row (take v rows) → after ≡ before ++ packed_row (get_or rows v []) → after ≡ front ++ flat_map packed_row (take (v + 1) rows)
 row_more front before after rows v inside is_before is_after =
-  is_after
-  ∙ (ap (λ s. s ++ packed_row (get_or rows v [])) is_before
-  ∙ (flat_map_more packed_row front (take v rows) (get_or rows v [])
-  ∙ ap (λ s. front ++ flat_map packed_row s) (sym (take_more rows v [] inside))))
+    is_after
+    ∙ (ap (λ s. s ++ packed_row (get_or rows v [])) is_before
+    ∙ (flat_map_more packed_row front (take v rows) (get_or rows v [])
+    ∙ ap (λ s. front ++ flat_map packed_row s) (sym (take_more rows v [] inside))))

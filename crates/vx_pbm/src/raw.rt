@@ -26,11 +26,14 @@ fn append_row(width: u32, row: &[u8], into: &mut Bytes) -> Result<(), OutOfMemor
 {
     let padding = width % 8;
     if padding == 0 {
-        return into.extend_from_slice(row);
+        into.extend_from_slice(row)?;
+        return Ok(());
     }
     let last = row.len() - 1;
     into.extend_from_slice(&row[..last])?;
-    into.push(row[last] & (0xff << (8 - padding)))
+    let mask = 0xffu8.wrapping_shl(8 - padding);
+    into.push(row[last] & mask)?;
+    Ok(())
 }
 
 /// Appends the page as a raw bitmap; after want of memory some of it may stand at the end.
