@@ -3,3 +3,4 @@ pub mod Stop
 pub mod Numeral
 pub mod Command
 pub mod Outcome
+pub mod Print

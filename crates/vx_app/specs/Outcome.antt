@@ -75,6 +75,16 @@ breaks_off ReadFault = true
 breaks_off WriteFault = true
 breaks_off NoMemory = true
 
+-- a command that answers so has written nothing
+abbrev pub writes_nothing : Status → Bool
+writes_nothing Ok = false
+writes_nothing Usage = true
+writes_nothing (NoInput word) = true
+writes_nothing (TooLong word size) = true
+writes_nothing ReadFault = true
+writes_nothing WriteFault = false
+writes_nothing NoMemory = false
+
 -- the acts are done up to some place; all of them, with the outcome's status, unless the command
 -- broke off
 pub record IsDone (outcome : Outcome) (taken taken_now : Option (List ℕ)) (held held_now : Option (List (List ℕ))) (status : Status) : Type 0 where

@@ -9,6 +9,9 @@ mod command;
 mod marks;
 mod numeral;
 mod pages;
+mod print;
 mod status;
+mod top;
 
 pub use status::Status;
+pub use top::run;
