@@ -1,2 +1,3 @@
+pub mod Fakes
 pub mod Outside
 pub mod Take

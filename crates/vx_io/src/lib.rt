@@ -11,11 +11,14 @@
 #![tactic(auto)]
 
 mod giving;
+mod lists;
 mod outside;
 mod taking;
+mod tally;
 mod words;
 
 pub use giving::give;
+pub use lists::{Calls, KeeperCalls, NamedBytes, Records};
 pub use outside::{Failed, Inputs, Keeper, KeeperError, Sink};
 pub use taking::{TakeFault, take};
 pub use words::Words;
