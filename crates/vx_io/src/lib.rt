@@ -12,6 +12,9 @@
 
 mod giving;
 mod lists;
+mod mem_inputs;
+mod mem_keeper;
+mod mem_sink;
 mod outside;
 mod taking;
 mod tally;
@@ -19,6 +22,9 @@ mod words;
 
 pub use giving::give;
 pub use lists::{Calls, KeeperCalls, NamedBytes, Records};
+pub use mem_inputs::MemInputs;
+pub use mem_keeper::MemKeeper;
+pub use mem_sink::MemSink;
 pub use outside::{Failed, Inputs, Keeper, KeeperError, Sink};
 pub use taking::{TakeFault, take};
 pub use words::Words;

@@ -1,4 +1,4 @@
-ghost use Rattle.std.specs.Prelude.{◌≡◌, ◌++◌, ◌∷◌, ◌<◌, [], Some, length, map, option_map, slice_get, string_bytes, if◌then◌else◌, is_ok};
+ghost use Rattle.std.specs.Prelude.{◌≡◌, ◌++◌, ◌∷◌, ◌<◌, [], Some, length, map, option_map, slice_get, string_bytes, if◌then◌else◌, is_ok, drop, IsSomeAnd};
 ghost use Rattle.vx_io.specs.Fakes.{files_of, is_among, kept_at};
 
 use std::alloc::{AllocError, Global};
@@ -63,6 +63,16 @@ impl NamedBytes {
             }
         }
         None
+    }
+
+    /// The bytes under a name from a place inside them on.
+    pub(crate) fn rest(&self, name: &str, at: u64) -> &[u8]
+        requires { IsSomeAnd (files_of self.now name.now) (λ bytes. at < length bytes) }
+        ensures some { 0 < length result.now }
+        ensures rest { IsSomeAnd (files_of self.now name.now) (λ bytes. result.now ≡ drop at bytes) }
+    {
+        let bytes = self.find(name).unwrap();
+        &bytes.as_slice()[at as usize..]
     }
 }
 

@@ -1,5 +1,6 @@
-ghost use Rattle.std.specs.Prelude.{◌≡◌};
+ghost use Rattle.std.specs.Prelude.{◌≡◌, ◌≤◌, true};
 ghost use Rattle.vx_io.specs.Fakes.{counted, number_of_next};
+ghost use Rattle.vx_io.specs.Outside.{Rose};
 
 /// How often the outside in memory was called, and how many faults it counted. Both stand still at
 /// their last value.
@@ -28,7 +29,9 @@ impl Tally {
 
     /// Counts a call, and a fault where it failed.
     pub(crate) fn count(&mut self, failed: bool)
-        ensures { self.new ≡ counted self.old failed }
+        ensures counted { self.new ≡ counted self.old failed }
+        ensures later { self.old.faults ≤ self.new.faults }
+        ensures rose { failed ≡ true → Rose self.old.faults self.new.faults }
     {
         self.calls = self.calls.saturating_add(1);
         if failed {
