@@ -1,5 +1,6 @@
-ghost use Rattle.std.specs.Prelude.{◌≡◌, ◌≤◌, None, IfOk, length};
-ghost use Rattle.vx_io.specs.Outside.{Rose};
+ghost use Rattle.std.specs.Prelude.{◌≡◌, ◌<◌, ◌≤◌, None, IfOk, length, take, is_err, if◌then◌else◌};
+ghost use Rattle.vx_io.specs.Fakes.{raised};
+ghost use Rattle.vx_io.specs.Outside.{HasCause, IsSizeOf, ReadsFrom};
 
 use crate::outside::{Failed, Inputs};
 use std::fs::OpenFile;
@@ -23,8 +24,8 @@ impl<'r, R: Files> StdInputs<'r, R> {
 
     /// Counts a fault.
     fn fail(&mut self) -> Failed
+        ensures raised { self.new.faults ≡ raised self.old.faults }
         ensures later { self.old.faults ≤ self.new.faults }
-        ensures rose { Rose self.old.faults self.new.faults }
     {
         self.faults = self.faults.saturating_add(1);
         Failed
@@ -55,7 +56,11 @@ impl<R: Files> Inputs for StdInputs<'_, R> {
 
     ghost faults = { λ inputs. inputs.faults };
 
-    fn size(&mut self, name: &str) -> Result<Option<u64>, Failed> {
+    fn size(&mut self, name: &str) -> Result<Option<u64>, Failed>
+        ensures size { IfOk result (IsSizeOf None name.now) }
+        ensures cause { HasCause self.old.faults self.new.faults result }
+        ensures counted { self.new.faults ≡ (if is_err result then raised self.old.faults else self.old.faults) }
+    {
         match size_of_file(self.rt, name) {
             Ok(size) => Ok(Some(size)),
             Err(error) if error.kind() == ErrorKind::NotFound => Ok(None),
@@ -63,7 +68,12 @@ impl<R: Files> Inputs for StdInputs<'_, R> {
         }
     }
 
-    fn read(&mut self, name: &str, at: u64, buf: &mut [u8]) -> Result<usize, Failed> {
+    fn read(&mut self, name: &str, at: u64, buf: &mut [u8]) -> Result<usize, Failed>
+        ensures within { IfOk result (λ count. (0 < count) × (count ≤ length buf.new)) }
+        ensures read { IfOk result (λ count. ReadsFrom None name.now at (take count buf.new)) }
+        ensures cause { HasCause self.old.faults self.new.faults result }
+        ensures counted { self.new.faults ≡ (if is_err result then raised self.old.faults else self.old.faults) }
+    {
         match read_file(self.rt, name, at, buf) {
             Ok(count) if count > 0 => Ok(count),
             _ => Err(self.fail()),
