@@ -83,6 +83,10 @@ pub HasCause-after : {T E : Type 0} (a b c : ℕ) (result : Result T E) → a �
 HasCause-after a b c result p q =
     record { later = omega (arith, p, q.later); failed = λ e. Rose-earlier a b c p (q.failed e) }
 
+-- a call that hands a refusal on has its cause
+pub HasCause-passed : {T U E F : Type 0} (a b : ℕ) (inner : Result T E) (outer : Result U F) → IsErr inner → HasCause a b inner → HasCause a b outer
+HasCause-passed a b inner outer e p = record { later = p.later; failed = λ _. p.failed e }
+
 -- a call that returned needs no cause
 pub HasCause-ok : {T E : Type 0} (a b : ℕ) (x : T) → a ≤ b → HasCause {T = T} {E = E} a b (Ok x)
 HasCause-ok a b x p = record { later = p; failed = λ e. absurd (false≢true e) }

@@ -11,11 +11,24 @@
 #![tactic(auto)]
 
 mod giving;
+mod lists;
+mod mem_inputs;
+mod mem_keeper;
+mod mem_sink;
 mod outside;
+mod std_inputs;
+mod std_sink;
 mod taking;
+mod tally;
 mod words;
 
 pub use giving::give;
+pub use lists::{Calls, KeeperCalls, NamedBytes, Records};
+pub use mem_inputs::MemInputs;
+pub use mem_keeper::MemKeeper;
+pub use mem_sink::MemSink;
 pub use outside::{Failed, Inputs, Keeper, KeeperError, Sink};
+pub use std_inputs::StdInputs;
+pub use std_sink::StdSink;
 pub use taking::{TakeFault, take};
 pub use words::Words;

@@ -17,6 +17,28 @@ pub enum KeeperError {
     OutOfMemory,
 }
 
+impl From<Failed> for KeeperError {
+    ghost use Rattle.std.specs.Prelude.{◌≡◌};
+    ghost use Rattle.vx_io.specs.declared.outside.KeeperError.TheVariants as errors;
+
+    ghost from_gives = { λ _ error. error ≡ errors.Failed };
+
+    fn from(_failed: Failed) -> KeeperError {
+        KeeperError::Failed
+    }
+}
+
+impl From<AllocError> for KeeperError {
+    ghost use Rattle.std.specs.Prelude.{◌≡◌};
+    ghost use Rattle.vx_io.specs.declared.outside.KeeperError.TheVariants as errors;
+
+    ghost from_gives = { λ _ error. error ≡ errors.OutOfMemory };
+
+    fn from(_error: AllocError) -> KeeperError {
+        KeeperError::OutOfMemory
+    }
+}
+
 /// Named files that are read whole or in pieces.
 pub trait Inputs {
     /// The bytes under each name, where they are told.
