@@ -6,6 +6,7 @@ use crate::packed::{is_dark, stride};
 use std::marker::Model;
 
 /// The packed rows of a page, borrowed: most significant bit first, each row padded to a byte.
+#[derive(Drop)]
 pub struct BitView<'a> {
     width: u32,
     height: u32,
