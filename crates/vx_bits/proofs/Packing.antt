@@ -180,10 +180,10 @@ last-byte width k pad bytes row e small l h =
     packed_byte-is row k (bit_and (get_or bytes k 0) (2 ^ 8 - 2 ^ pad))
     (omega (arith, and_high_mask 8 pad (omega arith) (get_or bytes k 0) small))
     (λ i m.
-        elim (cases_lt (8 * k + i) width) [
-          inl inside ↦ row-bit width k i bytes row e m inside ∙ sym (bit-kept (get_or bytes k 0) pad (7 - i) (omega arith) (omega arith))
-        | inr past ↦ row-pad width (8 * k + i) bytes row e past ∙ sym (bit-cleared (get_or bytes k 0) pad (7 - i) (omega arith))
-        ])
+    elim (cases_lt (8 * k + i) width) [
+      | inl inside ↦ row-bit width k i bytes row e m inside ∙ sym (bit-kept (get_or bytes k 0) pad (7 - i) (omega arith) (omega arith))
+      | inr past ↦ row-pad width (8 * k + i) bytes row e past ∙ sym (bit-cleared (get_or bytes k 0) pad (7 - i) (omega arith))
+    ])
 
 -- a row whose width is a multiple of 8 is packed as it stands
 pub packed_row-whole : (width : ℕ) (bytes : List ℕ) (row : List Bool) → unpacked width bytes ≡ row → length bytes ≡ stride_of width → width % 8 ≡ 0 → ((i : ℕ) → get_or bytes i 0 < 256) → packed_row row ≡ bytes
@@ -202,10 +202,10 @@ packed_row-padded width pad bytes row e sized some l even small =
     let size : stride_of (length row) ≡ k + 1 = omega arith in
     let front_long : length (take k bytes) ≡ k = length-take-le k bytes (omega arith) in
     let front : take k bytes ≡ map (packed_byte row) (range_with_len 0 k) =
-        fill_by_all (packed_byte row) (take k bytes) k 0 front_long
-        (λ j h. get_or-take k bytes j 0 h ∙ sym (whole-byte width j bytes row e (small j) (omega arith))) in
+    fill_by_all (packed_byte row) (take k bytes) k 0 front_long
+    (λ j h. get_or-take k bytes j 0 h ∙ sym (whole-byte width j bytes row e (small j) (omega arith))) in
     let last : packed_byte row k ≡ bit_and (get_or bytes k 0) (255 * 2 ^ pad % 256) =
-        last-byte width k pad bytes row e (small k) l (omega arith) ∙ ap (bit_and (get_or bytes k 0)) (sym (ones_shl 8 pad (omega arith))) in
+    last-byte width k pad bytes row e (small k) l (omega arith) ∙ ap (bit_and (get_or bytes k 0)) (sym (ones_shl 8 pad (omega arith))) in
     ap (λ n. map (packed_byte row) (range_with_len 0 n)) size
     ∙ map-range_with_len_more (packed_byte row) 0 k k (omega arith)
     ∙ ap₂ (λ xs x. xs ++ x ∷ []) (sym front) last

@@ -13,3 +13,56 @@ pub use bytes::Bytes;
 pub use page::BitPage;
 pub use std::alloc::AllocError as OutOfMemory;
 pub use view::BitView;
+
+#[cfg(test)]
+mod tests {
+    use super::*;
+    use std::test::Fail;
+
+    #[test]
+    fn pages(rt: HostRuntime) -> Result<(), Fail> {
+        let mut page = BitPage::new(rt.alloc(), 10, 2)?;
+        page.set_dark(0, 0, true);
+        page.set_dark(9, 1, true);
+        page.set_dark(8, 1, true);
+        page.set_dark(8, 1, false);
+        let view = page.view();
+        assert_eq!(rt; (view.width(), view.height()), (10, 2));
+        assert_eq!(rt; view.row_bytes(0), [0x80, 0].as_slice());
+        assert_eq!(rt; view.row_bytes(1), [0, 0x40].as_slice());
+        assert!(rt; view.dark(9, 1) && !view.dark(10, 1) && !view.dark(-1, 0) && !view.dark(0, 2));
+        Ok(())
+    }
+
+    #[test]
+    fn padding_is_not_seen(rt: HostRuntime) {
+        let view = BitView::new(3, 1, &[0b0101_1111]);
+        assert!(rt; !view.dark(0, 0) && view.dark(1, 0) && !view.dark(2, 0) && !view.dark(3, 0));
+    }
+
+    #[test]
+    fn a_rectangle_is_dark(rt: HostRuntime) -> Result<(), Fail> {
+        let mut page = BitPage::new(rt.alloc(), 12, 4)?;
+        page.darken(6, 1, 4, 2);
+        let view = page.view();
+        assert_eq!(rt; view.row_bytes(0), [0, 0].as_slice());
+        assert_eq!(rt; view.row_bytes(1), [0b11, 0b1100_0000].as_slice());
+        assert_eq!(rt; view.row_bytes(2), [0b11, 0b1100_0000].as_slice());
+        assert_eq!(rt; view.row_bytes(3), [0, 0].as_slice());
+        Ok(())
+    }
+
+    #[test]
+    fn bytes(rt: HostRuntime) -> Result<(), Fail> {
+        let mut bytes = Bytes::with_capacity(rt.alloc(), 2)?;
+        bytes.push(1)?;
+        bytes.extend_from_slice(&[2, 3])?;
+        assert_eq!(rt;
+            bytes.as_slice(),
+            Bytes::from_slice(rt.alloc(), &[1, 2, 3])?.as_slice()
+        );
+        bytes.clear();
+        assert!(rt; bytes.is_empty());
+        Ok(())
+    }
+}

@@ -6,12 +6,16 @@
 //! `specs/Grid.antt`.
 #![tactic(auto)]
 
+mod border;
 mod kind;
 mod lines;
 mod marks;
+mod places;
 mod state;
 
+pub use border::Border;
 pub use kind::Kind;
 pub use lines::{COLUMNS, PAGE_HEIGHT, PAGE_WIDTH, ROWS, x_of, y_of};
 pub use marks::{MARKS, Side, mark_of};
+pub use places::{Point, Rect, bubble_window, code_window};
 pub use state::{State, Thresholds};

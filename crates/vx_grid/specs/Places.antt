@@ -1,0 +1,17 @@
+-- Places of a scan, and the windows where what was printed is looked for.
+use Rattle.std.specs.Prelude.{ℕ, ℤ, pos, ◌+ℤ◌, ◌-ℤ◌, ◌≤ℤ◌}
+use Rattle.vx_grid.specs.declared.places.Point.{Point}
+use Rattle.vx_grid.specs.declared.places.Rect.{Rect}
+
+-- a whole number from -n to n
+pub record IsWithin (n : ℕ) (z : ℤ) : Type 0 where
+  pub low : pos 0 ≤ℤ (z +ℤ pos n)
+  pub high : z ≤ℤ pos n
+
+-- the box of a bubble, at offsets -20 to 19 and -13 to 12, grown by 8 columns and 6 rows
+abbrev pub bubble_window_of : Point → Rect
+bubble_window_of p = record { left = p.u -ℤ pos 28; top = p.v -ℤ pos 19; width = 56; height = 38 }
+
+-- the box of the page code, at offsets -14 to 13 and -10 to 9, grown by 8 columns and 6 rows
+abbrev pub code_window_of : Point → Rect
+code_window_of p = record { left = p.u -ℤ pos 22; top = p.v -ℤ pos 16; width = 44; height = 32 }
