@@ -11,18 +11,18 @@ returns-then-not-starts_numeral c n most is =
     let true_too = c.starts_numeral.ensures.1 starts in
     cc
 
-pub returns-in-Ok : goal.returns-in-Ok
-returns-in-Ok c =
+pub returns-then-value-most : goal.returns-then-value-most
+returns-then-value-most c =
     let starts : StartsNumeral c.args.word.now = subst StartsNumeral c.as_bytes.ensures.value (c.starts_numeral.ensures.0 c.if-not-starts_numeral.false) in
     (c.if-value-most.true, parsed_spells _ _ _ starts c.in-Ok.is c.parse.ensures.value.0)
 
-pub returns-in_default : goal.returns-in_default
-returns-in_default c n most is =
+pub returns-else-value-most : goal.returns-else-value-most
+returns-else-value-most c n most is =
     let found : c.parse.result ≡ Ok n = parse-decimal 32 n _ _ (omega arith) (omega arith) is c.parse.ensures.value.0 in
     let same : c.in-Ok.value ≡ n = cc in
     omega arith
 
-pub returns-in_default-2 : goal.returns-in_default-2
-returns-in_default-2 c n most is =
+pub returns-in-Err : goal.returns-in-Err
+returns-in-Err c n most is =
     let found : c.parse.result ≡ Ok n = parse-decimal 32 n _ _ (omega arith) (omega arith) is c.parse.ensures.value.0 in
     cc
