@@ -3,10 +3,9 @@ ghost use Rattle.vx_grid.specs.declared.kind.Kind.{Kind as KindOf};
 ghost use Rattle.vx_grid.specs.declared.kind.Kind.TheVariants.{Other};
 ghost use Rattle.vx_app.specs.Command.{kind_name, kind_word, IsArgument, NoCommand, Spells};
 
+use crate::numeral::read_number;
 use vx_grid::Kind;
 use vx_io::Words;
-
-use crate::numeral::read_number;
 
 /// What the words ask for. The election is always the word after the command's name.
 #[derive(Clone, Copy, Debug, PartialEq, Eq)]
@@ -34,11 +33,9 @@ fn plain_kind(word: &str) -> Option<Kind>
 
 /// A kind's word, perhaps with `test-` before it: the kind, and whether it is a test ballot's.
 fn kind_and_test(word: &str) -> Option<(Kind, bool)>
-    ensures {
-        MatchOption result
-          ((kind : KindOf) (test : Bool) → kind ≢ Other → word.now ≢ kind_word kind test)
-          (λ found. (found.0 ≢ Other) × (word.now ≡ kind_word found.0 found.1))
-    }
+    ensures { MatchOption result
+        ((kind : KindOf) (test : Bool) → kind ≢ Other → word.now ≢ kind_word kind test)
+        (λ found. (found.0 ≢ Other) × (word.now ≡ kind_word found.0 found.1)) }
 {
     match word.strip_prefix("test-") {
         Some(rest) => Some((plain_kind(rest)?, true)),

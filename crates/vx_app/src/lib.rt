@@ -15,3 +15,6 @@ mod top;
 
 pub use status::Status;
 pub use top::run;
+
+#[cfg(test)]
+mod tests;

@@ -6,7 +6,7 @@ ghost use Rattle.vx_app.specs.Outcome.{mark_page};
 
 use std::alloc::Global;
 use vx_bits::{BitPage, OutOfMemory};
-use vx_grid::{mark_of, x_of, y_of, MARKS, PAGE_HEIGHT, PAGE_WIDTH};
+use vx_grid::{MARKS, PAGE_HEIGHT, PAGE_WIDTH, mark_of, x_of, y_of};
 
 /// The pixel column of the left edge of the timing marks in a grid column.
 fn left_of(column: u32) -> u32

@@ -25,13 +25,7 @@ pub fn read_number(word: &str, most: u32) -> Option<u32>
         return None;
     }
     match word.parse::<u32>() {
-        Ok(value) => {
-            if value <= most {
-                Some(value)
-            } else {
-                None
-            }
-        }
+        Ok(value) => { if value <= most { Some(value) } else { None } }
         Err(_) => None,
     }
 }

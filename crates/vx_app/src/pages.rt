@@ -5,7 +5,7 @@ ghost use Rattle.vx_app.specs.Stop.{HasStopCause};
 
 use std::alloc::{AllocError, Global};
 use vx_bits::{BitPage, Bytes};
-use vx_io::{give, Failed, Sink};
+use vx_io::{Failed, Sink, give};
 use vx_pbm::write_p4;
 
 /// Why a text wasn't written whole.

@@ -5,12 +5,11 @@ ghost use Rattle.vx_app.specs.Outcome.{mark_page, print_outcome, writes_nothing}
 ghost use Rattle.vx_app.specs.Stop.{HasStopCause, stop_status_of, taking_status_of};
 ghost use Rattle.vx_app.specs.Print.{IsWritten};
 
-use std::alloc::Global;
-use vx_io::{take, Inputs, Sink, TakeFault};
-
 use crate::marks::make_mark_page;
-use crate::pages::{write_page, Stop};
+use crate::pages::{Stop, write_page};
 use crate::status::Status;
+use std::alloc::Global;
+use vx_io::{Inputs, Sink, TakeFault, take};
 
 /// The most bytes that an input may have.
 const INPUT_LIMIT: u64 = 67_108_864;
@@ -23,8 +22,8 @@ fn write_pages<S: Sink>(alloc: Global, out: &mut S) -> Result<(), Stop>
     ensures cause { IfErr result (HasStopCause (S.faults out.old) (S.faults out.new)) }
 {
     let page = make_mark_page(alloc)?;
-    write_page(alloc, &page, out)?;
-    write_page(alloc, &page, out)?;
+    write_page(alloc, &page, out)?; // the front
+    write_page(alloc, &page, out)?; // the back
     Ok(())
 }
 
@@ -57,10 +56,8 @@ pub fn print<I: Inputs, S: Sink>(
     inputs: &mut I,
     out: &mut S,
 ) -> Status
-    ensures written {
-        IfSome (I.held inputs.old) (λ files.
-          IsWritten (print_outcome (files election.now)) (S.taken out.old) (S.taken out.new) result)
-    }
+    ensures written { IfSome (I.held inputs.old) (λ files.
+        IsWritten (print_outcome (files election.now)) (S.taken out.old) (S.taken out.new) result) }
     ensures nothing { writes_nothing result ≡ true → S.taken out.new ≡ S.taken out.old }
     ensures no_usage { result ≢ Status.Usage }
     ensures held { I.held inputs.new ≡ I.held inputs.old }

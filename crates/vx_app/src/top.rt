@@ -4,13 +4,12 @@ ghost use Rattle.vx_app.specs.declared.command.Command.{Command as CommandOf};
 ghost use Rattle.vx_app.specs.Command.{NoCommand, Spells};
 ghost use Rattle.vx_app.specs.Outcome.{outcome_of, writes_nothing, IsDone};
 
+use crate::command::{Command, parse};
+use crate::print::print;
+use crate::status::Status;
 use std::alloc::Global;
 use std::thread::Threads;
 use vx_io::{Inputs, Keeper, Sink, Words};
-
-use crate::command::{parse, Command};
-use crate::print::print;
-use crate::status::Status;
 
 /// Does a command, whole: reads its words, takes its inputs, writes what it writes and keeps what
 /// it keeps.
@@ -27,13 +26,11 @@ pub fn run<R: Threads + Sync, I: Inputs, S: Sink, K: Keeper>(
     _keeper: &mut K,
 ) -> Status
     ensures usage { (result ≡ Status.Usage) ↔ NoCommand words.now }
-    ensures done {
-        (files : Files) → I.held inputs.old ≡ Some files →
+    ensures done { (files : Files) → I.held inputs.old ≡ Some files →
         (records : List (List ℕ)) → K.held _keeper.old ≡ Some records →
         (command : CommandOf) → Spells words.now command →
         IsDone (outcome_of command words.now files records)
-          (S.taken out.old) (S.taken out.new) (K.held _keeper.old) (K.held _keeper.new) result
-    }
+        (S.taken out.old) (S.taken out.new) (K.held _keeper.old) (K.held _keeper.new) result }
     ensures nothing_written { writes_nothing result ≡ true → S.taken out.new ≡ S.taken out.old }
     ensures read_fault { result ≡ Status.ReadFault → Rose (I.faults inputs.old) (I.faults inputs.new) }
     ensures write_fault { result ≡ Status.WriteFault → Rose (S.faults out.old) (S.faults out.new) }

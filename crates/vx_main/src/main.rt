@@ -8,7 +8,7 @@ use std::io::ErrorKind;
 use std::process::ExitCode;
 use std::rt::{Env, Files};
 use std::thread::Threads;
-use vx_app::{run, Status};
+use vx_app::{Status, run};
 use vx_io::{KeeperCalls, MemKeeper, Records, StdInputs, StdSink, Words};
 
 /// The most words that a command is read from; a command line never has so many.
@@ -38,7 +38,11 @@ fn command_words<R: Env + AllocGlobal>(rt: &R) -> Result<Words, Status> {
             return Err(Status::NoMemory);
         }
     }
-    if before_command == 0 { Ok(words) } else { Err(Status::Usage) }
+    if before_command == 0 {
+        Ok(words)
+    } else {
+        Err(Status::Usage)
+    }
 }
 
 /// Does the command of the command line.

@@ -11,5 +11,5 @@ loop-k-preserved c = shape_more 1700 2200 c.loop-k.k mark_pixels _ _ c.loop-k.in
 pub returns : goal.returns
 unfolding mark_page timing_marks
 returns c =
-  let all : c.loop-k.k ≡ 146 = omega arith in
-  c.loop-k.invariant ∙ ap (λ k. page_of 1700 2200 (in_any k mark_pixels)) all
+    let all : c.loop-k.k ≡ 146 = omega arith in
+    c.loop-k.invariant ∙ ap (λ k. page_of 1700 2200 (in_any k mark_pixels)) all
