@@ -1,5 +1,5 @@
 -- What a search by name finds in memory.
-use Rattle.std.proofs.Common.{◌≡◌, ◌<◌, ℕ, List, length, Option, None, Some, refl, ap, sym, ◌∙◌, subst, option_map}
+use Rattle.std.proofs.Common.{◌≡◌, ◌<◌, ℕ, List, length, Option, None, Some, refl, sym, subst, option_map}
 use Rattle.std.specs.Option.{IsSome, IsSomeAnd}
 use denote.Ref.{Bor}
 use Rattle.vx_io.specs.Outside.{Files, IsThere}

@@ -1,11 +1,10 @@
 -- Laws of what a sink has taken, of fronts of a text, of counts of faults, and of what is read.
-use Rattle.std.proofs.Common.{◌≡◌, ◌+◌, ◌-◌, ◌^◌, ◌<◌, ◌≤◌, ℕ, List, [], ◌∷◌, ◌++◌, length, take, drop, min, Option, None, Some, Result, Ok, Err, IfSome, MatchOption, IsErr, refl, sym, ap, ◌∙◌, subst, arith, rules}
+use Rattle.std.proofs.Common.{◌≡◌, ◌+◌, ◌-◌, ◌≤◌, ℕ, List, [], ◌++◌, length, take, drop, Option, None, Some, Result, Ok, IfSome, IsErr, refl, sym, ap, ◌∙◌, subst, arith}
 use Rattle.std.proofs.lemmas.Bool.{false≢true}
-use Rattle.std.proofs.lemmas.List.{append-nil, append_assoc, take-append-drop, take-take, drop-take, take_rest, take_all, length-append, length-take-le, take-append-le}
+use Rattle.std.proofs.lemmas.List.{append-nil, append_assoc, take-append-drop, take-take, drop-take, take_rest, length-append, length-take-le, take-append-le}
 use Rattle.std.proofs.Math.Seq.{take-append-add}
-use Rattle.std.specs.Option.{option_map}
 use borrow.Rule.Slice.PartMut.{put_mid}
-use Rattle.vx_io.specs.Outside.{Files, Rose, HasCause, IsSizeOf, IsThere, ReadsFrom, IsPrefix, Took, TookFront}
+use Rattle.vx_io.specs.Outside.{Files, Rose, HasCause, ReadsFrom, IsPrefix, Took, TookFront}
 
 -- a text begins itself
 pub IsPrefix-refl : (text : List ℕ) → IsPrefix text text

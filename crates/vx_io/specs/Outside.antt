@@ -1,8 +1,8 @@
 -- What the outside holds, told or not told, and when it may refuse a call.
-use Rattle.std.specs.Prelude.{◌≡◌, ◌≢◌, ◌⊎◌, ◌+◌, ◌-◌, ◌^◌, ◌<◌, ◌≤◌, ℕ, List, [], ◌∷◌, ◌++◌, length, take, drop, min, Option, None, Some, Result, Ok, Err, MatchOption, IfSome, IsErr, slice_get}
+use Rattle.std.specs.Prelude.{◌≡◌, ◌⊎◌, ◌+◌, ◌-◌, ◌^◌, ◌<◌, ◌≤◌, ℕ, List, [], ◌∷◌, ◌++◌, length, take, drop, min, Option, None, Some, Result, Err, MatchOption, IfSome, IsErr, slice_get}
 use Rattle.std.specs.Option.{option_map}
 use Rattle.vx_io.specs.declared.outside.KeeperError.{KeeperError}
-use Rattle.vx_io.specs.declared.outside.KeeperError.TheVariants.{Failed, OutOfMemory}
+use Rattle.vx_io.specs.declared.outside.KeeperError.TheVariants.{Failed}
 
 -- the bytes under each name
 abbrev pub Files : Type 0

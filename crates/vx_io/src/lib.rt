@@ -32,3 +32,6 @@ pub use std_inputs::StdInputs;
 pub use std_sink::StdSink;
 pub use taking::{TakeFault, take};
 pub use words::Words;
+
+#[cfg(test)]
+mod tests;

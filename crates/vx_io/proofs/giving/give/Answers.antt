@@ -1,7 +1,7 @@
-use Rattle.std.proofs.Common.{arith, length, take}
+use Rattle.std.proofs.Common.{arith}
 use Rattle.std.proofs.lemmas.Grind.{common_steps}
 use Rattle.std.proofs.lemmas.Result.{err_from_is_err_and}
-use Rattle.vx_io.proofs.Laws.{Took-nil, Took-further, TookFront-further}
+use Rattle.vx_io.proofs.Laws.{Took-further, TookFront-further}
 use Rattle.vx_io.proofs.giving.give.Goals as goal
 
 pub returns-in_err-count-clause-refused : goal.returns-in_err-count-clause-refused

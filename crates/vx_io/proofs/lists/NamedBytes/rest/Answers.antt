@@ -1,4 +1,4 @@
-use Rattle.std.proofs.Common.{arith, length, ◌<◌, IsSomeAnd}
+use Rattle.std.proofs.Common.{arith, length, ◌<◌}
 use Rattle.std.proofs.lemmas.Grind.{common_steps}
 use Rattle.vx_io.proofs.Found.{found_there, IsSome-there, inside_found}
 use Rattle.vx_io.proofs.lists.NamedBytes.rest.Goals as goal
