@@ -70,6 +70,14 @@ impl<'a> BitView<'a> {
         is_dark(self.rows, y as usize * stride(self.width), x)
     }
 
+    /// All packed rows, from the top. The bits that pad a row may be anything.
+    pub fn rows(&self) -> &'a [u8]
+        ensures size { length result.now ≡ self.now.height * stride_of self.now.width }
+        ensures pixels { packed_page self.now.width self.now.height result.now ≡ self.now }
+    {
+        self.rows
+    }
+
     /// The packed bytes of row `v`. The bits that pad the last byte may be anything.
     pub fn row_bytes(&self, v: u32) -> &'a [u8]
         requires { v < self.now.height }

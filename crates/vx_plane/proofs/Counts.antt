@@ -1,5 +1,5 @@
 -- Laws of counts in rectangles.
-use Rattle.std.proofs.Common.{◌≡◌, ℕ, ◌+◌, ◌*◌, ◌≤◌, Bool, true, false, not, ◌||◌, ℤ, pos, ◌+ℤ◌, ◌≤ℤ◌, ◌<ℤ◌, refl, ap, sym, ◌∙◌, arith}
+use Rattle.std.proofs.Common.{◌≡◌, ℕ, ◌+◌, ◌*◌, ◌≤◌, le_trans, mul-le-mul, Bool, true, false, not, ◌||◌, ℤ, pos, ◌+ℤ◌, ◌≤ℤ◌, ◌<ℤ◌, refl, ap, sym, ◌∙◌, arith}
 use Rattle.vx_plane.specs.Plane.{Pixels, union}
 use Rattle.vx_plane.specs.Count.{one_if, sum_from, count_in, outside_of}
 use Rattle.vx_plane.proofs.Sums.{sum_from-same, sum_from-le, sum_from-parts, sum_from-more, sum_from-moved, sum_from-add, sum_from-same_number, sum_from-orders, sum_from-member}
@@ -155,3 +155,12 @@ count_in-zero left top width height set e u v p q l h =
     let inner : one_if (set u v) ≤ sum_from left width (λ w. one_if (set w v)) = sum_from-member left width (λ w. one_if (set w v)) u p q in
     let outer : sum_from left width (λ w. one_if (set w v)) ≤ count_in left top width height set = sum_from-member top height (λ y. sum_from left width (λ w. one_if (set w y))) v l h in
     not_one (set u v) (omega arith)
+
+-- a rectangle of one place
+pub count_in-one : (u v : ℤ) (set : Pixels) → count_in u v 1 1 set ≡ one_if (set u v)
+unfolding count_in
+count_in-one u v set = omega arith
+
+-- a count is at most the area, for rectangles of bounded sides
+pub count_in-bound : (left top : ℤ) (width height w h : ℕ) (set : Pixels) → width ≤ w → height ≤ h → count_in left top width height set ≤ h * w
+count_in-bound left top width height w h set a b = le_trans (count_in-le_area left top width height set) (mul-le-mul b a)
