@@ -1,5 +1,5 @@
 -- The grid places of a scan: this project's own geometry.
-use Rattle.std.specs.Prelude.{ℕ, ◌+◌, ◌==◌, ℤ, pos, ◌+ℤ◌, ◌-ℤ◌, ◌*ℤ◌, List, if◌then◌else◌}
+use Rattle.std.specs.Prelude.{ℕ, ◌+◌, ◌==◌, ℤ, pos, ◌+ℤ◌, ◌-ℤ◌, ◌*ℤ◌, ◌≤ℤ◌, List, if◌then◌else◌}
 use Rattle.std.specs.Int.{int_div_euclid}
 use Rattle.vx_grid.specs.declared.places.Point.{Point}
 use Rattle.vx_grid.specs.Places.{point_at}
@@ -12,9 +12,18 @@ left_mark row = if row == 0 then 0 else 73 + row
 abbrev pub right_mark : ℕ → ℕ
 right_mark row = 33 + row
 
+-- so many of 33 equal parts of a distance, rounded towards minus infinity
+abbrev pub part_of : ℤ → ℕ → ℤ
+part_of distance steps = int_div_euclid (distance *ℤ pos steps) (pos 33)
+
 -- so many of 33 equal steps from a to b, rounded towards minus infinity
 abbrev pub between : ℤ → ℤ → ℕ → ℤ
-between a b steps = a +ℤ int_div_euclid ((b -ℤ a) *ℤ pos steps) (pos 33)
+between a b steps = a +ℤ part_of (b -ℤ a) steps
+
+-- a part of a distance lies between nothing and the whole of it
+pub record IsOnTheWay (distance part : ℤ) : Type 0 where
+  pub forwards : pos 0 ≤ℤ distance → (pos 0 ≤ℤ part) × (part ≤ℤ distance)
+  pub backwards : distance ≤ℤ pos 0 → (distance ≤ℤ part) × (part ≤ℤ pos 0)
 
 -- the place of a grid point between the places of its row's marks
 abbrev pub place_between : Point → Point → ℕ → Point

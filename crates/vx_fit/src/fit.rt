@@ -1,8 +1,27 @@
-ghost use Rattle.std.specs.Prelude.{◌≡◌, ◌≤◌};
+ghost use Rattle.std.specs.Prelude.{◌≡◌, ◌≤◌, ◌-ℤ◌};
 ghost use Rattle.vx_grid.specs.Places.{IsWithin, IsPointWithin, AreWithin};
-ghost use Rattle.vx_fit.specs.Fit.{between as between_of, left_mark as left_mark_of, right_mark as right_mark_of, place_between, place_of};
+ghost use Rattle.vx_fit.specs.Fit.{part_of, between as between_of, left_mark as left_mark_of, right_mark as right_mark_of, place_between, place_of};
 
 use vx_grid::{Border, Point};
+
+/// How far it is from `a` to `b`.
+fn distance(a: i32, b: i32) -> i32
+    requires a { IsWithin 9000 a }
+    requires b { IsWithin 9000 b }
+    ensures { result ≡ b -ℤ a }
+{
+    b - a
+}
+
+/// So many of 33 equal parts of a distance, rounded towards minus infinity.
+fn part(distance: i32, steps: u32) -> i32
+    requires distance { IsWithin 18000 distance }
+    requires steps { steps ≤ 33 }
+    ensures { result ≡ part_of distance steps }
+{
+    let way = distance * steps as i32;
+    way.div_euclid(33)
+}
 
 /// So many of 33 equal steps from `a` to `b`, rounded towards minus infinity.
 fn between(a: i32, b: i32, steps: u32) -> i32
@@ -12,8 +31,7 @@ fn between(a: i32, b: i32, steps: u32) -> i32
     ensures value { result ≡ between_of a b steps }
     ensures bound { IsWithin 9000 result }
 {
-    let way = (b - a) * steps as i32;
-    a + way.div_euclid(33)
+    a + part(distance(a, b), steps)
 }
 
 /// The number of the timing mark at the left end of a grid row.
