@@ -15,3 +15,6 @@ mod search;
 pub use corner::first_corner;
 pub use judge::{accepted, deficit};
 pub use search::best_near;
+
+#[cfg(test)]
+mod tests;
