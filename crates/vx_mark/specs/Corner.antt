@@ -1,0 +1,33 @@
+-- The corner of a scan: where its first timing mark is.
+use Rattle.std.specs.Prelude.{◌≡◌, ◌⊎◌, ℕ, pos, ◌+ℤ◌, ◌≤ℤ◌, ◌<ℤ◌}
+use Rattle.vx_plane.specs.Plane.{Page}
+use Rattle.vx_grid.specs.declared.places.Point.{Point}
+use Rattle.vx_mark.specs.Mark.{IsAccepted}
+
+-- where a corner may be: columns 26 to 116, rows 14 to 104
+pub record IsInCornerRegion (p : Point) : Type 0 where
+  pub left : pos 26 ≤ℤ p.u
+  pub right : p.u ≤ℤ pos 116
+  pub top : pos 14 ≤ℤ p.v
+  pub bottom : p.v ≤ℤ pos 104
+
+-- the order of corners: the least sum of column and row first, then the least row
+abbrev pub IsFirst : Point → Point → Type 0
+IsFirst p q = ((p.u +ℤ p.v) <ℤ (q.u +ℤ q.v)) ⊎ ((p.u +ℤ p.v ≡ q.u +ℤ q.v) × (p.v <ℤ q.v))
+
+-- the corner: the first of the accepted places of the region
+pub record IsCorner (page : Page) (p : Point) : Type 0 where
+  pub accepted : IsAccepted page p
+  pub in_region : IsInCornerRegion p
+  pub first : (q : Point) → IsAccepted page q → IsInCornerRegion q → IsFirst q p → ⊥
+
+-- a place whose column and row have a sum
+abbrev pub HasDiagonal : ℕ → Point → Type 0
+HasDiagonal sum p = p.u +ℤ p.v ≡ pos sum
+
+-- the accepted place of the region that has the least row of those with one sum
+pub record IsFirstOfDiagonal (page : Page) (sum : ℕ) (p : Point) : Type 0 where
+  pub accepted : IsAccepted page p
+  pub in_region : IsInCornerRegion p
+  pub diagonal : HasDiagonal sum p
+  pub first : (q : Point) → IsAccepted page q → IsInCornerRegion q → HasDiagonal sum q → q.v <ℤ p.v → ⊥

@@ -1,0 +1,4 @@
+pub mod Mark
+pub mod Corner
+pub mod Best
+pub mod Search

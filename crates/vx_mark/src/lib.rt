@@ -1,0 +1,20 @@
+//! Finding a timing mark in a scan: this project's own geometry.
+//!
+//! A place is a mark's centre as far as its core is dark and its four flanks are light: what is
+//! wrong there is its deficit, and up to 20 it is accepted. The corner of a scan and the best place
+//! near a predicted one are the first of all accepted places of a region, in a stated order. The
+//! definitions stand in `specs/Mark.antt`, `specs/Corner.antt` and `specs/Best.antt`, as counts of
+//! `vx_plane`. A search leaves a place as soon as it can't be the answer any more. No call takes
+//! memory.
+#![tactic(auto)]
+
+mod corner;
+mod judge;
+mod search;
+
+pub use corner::first_corner;
+pub use judge::{accepted, deficit};
+pub use search::best_near;
+
+#[cfg(test)]
+mod tests;
