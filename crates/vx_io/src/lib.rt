@@ -7,7 +7,10 @@
 //! output. `take` reads an input whole and `give` writes a text whole. `Words` are the words of a
 //! command.
 //!
-//! The definitions stand in `specs/Outside.antt`.
+//! The definitions stand in `specs/`: `Outside.antt` has what the outside holds and when it may
+//! refuse, `Take.antt` what `take` may answer, `Fakes.antt` and `Keeping.antt` which calls fail in
+//! memory and what a call leaves. `proofs/Laws.antt` has the laws for callers: what was taken one
+//! text after another, fronts of a text, counts of faults.
 #![tactic(auto)]
 
 mod giving;

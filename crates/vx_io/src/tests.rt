@@ -112,19 +112,13 @@ fn a_keeper_keeps_what_the_list_says(rt: HostRuntime) -> Result<(), Fail> {
 #[test]
 fn real_files_are_taken_or_refused(rt: HostRuntime) -> Result<(), Fail> {
     let folder = env::temp_dir(&rt)?;
-    let folder = folder.as_path();
     let name = format!(in rt.alloc(); "vx_io_{}", process::id(rt.process()))?;
     let file = folder.join(rt.alloc(), name.as_str())?;
     fs::write(&rt, file.as_path(), b"ballot")?;
     let mut inputs = StdInputs::new(&rt);
-    assert_takes(&rt, &mut inputs, file.as_path().as_str(), 6, b"ballot");
-    assert_refuses(
-        &rt,
-        &mut inputs,
-        file.as_path().as_str(),
-        5,
-        TakeFault::TooLong(6),
-    );
+    let mut part = [0u8; 3];
+    assert_takes(&rt, &mut inputs, file.as_str(), 6, b"ballot");
+    assert_refuses(&rt, &mut inputs, file.as_str(), 5, TakeFault::TooLong(6));
     assert_refuses(
         &rt,
         &mut inputs,
@@ -132,14 +126,11 @@ fn real_files_are_taken_or_refused(rt: HostRuntime) -> Result<(), Fail> {
         1 << 40,
         TakeFault::Failed,
     );
+    assert_eq!(rt; inputs.read(file.as_str(), 2, &mut part), Ok(3));
+    assert_eq!(rt; part.as_slice(), b"llo".as_slice());
+    assert_eq!(rt; inputs.read(file.as_str(), 6, &mut part), Err(Failed));
     fs::remove_file(&rt, file.as_path())?;
-    assert_refuses(
-        &rt,
-        &mut inputs,
-        file.as_path().as_str(),
-        6,
-        TakeFault::NoInput,
-    );
+    assert_refuses(&rt, &mut inputs, file.as_str(), 6, TakeFault::NoInput);
     Ok(())
 }
 
