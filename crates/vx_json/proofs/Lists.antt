@@ -1,12 +1,9 @@
 -- An array's elements are the values that it was made of.
-use Rattle.std.proofs.Common.{◌≡◌, ℕ, List, [], ◌∷◌, map, Option, Some, Result, Ok, ap, refl, ◌∙◌}
-use Rattle.std.specs.Prelude.{ok_or, option_map}
-use Rattle.serde_json.specs.Data.{Data, Items}
+use Rattle.std.proofs.Common.{◌≡◌, ℕ, List, [], ◌∷◌, map, Some, Ok, ap, refl}
+use Rattle.serde_json.specs.Data.{Data}
 use Rattle.serde_json.specs.View.{view, items_of, items_view}
 use Rattle.serde_json.specs.Find.{as_array}
 use Rattle.serde_json.specs.declared.value.Value.{Value}
-use Rattle.vx_json.specs.declared.fault.JsonFault.{JsonFault}
-use Rattle.vx_json.specs.declared.fault.JsonFault.TheVariants.{WrongKind}
 use Rattle.vx_json.specs.Reading.{elements, list_in}
 
 elements-items_of : (values : List Data) → elements (items_of values) ≡ values

@@ -1,5 +1,5 @@
 -- What a JSON value gives where a kind of value is wanted, or the fault with its path.
-use Rattle.std.specs.Prelude.{◌≡◌, ℕ, ◌&&◌, Bool, List, [], ◌∷◌, length, nat_le, chars, if◌then◌else◌, Option, Result, Ok, Err, is_some, ok_or, option_map, option_and_then}
+use Rattle.std.specs.Prelude.{◌≡◌, ℕ, ◌&&◌, Bool, List, [], ◌∷◌, length, nat_le, chars, if◌then◌else◌, Result, Ok, Err, is_some, ok_or, option_map, option_and_then}
 use Rattle.serde_json.specs.Data.{Data, Items, no_items, item}
 use Rattle.serde_json.specs.Find.{get, as_array, as_bool, as_number, as_object, as_str, as_u64}
 use Rattle.vx_json.specs.declared.fault.JsonFault.{JsonFault}
