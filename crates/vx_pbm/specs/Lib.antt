@@ -1,1 +1,4 @@
+pub mod Header
+pub mod Images
+pub mod Raster
 pub mod Raw

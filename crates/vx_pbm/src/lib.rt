@@ -1,8 +1,15 @@
-//! Bitmaps in netpbm's PBM format: `write_p4` appends a page as a raw bitmap.
+//! Bitmaps in netpbm's PBM format: `PbmReader` reads the images of bytes one after another, raw
+//! (`P4`) and plain (`P1`), and `write_p4` appends a page as a raw bitmap.
 //!
-//! The text of a raw bitmap is defined in `specs/Raw.antt`.
+//! The reader is seen as what of its bytes is unread. Each answer is the first image of that, by the
+//! grammar of `specs/Header.antt`, `specs/Raster.antt` and `specs/Images.antt`, or the fault of the
+//! first place that leaves it. Raw images are lent from the bytes. The text of a raw bitmap that is
+//! written is defined in `specs/Raw.antt`.
 #![tactic(auto)]
 
+mod fault;
+mod header;
 mod raw;
 
+pub use fault::PbmFault;
 pub use raw::write_p4;

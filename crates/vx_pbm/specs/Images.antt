@@ -1,0 +1,86 @@
+-- The images of bytes: raw images one after another with nothing between, or one plain image.
+use Rattle.std.specs.Prelude.{◌≡◌, ℕ, zero, suc, ◌+◌, ◌==◌, ◌&&◌, Bool, true, false, List, [], ◌∷◌, length, drop, if◌then◌else◌, Option, Some, None, Result, Ok, Err}
+use Rattle.vx_plane.specs.Plane.{Page}
+use Rattle.vx_pbm.specs.declared.fault.PbmFault.{PbmFault}
+use Rattle.vx_pbm.specs.declared.fault.PbmFault.TheVariants.{BadMagic, BadHeader, SizeTooLarge, Truncated, BadPixel, TrailingPlain, OutOfMemory}
+use Rattle.vx_pbm.specs.Header.{◌>>=◌, is_space}
+use Rattle.vx_pbm.specs.Raster.{is_raw, is_plain, raw_image, plain_image}
+
+-- what of the bytes is unread: the place of its first byte, its text, whether a plain image precedes it
+pub record Unread : Type 0 where
+  pub at : ℕ
+  pub text : List ℕ
+  pub behind_plain : Bool
+
+-- bytes of which nothing was read
+abbrev pub whole : List ℕ → Unread
+whole bytes = record { at = 0; text = bytes; behind_plain = false }
+
+-- a plain image may begin at the first byte only
+abbrev pub may_be_plain : Unread → Bool
+may_be_plain unread = (unread.at == 0) && is_plain unread.text
+
+-- what follows the last pixel of a plain image: nothing, or whitespace and then anything
+abbrev pub after_plain : ℕ → List ℕ → Result (Option (Page × Unread)) PbmFault
+after_plain at [] = Ok None
+after_plain at (byte ∷ rest) = if is_space byte then Ok None else Err (TrailingPlain at)
+
+-- a page with the number of its bytes, and what is unread behind it
+abbrev pub step_over : Unread → Bool → Page × ℕ → Result (Option (Page × Unread)) PbmFault
+step_over unread plain found = Ok (Some (found.0, record { at = unread.at + found.1; text = drop found.1 unread.text; behind_plain = plain }))
+
+-- the first image of what is unread, with what is unread behind it; none at the end; or the fault
+unfoldable pub next_of : Unread → Result (Option (Page × Unread)) PbmFault
+next_of unread =
+    if unread.behind_plain then after_plain unread.at unread.text
+    else if length unread.text == 0 then Ok None
+    else if may_be_plain unread then plain_image unread.text >>= step_over unread true
+    else if is_raw unread.text then raw_image unread.at unread.text >>= step_over unread false
+    else Err (BadMagic unread.at)
+
+-- the pages of bytes in order, and the fault of the first place that leaves the grammar, if any
+pub record Images : Type 0 where
+  pub pages : List Page
+  pub fault : Option PbmFault
+
+-- the images with one page more before them
+abbrev pub with_page : Page → Images → Images
+with_page page images = record { pages = page ∷ images.pages; fault = images.fault }
+
+-- no pages, and maybe a fault
+abbrev pub ended : Option PbmFault → Images
+ended fault = record { pages = []; fault = fault }
+
+-- the images that begin with what was found, where the ones behind it are known
+abbrev pub onwards : (Unread → Images) → Result (Option (Page × Unread)) PbmFault → Images
+onwards images (Ok (Some found)) = with_page found.0 (images found.1)
+onwards images (Ok None) = ended None
+onwards images (Err fault) = ended (Some fault)
+
+-- the images of what is unread, in at most so many steps
+abbrev pub images_within : ℕ → Unread → Images
+images_within zero unread = ended None
+images_within (suc steps) unread = onwards (images_within steps) (next_of unread)
+
+-- the images of what is unread; each takes a byte at least
+unfoldable pub images_left : Unread → Images
+images_left unread = images_within (length unread.text + 1) unread
+
+-- the images of bytes
+unfoldable pub images_of : List ℕ → Images
+images_of bytes = images_left (whole bytes)
+
+-- What a reader answered, and what is unread afterwards. The first image is given and stepped over. At
+-- the end, at a fault, and at want of memory, which only a plain image has, nothing moves on.
+abbrev pub Steps : Unread → Result (Option Page) PbmFault → Unread → Type 0
+Steps old (Ok (Some page)) new = next_of old ≡ Ok (Some (page, new))
+Steps old (Ok None) new = (next_of old ≡ Ok None) × (new ≡ old)
+Steps old (Err OutOfMemory) new = (may_be_plain old ≡ true) × (new ≡ old)
+Steps old (Err fault) new = (next_of old ≡ Err fault) × (new ≡ old)
+
+-- The same of all images that are left: the page was the first of them, or there was none but the fault.
+abbrev pub Walks : Unread → Result (Option Page) PbmFault → Unread → Type 0
+Walks old (Ok (Some page)) new = images_left old ≡ with_page page (images_left new)
+Walks old (Ok None) new = images_left old ≡ ended None
+Walks old (Err OutOfMemory) new = images_left new ≡ images_left old
+Walks old (Err fault) new = images_left old ≡ ended (Some fault)
