@@ -1,5 +1,5 @@
 -- The header of a bitmap, after netpbm's PBM format. Places in a text are counted from 0.
-use Rattle.std.specs.Prelude.{ℕ, ◌+◌, ◌==◌, ◌&&◌, ◌||◌, Bool, true, false, not, List, [], ◌∷◌, drop, take, nat_lt, nat_le, if◌then◌else◌, Result, Ok, Err}
+use Rattle.std.specs.Prelude.{ℕ, ◌+◌, ◌<◌, ◌≤◌, ◌==◌, ◌&&◌, ◌||◌, Bool, true, false, not, List, [], ◌∷◌, drop, take, length, nat_lt, nat_le, if◌then◌else◌, Result, Ok, Err}
 use Rattle.std.specs.Char.{is_ascii_digit}
 use Rattle.std.specs.Str.Parse.{digits_value}
 use Rattle.vx_pbm.specs.declared.header.Header.{Header}
@@ -67,3 +67,9 @@ header_at text = do
   height ← number_at text at
   size ← space_at text height.1
   Ok (record { width = width.0; height = height.0; size = size })
+
+-- what a header of a text keeps to: it ends within the text, and its sides are above 0
+pub record IsHeader (text : List ℕ) (header : Header) : Type 0 where
+  pub within : header.size ≤ length text
+  pub width : 0 < header.width
+  pub height : 0 < header.height

@@ -1,4 +1,5 @@
 pub mod Header
+pub mod Image
 pub mod Images
 pub mod Raster
 pub mod Raw

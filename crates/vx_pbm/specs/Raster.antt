@@ -1,22 +1,18 @@
 -- The pixels behind a header, and whole images.
-use Rattle.std.specs.Prelude.{ℕ, ◌+◌, ◌-◌, ◌*◌, ◌==◌, ◌&&◌, ◌||◌, Bool, false, not, List, [], ◌∷◌, length, map, filter, drop, take, pos, slice_index_or, nat_lt, nat_le, nat_eq, codes, if◌then◌else◌, Result, Ok, Err}
+use Rattle.std.specs.Prelude.{◌≡◌, ◌<◌, ◌≤◌, ℕ, ◌+◌, ◌-◌, ◌*◌, ◌==◌, ◌&&◌, ◌||◌, Bool, false, not, List, [], ◌∷◌, length, map, filter, drop, take, pos, slice_index_or, nat_lt, nat_le, nat_eq, codes, if◌then◌else◌, Result, Ok, Err}
 use Rattle.std.specs.List.{starts_with}
 use Rattle.vx_plane.specs.Plane.{Pixels, Page, page_of}
 use Rattle.vx_bits.specs.Packed.{stride_of, packed_page}
 use Rattle.vx_pbm.specs.declared.header.Header.{Header}
 use Rattle.vx_pbm.specs.declared.fault.PbmFault.{PbmFault}
-use Rattle.vx_pbm.specs.declared.fault.PbmFault.TheVariants.{BadHeader, SizeTooLarge, Truncated, BadPixel}
+use Rattle.vx_pbm.specs.declared.fault.PbmFault.TheVariants.{BadHeader, SizeTooLarge, Truncated, BadPixel, OutOfMemory}
 use Rattle.vx_pbm.specs.Header.{◌>>=◌, header_at, is_space}
 
--- the largest side of a page
-abbrev pub largest_side : ℕ
-largest_side = 4096
-
--- a header that was read, of an image that begins at a place, where neither side is too large
+-- a header that was read, of an image that begins at a place, where neither side is above 4096
 abbrev pub in_size : ℕ → Result Header ℕ → Result Header PbmFault
 in_size at (Err place) = Err (BadHeader (at + place))
 in_size at (Ok header) =
-    if nat_le header.width largest_side && nat_le header.height largest_side then Ok header
+    if nat_le header.width 4096 && nat_le header.height 4096 then Ok header
     else Err (SizeTooLarge header.width header.height)
 
 -- An image that begins a text gives its page and the number of its bytes, or else its fault. The text
@@ -75,3 +71,15 @@ abbrev pub is_raw : List ℕ → Bool
 is_raw text = starts_with nat_eq text (codes "P4")
 abbrev pub is_plain : List ℕ → Bool
 is_plain text = starts_with nat_eq text (codes "P1")
+
+-- What a call answered that may take memory is the reading, unless memory ran out.
+abbrev pub Reads : {A : Type 0} → Result A PbmFault → Result A PbmFault → Type 0
+Reads (Err OutOfMemory) reading = Unit {0}
+Reads answer reading = reading ≡ answer
+
+-- the sides of a page that was read
+pub record IsSized (width height : ℕ) : Type 0 where
+  pub width_above : 0 < width
+  pub width_below : width ≤ 4096
+  pub height_above : 0 < height
+  pub height_below : height ≤ 4096

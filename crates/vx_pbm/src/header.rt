@@ -1,6 +1,6 @@
-ghost use Rattle.std.specs.Prelude.{◌≡◌, ◌≤◌, length, false, IfOk};
+ghost use Rattle.std.specs.Prelude.{◌≡◌, ◌≤◌, length, ◌<◌, false, MatchResult};
 ghost use Rattle.std.specs.Str.Parse.{digits_value, AllDigits};
-ghost use Rattle.vx_pbm.specs.Header.{is_space, ends_comment, gap_size, digit_count, gap_at, number_at, space_at, header_at};
+ghost use Rattle.vx_pbm.specs.Header.{is_space, ends_comment, gap_size, digit_count, gap_at, number_at, space_at, header_at, IsHeader};
 
 /// What a header says: the sides in pixels, and the number of its own bytes, its magic included.
 #[derive(Clone, Copy)]
@@ -73,7 +73,7 @@ fn number_of(digits: &[u8]) -> u32
 fn gap_at(text: &[u8], at: usize) -> Result<usize, usize>
     requires { at ≤ length text.now }
     ensures exact { result ≡ gap_at text.now at }
-    ensures within { IfOk result (λ behind. behind ≤ length text.now) }
+    ensures within { MatchResult result (λ behind. behind ≤ length text.now) (λ place. place ≤ length text.now) }
 {
     let size = gap_size(&text[at..]);
     if size == 0 {
@@ -88,7 +88,7 @@ fn gap_at(text: &[u8], at: usize) -> Result<usize, usize>
 fn number_at(text: &[u8], at: usize) -> Result<(u32, usize), usize>
     requires { at ≤ length text.now }
     ensures exact { result ≡ number_at text.now at }
-    ensures within { IfOk result (λ found. found.1 ≤ length text.now) }
+    ensures within { MatchResult result (λ found. (found.1 ≤ length text.now) × (0 < found.0)) (λ place. place ≤ length text.now) }
 {
     let rest = &text[at..];
     let count = digit_count(rest);
@@ -107,7 +107,7 @@ fn number_at(text: &[u8], at: usize) -> Result<(u32, usize), usize>
 fn space_at(text: &[u8], at: usize) -> Result<usize, usize>
     requires { at ≤ length text.now }
     ensures exact { result ≡ space_at text.now at }
-    ensures within { IfOk result (λ behind. behind ≤ length text.now) }
+    ensures within { MatchResult result (λ behind. behind ≤ length text.now) (λ place. place ≤ length text.now) }
 {
     if at < text.len() && is_space(text[at]) {
         return Ok(at + 1);
@@ -120,7 +120,7 @@ fn space_at(text: &[u8], at: usize) -> Result<usize, usize>
 pub(crate) fn header_at(text: &[u8]) -> Result<Header, usize>
     requires { 2 ≤ length text.now }
     ensures exact { result ≡ header_at text.now }
-    ensures within { IfOk result (λ header. header.size ≤ length text.now) }
+    ensures within { MatchResult result (λ header. IsHeader text.now header) (λ place. place ≤ length text.now) }
 {
     let at = gap_at(text, 2)?;
     let (width, at) = number_at(text, at)?;

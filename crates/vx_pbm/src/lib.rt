@@ -9,7 +9,10 @@
 
 mod fault;
 mod header;
+mod image;
+mod lent;
 mod raw;
 
 pub use fault::PbmFault;
+pub use image::Image;
 pub use raw::write_p4;
