@@ -16,23 +16,32 @@ pub record Unread : Type 0 where
 abbrev pub whole : List ℕ → Unread
 whole bytes = record { at = 0; text = bytes; behind_plain = false }
 
+-- bytes that were read up to a place
+abbrev pub unread_from : List ℕ → ℕ → Bool → Unread
+unread_from bytes at behind_plain = record { at = at; text = drop at bytes; behind_plain = behind_plain }
+
 -- a plain image may begin at the first byte only
 abbrev pub may_be_plain : Unread → Bool
 may_be_plain unread = (unread.at == 0) && is_plain unread.text
 
--- what follows the last pixel of a plain image: nothing, or whitespace and then anything
-abbrev pub after_plain : ℕ → List ℕ → Result (Option (Page × Unread)) PbmFault
-after_plain at [] = Ok None
-after_plain at (byte ∷ rest) = if is_space byte then Ok None else Err (TrailingPlain at)
+-- what is wrong behind the last pixel of a plain image, where nothing or whitespace has to stand
+abbrev pub trailing : ℕ → List ℕ → Option PbmFault
+trailing at [] = None
+trailing at (byte ∷ rest) = if is_space byte then None else Some (TrailingPlain at)
 
--- a page with the number of its bytes, and what is unread behind it
+-- no image, and maybe a fault
+abbrev pub no_more : Option PbmFault → Result (Option (Page × Unread)) PbmFault
+no_more None = Ok None
+no_more (Some fault) = Err fault
+
+-- an image that was found, and what is unread behind it
 abbrev pub step_over : Unread → Bool → Page × ℕ → Result (Option (Page × Unread)) PbmFault
 step_over unread plain found = Ok (Some (found.0, record { at = unread.at + found.1; text = drop found.1 unread.text; behind_plain = plain }))
 
 -- the first image of what is unread, with what is unread behind it; none at the end; or the fault
 unfoldable pub next_of : Unread → Result (Option (Page × Unread)) PbmFault
 next_of unread =
-    if unread.behind_plain then after_plain unread.at unread.text
+    if unread.behind_plain then no_more (trailing unread.at unread.text)
     else if length unread.text == 0 then Ok None
     else if may_be_plain unread then plain_image unread.text >>= step_over unread true
     else if is_raw unread.text then raw_image unread.at unread.text >>= step_over unread false

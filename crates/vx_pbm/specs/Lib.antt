@@ -3,3 +3,4 @@ pub mod Image
 pub mod Images
 pub mod Raster
 pub mod Raw
+pub mod Step

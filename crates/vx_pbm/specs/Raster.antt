@@ -1,5 +1,5 @@
 -- The pixels behind a header, and whole images.
-use Rattle.std.specs.Prelude.{◌≡◌, ◌<◌, ◌≤◌, ℕ, ◌+◌, ◌-◌, ◌*◌, ◌==◌, ◌&&◌, ◌||◌, Bool, false, not, List, [], ◌∷◌, length, map, filter, drop, take, pos, slice_index_or, nat_lt, nat_le, nat_eq, codes, if◌then◌else◌, Result, Ok, Err}
+use Rattle.std.specs.Prelude.{◌≡◌, ◌<◌, ◌≤◌, ℕ, ◌+◌, ◌-◌, ◌*◌, ◌==◌, ◌&&◌, ◌||◌, Bool, false, List, [], ◌∷◌, length, map, filter, drop, take, pos, slice_index_or, nat_lt, nat_le, nat_eq, codes, if◌then◌else◌, Result, Ok, Err}
 use Rattle.std.specs.List.{starts_with}
 use Rattle.vx_plane.specs.Plane.{Pixels, Page, page_of}
 use Rattle.vx_bits.specs.Packed.{stride_of, packed_page}
@@ -41,13 +41,13 @@ abbrev pub raster_end : ℕ → ℕ → ℕ → List ℕ → Result ℕ PbmFault
 raster_end need have at [] = if have == need then Ok at else Err (Truncated have need)
 raster_end need have at (byte ∷ rest) =
     if have == need then Ok at
-    else if is_space byte then raster_end need have (at + 1) rest
     else if is_pixel byte then raster_end need (have + 1) (at + 1) rest
+    else if is_space byte then raster_end need have (at + 1) rest
     else Err (BadPixel at)
 
--- the pixels of a plain raster, true for dark; whitespace between them is ignored
+-- the pixels of a plain raster, true for dark; the whitespace between them is ignored
 abbrev pub pixels_in : List ℕ → List Bool
-pixels_in raster = map (λ byte. byte == 49) (filter (λ byte. not (is_space byte)) raster)
+pixels_in raster = map (λ byte. byte == 49) (filter is_pixel raster)
 
 -- the places that are dark where a page's pixels are listed row after row
 abbrev pub listed : ℕ → List Bool → Pixels

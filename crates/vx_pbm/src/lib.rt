@@ -11,8 +11,12 @@ mod fault;
 mod header;
 mod image;
 mod lent;
+mod plain;
+mod reader;
+mod step;
 mod raw;
 
 pub use fault::PbmFault;
 pub use image::Image;
+pub use reader::PbmReader;
 pub use raw::write_p4;
