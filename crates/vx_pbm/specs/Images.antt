@@ -1,5 +1,5 @@
 -- The images of bytes: raw images one after another with nothing between, or one plain image.
-use Rattle.std.specs.Prelude.{◌≡◌, ℕ, zero, suc, ◌+◌, ◌==◌, ◌&&◌, Bool, true, false, List, [], ◌∷◌, length, drop, if◌then◌else◌, Option, Some, None, Result, Ok, Err}
+use Rattle.std.specs.Prelude.{◌≡◌, ℕ, zero, suc, ◌+◌, ◌==◌, ◌&&◌, Bool, true, false, not, List, [], ◌∷◌, length, drop, if◌then◌else◌, Option, Some, None, Result, Ok, Err}
 use Rattle.vx_plane.specs.Plane.{Page}
 use Rattle.vx_pbm.specs.declared.fault.PbmFault.{PbmFault}
 use Rattle.vx_pbm.specs.declared.fault.PbmFault.TheVariants.{BadMagic, BadHeader, SizeTooLarge, Truncated, BadPixel, TrailingPlain, OutOfMemory}
@@ -24,15 +24,10 @@ unread_from bytes at behind_plain = record { at = at; text = drop at bytes; behi
 abbrev pub may_be_plain : Unread → Bool
 may_be_plain unread = (unread.at == 0) && is_plain unread.text
 
--- what is wrong behind the last pixel of a plain image, where nothing or whitespace has to stand
-abbrev pub trailing : ℕ → List ℕ → Option PbmFault
-trailing at [] = None
-trailing at (byte ∷ rest) = if is_space byte then None else Some (TrailingPlain at)
-
--- no image, and maybe a fault
-abbrev pub no_more : Option PbmFault → Result (Option (Page × Unread)) PbmFault
-no_more None = Ok None
-no_more (Some fault) = Err fault
+-- whether a text goes on with something else than whitespace, as none may behind a plain image's last pixel
+abbrev pub goes_on : List ℕ → Bool
+goes_on [] = false
+goes_on (byte ∷ rest) = not (is_space byte)
 
 -- an image that was found, and what is unread behind it
 abbrev pub step_over : Unread → Bool → Page × ℕ → Result (Option (Page × Unread)) PbmFault
@@ -41,7 +36,7 @@ step_over unread plain found = Ok (Some (found.0, record { at = unread.at + foun
 -- the first image of what is unread, with what is unread behind it; none at the end; or the fault
 unfoldable pub next_of : Unread → Result (Option (Page × Unread)) PbmFault
 next_of unread =
-    if unread.behind_plain then no_more (trailing unread.at unread.text)
+    if unread.behind_plain then (if goes_on unread.text then Err (TrailingPlain unread.at) else Ok None)
     else if length unread.text == 0 then Ok None
     else if may_be_plain unread then plain_image unread.text >>= step_over unread true
     else if is_raw unread.text then raw_image unread.at unread.text >>= step_over unread false

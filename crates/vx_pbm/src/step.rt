@@ -1,5 +1,5 @@
 ghost use Rattle.std.specs.Prelude.{◌≡◌, ◌<◌, ◌≤◌, ◌^◌, ◌+◌, length, drop, true, false};
-ghost use Rattle.vx_pbm.specs.Images.{unread_from, trailing};
+ghost use Rattle.vx_pbm.specs.Images.{unread_from, goes_on};
 ghost use Rattle.vx_pbm.specs.Raster.{is_raw, is_plain};
 ghost use Rattle.vx_pbm.specs.Step.{Finds};
 
@@ -18,14 +18,11 @@ pub(crate) struct Step<'b> {
     pub(crate) behind_plain: bool,
 }
 
-/// What is wrong at a place directly behind the last pixel of a plain image.
-fn trailing(at: usize, text: &[u8]) -> Option<PbmFault>
-    ensures { result ≡ trailing at text.now }
+/// Whether something else than whitespace follows directly, as none may behind a plain image.
+fn goes_on(text: &[u8]) -> bool
+    ensures { result ≡ goes_on text.now }
 {
-    if text.is_empty() || is_space(text[0]) {
-        return None;
-    }
-    Some(PbmFault::TrailingPlain(at as u64))
+    !text.is_empty() && !is_space(text[0])
 }
 
 /// The plain image that the bytes are.
@@ -68,9 +65,10 @@ pub(crate) fn first_step<'b>(
 {
     let text = &bytes[at..];
     if behind_plain {
-        return match trailing(at, text) {
-            None => Ok(None),
-            Some(fault) => Err(fault),
+        return if goes_on(text) {
+            Err(PbmFault::TrailingPlain(at as u64))
+        } else {
+            Ok(None)
         };
     }
     if text.is_empty() {
