@@ -1,5 +1,6 @@
 pub mod Finds
 pub mod Headers
+pub mod Parts
 pub mod Plains
 pub mod Rasters
 pub mod Steps

@@ -76,13 +76,13 @@ filled_pixel width height place need raster i page after have some inside more p
     subst (λ (p : Page). after ≡ page_of p.width p.height (with_pixel (dark_at p) (pos (have % p.width)) (pos (have / p.width)) (get_or raster i 0 == 49))) filled.page_is is in
     record {
       page_is = put ∙ (listed_more width height have (pixels_in (take i raster)) (get_or raster i 0 == 49) some filled.have_is
-        ∙ ap (λ ps. page_of width height (listed width ps)) (sym one));
+          ∙ ap (λ ps. page_of width height (listed width ps)) (sym one));
       have_is = omega (arith, filled.have_is, ap length one, length-append (pixels_in (take i raster)) ((get_or raster i 0 == 49) ∷ []));
       few = omega (arith, filled.few);
       rest =
-        ap (λ at. raster_end need (have + 1) at (drop (i + 1) raster)) (omega arith)
-        ∙ (sym (ap (raster_end need have (place + i)) (drop_more raster i 0 inside) ∙ second (have == need) (is_pixel (get_or raster i 0)) _ _ _ (ne_eqb have need more) pixel)
-        ∙ filled.rest);
+          ap (λ at. raster_end need (have + 1) at (drop (i + 1) raster)) (omega arith)
+          ∙ (sym (ap (raster_end need have (place + i)) (drop_more raster i 0 inside) ∙ second (have == need) (is_pixel (get_or raster i 0)) _ _ _ (ne_eqb have need more) pixel)
+          ∙ filled.rest);
     }
 
 -- the same with whitespace more
@@ -96,9 +96,9 @@ filled_space width height place need raster i page have inside more other space 
       have_is = filled.have_is ∙ ap length (sym same);
       few = filled.few;
       rest =
-        ap (λ at. raster_end need have at (drop (i + 1) raster)) (omega arith)
-        ∙ (sym (ap (raster_end need have (place + i)) (drop_more raster i 0 inside) ∙ third (have == need) (is_pixel (get_or raster i 0)) (is_space (get_or raster i 0)) _ _ _ _ (ne_eqb have need more) other space)
-        ∙ filled.rest);
+          ap (λ at. raster_end need have at (drop (i + 1) raster)) (omega arith)
+          ∙ (sym (ap (raster_end need have (place + i)) (drop_more raster i 0 inside) ∙ third (have == need) (is_pixel (get_or raster i 0)) (is_space (get_or raster i 0)) _ _ _ _ (ne_eqb have need more) other space)
+          ∙ filled.rest);
     }
 
 ended_at_need : (need have at : ℕ) (text : List ℕ) → have ≡ need → raster_end need have at text ≡ Ok at

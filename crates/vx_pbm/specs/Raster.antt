@@ -69,6 +69,7 @@ plain_image text = do
 -- the magic of a raw image, and that of a plain one
 abbrev pub is_raw : List ℕ → Bool
 is_raw text = starts_with nat_eq text (codes "P4")
+
 abbrev pub is_plain : List ℕ → Bool
 is_plain text = starts_with nat_eq text (codes "P1")
 

@@ -12,11 +12,11 @@ mod header;
 mod image;
 mod lent;
 mod plain;
+mod raw;
 mod reader;
 mod step;
-mod raw;
 
 pub use fault::PbmFault;
 pub use image::Image;
-pub use reader::PbmReader;
 pub use raw::write_p4;
+pub use reader::PbmReader;

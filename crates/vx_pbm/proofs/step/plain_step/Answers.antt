@@ -17,7 +17,7 @@ returns-in_err-page c =
 pub returns : goal.returns
 returns c = record {
   first = next_plain c.args.bytes.now c.in_ok-page.page c.in_ok-page.at c.requires.magic c.requires.room c.in_ok-page.ensures.exact
-    ∙ ap (λ (page : Page). Ok (Some (page, unread_from c.args.bytes.now c.in_ok-page.at true))) (sym c.made.ensures);
+      ∙ ap (λ (page : Page). Ok (Some (page, unread_from c.args.bytes.now c.in_ok-page.at true))) (sym c.made.ensures);
   within = c.in_ok-page.ensures.within;
   sized = subst (λ (page : Page). IsSized page.width page.height) (sym c.made.ensures) c.in_ok-page.ensures.sized;
 }

@@ -18,8 +18,8 @@ returns-in_err-page c =
 pub returns : goal.returns
 returns c = record {
   first = next_raw c.args.bytes.now c.in_ok-page.page c.args.at c.in_ok-page.size c.requires.magic c.requires.room
-    (ap (raw_image c.args.at) (sym (take_rest c.args.bytes.now c.args.at)) ∙ sym c.in_ok-page.ensures.exact)
-    ∙ ap (λ (page : Page). Ok (Some (page, unread_from c.args.bytes.now (c.args.at + c.in_ok-page.size) false))) (sym c.lent.ensures);
+      (ap (raw_image c.args.at) (sym (take_rest c.args.bytes.now c.args.at)) ∙ sym c.in_ok-page.ensures.exact)
+      ∙ ap (λ (page : Page). Ok (Some (page, unread_from c.args.bytes.now (c.args.at + c.in_ok-page.size) false))) (sym c.lent.ensures);
   within = (let within = subst (λ text. c.in_ok-page.size ≤ length text) (take_rest c.args.bytes.now c.args.at) c.in_ok-page.ensures.within in omega (arith, within, length-drop c.args.at c.args.bytes.now, c.requires.room));
   sized = subst (λ (page : Page). IsSized page.width page.height) (sym c.lent.ensures) c.in_ok-page.ensures.sized;
 }
