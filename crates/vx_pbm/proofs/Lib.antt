@@ -1,5 +1,7 @@
 pub mod Finds
 pub mod Headers
+pub mod Joins
+pub mod Local
 pub mod Parts
 pub mod Plains
 pub mod Rasters

@@ -16,7 +16,7 @@ header_test : (t : Bool) (header found : Header) (fault : PbmFault) → cond t (
 header_test true header found fault e = cc
 header_test false header found fault e = absurd cc
 
-sized_header : (at : ℕ) (read : Result Header ℕ) (header : Header) → in_size at read ≡ Ok header → read ≡ Ok header
+pub sized_header : (at : ℕ) (read : Result Header ℕ) (header : Header) → in_size at read ≡ Ok header → read ≡ Ok header
 sized_header at (Err place) header e = absurd cc
 sized_header at (Ok found) header e = ap Ok (header_test _ found header (SizeTooLarge found.width found.height) e)
 

@@ -1,10 +1,11 @@
 -- The images of bytes: raw images one after another with nothing between, or one plain image.
-use Rattle.std.specs.Prelude.{◌≡◌, ℕ, zero, suc, ◌+◌, ◌==◌, ◌&&◌, Bool, true, false, not, List, [], ◌∷◌, length, drop, if◌then◌else◌, Option, Some, None, Result, Ok, Err}
-use Rattle.vx_plane.specs.Plane.{Page}
+use Rattle.std.specs.Prelude.{◌≡◌, ℕ, zero, suc, ◌+◌, ◌==◌, ◌&&◌, Bool, true, false, not, List, [], ◌∷◌, ◌++◌, length, drop, if◌then◌else◌, Option, Some, None, option_map, Result, Ok, Err}
+use Rattle.vx_plane.specs.Plane.{Page, page_of, dark_at}
 use Rattle.vx_pbm.specs.declared.fault.PbmFault.{PbmFault}
 use Rattle.vx_pbm.specs.declared.fault.PbmFault.TheVariants.{BadMagic, BadHeader, SizeTooLarge, Truncated, BadPixel, TrailingPlain, OutOfMemory}
 use Rattle.vx_pbm.specs.Header.{◌>>=◌, is_space}
-use Rattle.vx_pbm.specs.Raster.{is_raw, is_plain, raw_image, plain_image}
+use Rattle.vx_pbm.specs.Raster.{is_raw, is_plain, raw_image, plain_image, IsSized}
+use Rattle.vx_pbm.specs.Raw.{p4_of}
 
 -- what of the bytes is unread: the place of its first byte, its text, whether a plain image precedes it
 pub record Unread : Type 0 where
@@ -88,3 +89,35 @@ Walks old (Ok (Some page)) new = images_left old ≡ with_page page (images_left
 Walks old (Ok None) new = images_left old ≡ ended None
 Walks old (Err OutOfMemory) new = images_left new ≡ images_left old
 Walks old (Err fault) new = images_left old ≡ ended (Some fault)
+
+-- a fault of bytes that so many others precede
+abbrev pub moved_fault : ℕ → PbmFault → PbmFault
+moved_fault size (BadMagic at) = BadMagic (size + at)
+moved_fault size (BadHeader at) = BadHeader (size + at)
+moved_fault size (SizeTooLarge width height) = SizeTooLarge width height
+moved_fault size (Truncated have need) = Truncated have need
+moved_fault size (BadPixel at) = BadPixel (size + at)
+moved_fault size (TrailingPlain at) = TrailingPlain (size + at)
+moved_fault size OutOfMemory = OutOfMemory
+
+-- the images of bytes and then those of others behind so many bytes
+abbrev pub followed_by : Images → ℕ → Images → Images
+followed_by first size second = record { pages = first.pages ++ second.pages; fault = option_map (moved_fault size) second.fault }
+
+-- raw images alone that leave the grammar nowhere
+pub record AreRaw (bytes : List ℕ) : Type 0 where
+  pub no_plain : is_plain bytes ≡ false
+  pub whole : (images_of bytes).fault ≡ None
+
+-- raw images, and bytes behind them that don't begin as a plain image does
+abbrev pub JoinsRawImages : Type 0
+JoinsRawImages = (front rest : List ℕ) → AreRaw front → is_plain rest ≡ false → images_of (front ++ rest) ≡ followed_by (images_of front) (length front) (images_of rest)
+
+-- a page that a reader gives: as high and as wide as it says, neither above 4096
+pub record IsWholePage (page : Page) : Type 0 where
+  pub whole : page ≡ page_of page.width page.height (dark_at page)
+  pub sized : IsSized page.width page.height
+
+-- what is written of a page is read as that page alone
+abbrev pub ReadsBack : Type 0
+ReadsBack = (page : Page) → IsWholePage page → images_of (p4_of page) ≡ with_page page (ended None)

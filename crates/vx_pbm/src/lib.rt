@@ -10,13 +10,17 @@
 mod fault;
 mod header;
 mod image;
+mod laws;
 mod lent;
 mod plain;
 mod raw;
 mod reader;
 mod step;
+#[cfg(test)]
+mod tests;
 
 pub use fault::PbmFault;
 pub use image::Image;
+pub use laws::raw_images_join;
 pub use raw::write_p4;
 pub use reader::PbmReader;

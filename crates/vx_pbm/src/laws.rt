@@ -1,0 +1,10 @@
+//! Laws of the images of bytes. These functions do nothing; their contracts are the laws.
+
+ghost use Rattle.vx_pbm.specs.Images.{JoinsRawImages, ReadsBack};
+
+/// Where a text of raw images leaves the grammar nowhere and bytes follow that don't begin as a
+/// plain image does, the images of both are those of the first and then those of the second.
+pub fn raw_images_join()
+    ensures { JoinsRawImages }
+{
+}
