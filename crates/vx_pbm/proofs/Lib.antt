@@ -1,8 +1,10 @@
+pub mod Backs
 pub mod Finds
 pub mod Headers
 pub mod Joins
 pub mod Local
 pub mod Parts
+pub mod Pixels
 pub mod Plains
 pub mod Rasters
 pub mod Steps

@@ -8,3 +8,9 @@ pub fn raw_images_join()
     ensures { JoinsRawImages }
 {
 }
+
+/// What is written of a page with sides of 1 to 4096 pixels is read as that page alone.
+pub fn what_is_written_reads_back()
+    ensures { ReadsBack }
+{
+}
