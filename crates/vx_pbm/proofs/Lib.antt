@@ -9,3 +9,4 @@ pub mod Plains
 pub mod Rasters
 pub mod Steps
 pub mod Walks
+pub mod Whole

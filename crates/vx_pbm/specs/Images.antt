@@ -1,5 +1,5 @@
 -- The images of bytes: raw images one after another with nothing between, or one plain image.
-use Rattle.std.specs.Prelude.{◌≡◌, ℕ, zero, suc, ◌+◌, ◌==◌, ◌&&◌, Bool, true, false, not, List, [], ◌∷◌, ◌++◌, length, drop, if◌then◌else◌, Option, Some, None, option_map, Result, Ok, Err}
+use Rattle.std.specs.Prelude.{◌≡◌, ◌≢◌, ℕ, zero, suc, ◌+◌, ◌==◌, ◌&&◌, Bool, true, false, not, List, [], ◌∷◌, ◌++◌, length, drop, if◌then◌else◌, Option, Some, None, option_map, Result, Ok, Err}
 use Rattle.vx_plane.specs.Plane.{Page, page_of, dark_at}
 use Rattle.vx_pbm.specs.declared.fault.PbmFault.{PbmFault}
 use Rattle.vx_pbm.specs.declared.fault.PbmFault.TheVariants.{BadMagic, BadHeader, SizeTooLarge, Truncated, BadPixel, TrailingPlain, OutOfMemory}
@@ -121,3 +121,17 @@ pub record IsWholePage (page : Page) : Type 0 where
 -- what is written of a page is read as that page alone
 abbrev pub ReadsBack : Type 0
 ReadsBack = (page : Page) → IsWholePage page → images_of (p4_of page) ≡ with_page page (ended None)
+
+-- the pages that a reader gave one after another, from what was unread to what is unread then
+abbrev pub Gave : Unread → List Page → Unread → Type 0
+Gave old [] new = new ≡ old
+Gave old (page ∷ pages) new = (between : Unread) × Steps old (Ok (Some page)) between × Gave between pages new
+
+-- a reader that gave these pages of bytes comes to their end or to a fault: these are their images
+pub record EndsWalk (bytes : List ℕ) (pages : List Page) (unread : Unread) : Type 0 where
+  pub at_end : Steps unread (Ok None) unread → images_of bytes ≡ record { pages = pages; fault = None }
+  pub at_fault : (fault : PbmFault) → fault ≢ OutOfMemory → Steps unread (Err fault) unread → images_of bytes ≡ record { pages = pages; fault = Some fault }
+
+-- a whole walk gives the images of the bytes
+abbrev pub WalksAllImages : Type 0
+WalksAllImages = (bytes : List ℕ) (pages : List Page) (unread : Unread) → Gave (whole bytes) pages unread → EndsWalk bytes pages unread
