@@ -60,6 +60,22 @@ listed_more width height k pixels dark some is =
           ∙ past_or_before pixels dark (v * width + u) (λ h. ne (h ∙ sym is)))
     ])
 
+-- one light pixel more of those that are listed changes nothing
+listed_light : (width height : ℕ) (pixels : List Bool) → page_of width height (listed width pixels) ≡ page_of width height (listed width (pixels ++ false ∷ []))
+listed_light width height pixels =
+    page_of-same width height (listed width pixels) (listed width (pixels ++ false ∷ [])) (λ u v m g.
+    elim (cases_eq (v * width + u) (length pixels)) [
+      | inl e ↦ get_or_past pixels (v * width + u) false (omega arith) ∙ sym (get_or_at pixels false [] false (v * width + u) (sym e))
+      | inr ne ↦ past_or_before pixels false (v * width + u) ne
+    ])
+
+-- the page after a pixel that was made dark where it is
+put_more : (width height k : ℕ) (pixels : List Bool) (dark : Bool) (page after : Page) → 0 < width → k ≡ length pixels → page ≡ page_of width height (listed width pixels) → after ≡ cond dark (page_of page.width page.height (with_pixel (dark_at page) (pos (k % page.width)) (pos (k / page.width)) true)) page → after ≡ page_of width height (listed width (pixels ++ dark ∷ []))
+put_more width height k pixels true page after some is shown e =
+    subst (λ (p : Page). after ≡ page_of p.width p.height (with_pixel (dark_at p) (pos (k % p.width)) (pos (k / p.width)) true)) shown e
+    ∙ listed_more width height k pixels true some is
+put_more width height k pixels false page after some is shown e = e ∙ (shown ∙ listed_light width height pixels)
+
 -- a page that shows the first bytes of a raster, and what is left of it
 pub record Filled (width height place need : ℕ) (raster : List ℕ) (i : ℕ) (page : Page) (have : ℕ) : Type 0 where
   pub page_is : page ≡ page_of width height (listed width (pixels_in (take i raster)))
@@ -68,21 +84,19 @@ pub record Filled (width height place need : ℕ) (raster : List ℕ) (i : ℕ) 
   pub rest : raster_end need have (place + i) (drop i raster) ≡ raster_end need 0 place raster
 
 -- the same with one pixel more
-pub filled_pixel : (width height place need : ℕ) (raster : List ℕ) (i : ℕ) (page after : Page) (have : ℕ) → 0 < width → i < length raster → have ≢ need → is_pixel (get_or raster i 0) ≡ true → Filled width height place need raster i page have → after ≡ page_of page.width page.height (with_pixel (dark_at page) (pos (have % page.width)) (pos (have / page.width)) (get_or raster i 0 == 49)) → Filled width height place need raster (i + 1) after (have + 1)
+pub filled_pixel : (width height place need : ℕ) (raster : List ℕ) (i : ℕ) (page after : Page) (have : ℕ) → 0 < width → i < length raster → have ≢ need → is_pixel (get_or raster i 0) ≡ true → Filled width height place need raster i page have → after ≡ cond (get_or raster i 0 == 49) (page_of page.width page.height (with_pixel (dark_at page) (pos (have % page.width)) (pos (have / page.width)) true)) page → Filled width height place need raster (i + 1) after (have + 1)
 filled_pixel width height place need raster i page after have some inside more pixel filled is =
     let one : pixels_in (take (i + 1) raster) ≡ pixels_in (take i raster) ++ (get_or raster i 0 == 49) ∷ [] =
     pixels_more raster i inside ∙ ap (λ ys. pixels_in (take i raster) ++ map (λ (byte : ℕ). byte == 49) ys) (filter_one (get_or raster i 0) true pixel) in
-    let put : after ≡ page_of width height (with_pixel (dark_at (page_of width height (listed width (pixels_in (take i raster))))) (pos (have % width)) (pos (have / width)) (get_or raster i 0 == 49)) =
-    subst (λ (p : Page). after ≡ page_of p.width p.height (with_pixel (dark_at p) (pos (have % p.width)) (pos (have / p.width)) (get_or raster i 0 == 49))) filled.page_is is in
     record {
-      page_is = put ∙ (listed_more width height have (pixels_in (take i raster)) (get_or raster i 0 == 49) some filled.have_is
-          ∙ ap (λ ps. page_of width height (listed width ps)) (sym one));
+      page_is = put_more width height have (pixels_in (take i raster)) (get_or raster i 0 == 49) page after some filled.have_is filled.page_is is
+        ∙ ap (λ ps. page_of width height (listed width ps)) (sym one);
       have_is = omega (arith, filled.have_is, ap length one, length-append (pixels_in (take i raster)) ((get_or raster i 0 == 49) ∷ []));
       few = omega (arith, filled.few);
       rest =
-          ap (λ at. raster_end need (have + 1) at (drop (i + 1) raster)) (omega arith)
-          ∙ (sym (ap (raster_end need have (place + i)) (drop_more raster i 0 inside) ∙ second (have == need) (is_pixel (get_or raster i 0)) _ _ _ (ne_eqb have need more) pixel)
-          ∙ filled.rest);
+        ap (λ at. raster_end need (have + 1) at (drop (i + 1) raster)) (omega arith)
+        ∙ (sym (ap (raster_end need have (place + i)) (drop_more raster i 0 inside) ∙ second (have == need) (is_pixel (get_or raster i 0)) _ _ _ (ne_eqb have need more) pixel)
+        ∙ filled.rest);
     }
 
 -- the same with whitespace more

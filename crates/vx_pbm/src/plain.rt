@@ -1,4 +1,4 @@
-ghost use Rattle.std.specs.Prelude.{◌≡◌, ◌-◌, ◌*◌, ◌/◌, ◌%◌, ◌+◌, ◌<◌, ◌≤◌, ◌^◌, length, take, pos, IfOk};
+ghost use Rattle.std.specs.Prelude.{◌≡◌, ◌-◌, ◌*◌, ◌/◌, ◌%◌, ◌+◌, ◌<◌, ◌≤◌, ◌^◌, length, take, pos, true, if◌then◌else◌, IfOk};
 ghost use Rattle.vx_plane.specs.Plane.{page_of, dark_at, nowhere, with_pixel};
 ghost use Rattle.vx_pbm.specs.Raster.{is_pixel, raster_end, pixels_in, listed, plain_image, Reads, IsSized};
 
@@ -15,14 +15,16 @@ fn is_pixel(byte: u8) -> bool
     byte == b'0' || byte == b'1'
 }
 
-/// Makes one pixel dark or light, counted row after row.
+/// Makes one pixel dark where it is, counted row after row; else the page stays as it is.
 fn put(page: &mut BitPage, index: u32, dark: bool)
     requires { index < page.old.height * page.old.width }
-    ensures { page.new ≡ page_of page.old.width page.old.height
-        (with_pixel (dark_at page.old) (pos (index % page.old.width)) (pos (index / page.old.width)) dark) }
+    ensures { page.new ≡ (if dark then page_of page.old.width page.old.height
+        (with_pixel (dark_at page.old) (pos (index % page.old.width)) (pos (index / page.old.width)) true) else page.old) }
 {
-    let width = page.width();
-    page.set_dark(index % width, index / width, dark);
+    if dark {
+        let width = page.width();
+        page.set_dark(index % width, index / width, true);
+    }
 }
 
 /// Puts the pixels of a plain raster, which stands at a place of the bytes, on a light page. The
