@@ -1,23 +1,22 @@
 -- What is written of a page is read as that page.
-use Rattle.std.proofs.Common.{◌≡◌, ◌≢◌, ◌+◌, ◌-◌, ◌*◌, ◌<◌, ◌≤◌, ◌==◌, ◌&&◌, ◌||◌, ◌^◌, ℕ, zero, suc, Bool, true, false, cond, List, [], ◌∷◌, ◌++◌, length, take, drop, codes, Option, Some, None, Result, Ok, Err, nat_lt, nat_le, arith, refl, ap, sym, ◌∙◌, subst, length-append, length-drop, append_assoc}
+use Rattle.std.proofs.Common.{◌≡◌, ◌+◌, ◌*◌, ◌<◌, ◌≤◌, ◌==◌, ◌&&◌, ◌||◌, ◌^◌, ℕ, Bool, true, false, cond, List, [], ◌∷◌, ◌++◌, length, take, drop, None, Ok, Err, nat_lt, nat_le, arith, refl, ap, sym, ◌∙◌, length-append, length-drop, append_assoc}
 use Rattle.std.specs.Char.{digit_value, is_ascii_digit}
 use Rattle.std.specs.Fmt.{decimal}
 use Rattle.std.specs.List.{flat_map}
 use Rattle.std.specs.Str.Parse.{digits_value, AllDigits}
 use Rattle.std.proofs.lemmas.Bool.{le-leb, lt-leb, lt-ltb, le-ltb, ne_eqb}
 use Rattle.std.proofs.lemmas.Fmt.{decimal_is_IsNumeral, length-decimal-le}
-use Rattle.std.proofs.lemmas.List.{drop_at, take_at, take_all, drop_all, drop-drop}
+use Rattle.std.proofs.lemmas.List.{drop_at, take_at, take_all, drop-drop}
 use Rattle.std.proofs.lemmas.Str.Parse.{digit_from_value}
-use Rattle.vx_plane.specs.Plane.{Page, page_of, dark_at}
+use Rattle.vx_plane.specs.Plane.{Page}
 use Rattle.vx_bits.specs.Packed.{stride_of, packed_page, packed_row}
 use Rattle.vx_pbm.specs.declared.header.Header.{Header}
-use Rattle.vx_pbm.specs.declared.fault.PbmFault.{PbmFault}
 use Rattle.vx_pbm.specs.declared.fault.PbmFault.TheVariants.{SizeTooLarge, Truncated}
 use Rattle.vx_pbm.specs.Header.{◌>>=◌, is_space, gap_size, digit_count, first_number, begins_with_space, gap_at, number_at, space_at, header_at}
-use Rattle.vx_pbm.specs.Raster.{in_size, raw_raster, raw_image, is_raw, IsSized}
-use Rattle.vx_pbm.specs.Raw.{header_of, p4_of}
+use Rattle.vx_pbm.specs.Raster.{in_size, raw_raster, raw_image, is_raw}
+use Rattle.vx_pbm.specs.Raw.{p4_of}
 use Rattle.vx_pbm.specs.Images.{whole, unread_from, with_page, ended, images_left, images_of, IsWholePage}
-use Rattle.vx_pbm.proofs.Parts.{Parts, header_of_parts}
+use Rattle.vx_pbm.proofs.Parts.{header_of_parts}
 use Rattle.vx_pbm.proofs.Pixels.{raster_length, packed_back}
 use Rattle.vx_pbm.proofs.Steps.{next_raw, next_end}
 use Rattle.vx_pbm.proofs.Walks.{walks_page, walks_end}
@@ -130,17 +129,17 @@ spelled_header w h width height raster a b =
     let fourth : drop (3 + length width + 1 + length height) (spelled_text width height raster) ≡ 10 ∷ raster = dropped_on (length height) (3 + length width + 1) (spelled_text width height raster) height (10 ∷ raster) third refl in
     record {
       read = header_of_parts (spelled_text width height raster) (record { width = w; height = h; size = spelled_size width height }) (record {
-      first_gap = 3;
-      width = (w, 3 + length width);
-      second_gap = 3 + length width + 1;
-      height = (h, 3 + length width + 1 + length height);
-      size = spelled_size width height;
-      first_gap_is = gap_there (spelled_text width height raster) width (32 ∷ (height ++ 10 ∷ raster)) 2 10 refl refl a.all a.some;
-      width_is = number_there (spelled_text width height raster) width (height ++ 10 ∷ raster) 3 w 32 refl a refl;
-      second_gap_is = gap_there (spelled_text width height raster) height (10 ∷ raster) (3 + length width) 32 second refl b.all b.some;
-      height_is = number_there (spelled_text width height raster) height raster (3 + length width + 1) h 10 third b refl;
-      size_is = space_there (spelled_text width height raster) raster (3 + length width + 1 + length height) 10 fourth refl;
-      header_is = refl;
+        first_gap = 3;
+        width = (w, 3 + length width);
+        second_gap = 3 + length width + 1;
+        height = (h, 3 + length width + 1 + length height);
+        size = spelled_size width height;
+        first_gap_is = gap_there (spelled_text width height raster) width (32 ∷ (height ++ 10 ∷ raster)) 2 10 refl refl a.all a.some;
+        width_is = number_there (spelled_text width height raster) width (height ++ 10 ∷ raster) 3 w 32 refl a refl;
+        second_gap_is = gap_there (spelled_text width height raster) height (10 ∷ raster) (3 + length width) 32 second refl b.all b.some;
+        height_is = number_there (spelled_text width height raster) height raster (3 + length width + 1) h 10 third b refl;
+        size_is = space_there (spelled_text width height raster) raster (3 + length width + 1 + length height) 10 fourth refl;
+        header_is = refl;
       });
       rest = dropped_on 1 (3 + length width + 1 + length height) (spelled_text width height raster) (10 ∷ []) raster fourth refl;
     }
@@ -200,5 +199,5 @@ reads_back page is =
     is.sized.width_below is.sized.height_below long in
     ap (λ text. images_left (whole text)) (p4_spelled page)
     ∙ (alone (packed_page page.width page.height (flat_map packed_row page.rows)) (spelled_text (decimal page.width) (decimal page.height) (flat_map packed_row page.rows)) (spelled_size (decimal page.width) (decimal page.height) + page.height * stride_of page.width) refl (omega arith) read
-      (omega (arith, spelled_length (decimal page.width) (decimal page.height) (flat_map packed_row page.rows), long))
+    (omega (arith, spelled_length (decimal page.width) (decimal page.height) (flat_map packed_row page.rows), long))
     ∙ ap (λ p. with_page p (ended None)) (packed_back page is.whole))

@@ -1,5 +1,5 @@
 -- What a step finds, by what was read.
-use Rattle.std.proofs.Common.{◌≡◌, ◌+◌, ◌<◌, ◌≤◌, ℕ, true, false, List, length, drop, Result, Ok, Err, ap, sym, ◌∙◌}
+use Rattle.std.proofs.Common.{◌≡◌, ◌+◌, ◌≤◌, ℕ, true, false, List, length, drop, Err, ap, sym, ◌∙◌}
 use Rattle.vx_plane.specs.Plane.{Page}
 use Rattle.vx_pbm.specs.declared.fault.PbmFault.{PbmFault}
 use Rattle.vx_pbm.specs.declared.fault.PbmFault.TheVariants.{BadMagic, BadHeader, SizeTooLarge, Truncated, BadPixel, TrailingPlain, OutOfMemory}

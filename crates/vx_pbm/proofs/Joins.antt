@@ -1,15 +1,15 @@
 -- Raw images, and other bytes behind them.
-use Rattle.std.proofs.Common.{◌≡◌, ◌≢◌, ◌+◌, ◌-◌, ◌<◌, ◌≤◌, ◌==◌, ◌&&◌, ◌⊎◌, ℕ, zero, suc, Bool, true, false, cond, List, [], ◌∷◌, ◌++◌, length, take, drop, Option, Some, None, Result, Ok, Err, arith, refl, ap, ap₂, sym, ◌∙◌, subst, length-append, length-drop, add_assoc}
+use Rattle.std.proofs.Common.{◌≡◌, ◌≢◌, ◌+◌, ◌<◌, ◌≤◌, ◌==◌, ◌&&◌, ℕ, zero, suc, Bool, true, false, cond, List, [], ◌∷◌, ◌++◌, length, drop, Option, Some, None, Result, Ok, Err, arith, refl, ap, sym, ◌∙◌, length-append, length-drop, add_assoc}
 use Rattle.std.specs.Option.{option_map}
 use Rattle.std.proofs.lemmas.Bool.{ne_eqb, eqb-false}
-use Rattle.std.proofs.lemmas.List.{drop-append-le, take-append-le}
+use Rattle.std.proofs.lemmas.List.{drop-append-le}
 use Rattle.vx_plane.specs.Plane.{Page}
 use Rattle.vx_pbm.specs.declared.fault.PbmFault.{PbmFault}
-use Rattle.vx_pbm.specs.declared.fault.PbmFault.TheVariants.{BadMagic, BadHeader, SizeTooLarge, Truncated, BadPixel, TrailingPlain, OutOfMemory}
+use Rattle.vx_pbm.specs.declared.fault.PbmFault.TheVariants.{BadMagic, BadHeader, SizeTooLarge}
 use Rattle.vx_pbm.specs.declared.header.Header.{Header}
 use Rattle.vx_pbm.specs.Header.{◌>>=◌, header_at}
 use Rattle.vx_pbm.specs.Raster.{in_size, raw_raster, raw_image, is_raw, is_plain}
-use Rattle.vx_pbm.specs.Images.{Unread, step_over, may_be_plain, next_of, Images, with_page, ended, onwards, images_left, images_of, moved_fault, followed_by, AreRaw}
+use Rattle.vx_pbm.specs.Images.{Unread, step_over, next_of, Images, with_page, ended, onwards, images_left, images_of, moved_fault, followed_by, AreRaw}
 use Rattle.vx_pbm.proofs.Steps.{raw_not_plain, and_false}
 use Rattle.vx_pbm.proofs.Local.{raw_more, raw_within}
 use Rattle.vx_pbm.proofs.Walks.{images_step, raw_size}
@@ -153,10 +153,10 @@ moved_images (suc n) size at text small past far =
     ∙ (ap (onwards images_left) (past_next (size + at) text far)
     ∙ (ap (λ r. onwards images_left (cond (length text == 0) (Ok None) (cond (is_raw text) (r >>= step_over (left_at (size + at) text) false) (Err (BadMagic (size + at)))))) (moved_raw size at text)
     ∙ (moved_choice size at text (length text == 0) (is_raw text) (raw_image at text) (λ image is nonempty.
-      let ne : length text ≢ 0 = eqb-false (length text) 0 nonempty in
-      let taken : 0 < image.1 = raw_size at text image is in
-      ap (λ k. images_left (left_at k (drop image.1 text))) (add_assoc size at image.1)
-      ∙ moved_images n size (at + image.1) (drop image.1 text) (omega (arith, length-drop image.1 text)) (past_place (at + image.1) (drop image.1 text) (omega arith)) (past_place (size + (at + image.1)) (drop image.1 text) (omega arith)))
+    let ne : length text ≢ 0 = eqb-false (length text) 0 nonempty in
+    let taken : 0 < image.1 = raw_size at text image is in
+    ap (λ k. images_left (left_at k (drop image.1 text))) (add_assoc size at image.1)
+    ∙ moved_images n size (at + image.1) (drop image.1 text) (omega (arith, length-drop image.1 text)) (past_place (at + image.1) (drop image.1 text) (omega arith)) (past_place (size + (at + image.1)) (drop image.1 text) (omega arith)))
     ∙ sym (ap (moved size) (images_step (left_at at text) ∙ ap (onwards images_left) (past_next at text past))))))
 
 -- raw images, and bytes behind them that don't begin as a plain image does

@@ -1,5 +1,5 @@
 -- A raw image is read alike whatever follows it.
-use Rattle.std.proofs.Common.{◌≡◌, ◌+◌, ◌-◌, ◌*◌, ◌<◌, ◌≤◌, ◌==◌, ◌&&◌, ℕ, zero, suc, Bool, true, false, not, cond, List, [], ◌∷◌, ◌++◌, length, take, drop, Result, Ok, Err, nat_lt, nat_le, arith, refl, ap, sym, ◌∙◌, subst, length-append, length-drop}
+use Rattle.std.proofs.Common.{◌≡◌, ◌+◌, ◌*◌, ◌<◌, ◌≤◌, ◌==◌, ◌&&◌, ℕ, suc, Bool, true, false, not, cond, List, [], ◌∷◌, ◌++◌, length, take, drop, Ok, Err, nat_lt, nat_le, arith, refl, ap, sym, ◌∙◌, length-append, length-drop}
 use Rattle.std.specs.Char.{is_ascii_digit}
 use Rattle.std.specs.Str.Parse.{digits_value}
 use Rattle.std.proofs.lemmas.Bool.{and_parts, ltb-true, ltb-false, le-ltb}
@@ -7,10 +7,10 @@ use Rattle.std.proofs.lemmas.List.{take-append-le, drop-append-le}
 use Rattle.vx_plane.specs.Plane.{Page}
 use Rattle.vx_bits.specs.Packed.{stride_of, packed_page}
 use Rattle.vx_pbm.specs.declared.fault.PbmFault.{PbmFault}
-use Rattle.vx_pbm.specs.declared.fault.PbmFault.TheVariants.{SizeTooLarge, Truncated}
+use Rattle.vx_pbm.specs.declared.fault.PbmFault.TheVariants.{Truncated}
 use Rattle.vx_pbm.specs.declared.header.Header.{Header}
 use Rattle.vx_pbm.specs.Header.{◌>>=◌, is_space, ends_comment, gap_size, digit_count, first_number, begins_with_space, gap_at, number_at, space_at, header_at}
-use Rattle.vx_pbm.specs.Raster.{in_size, raw_raster, raw_image, is_raw}
+use Rattle.vx_pbm.specs.Raster.{in_size, raw_raster, raw_image}
 use Rattle.vx_pbm.proofs.Parts.{Parts, parts_of, header_of_parts, bind_ok}
 use Rattle.vx_pbm.proofs.Walks.{sized_header}
 
@@ -126,17 +126,17 @@ header_more text rest header e =
     let last : p.height.1 < length text = omega (arith, some_bytes (drop p.height.1 text) f.space, length-drop p.height.1 text) in
     let digits : 0 < digit_count (drop p.second_gap text) = ltb-true 0 _ (and_parts _ _ d.some).0 in
     header_of_parts (text ++ rest) header (record {
-    first_gap = p.first_gap;
-    width = p.width;
-    second_gap = p.second_gap;
-    height = p.height;
-    size = p.size;
-    first_gap_is = gap_more text rest 2 p.first_gap p.first_gap_is (omega (arith, a.is, b.end, c.is, d.end)) (omega (arith, b.end, c.is, d.end));
-    width_is = number_more text rest p.first_gap p.width p.width_is (omega (arith, b.end, c.is, d.end)) (omega (arith, c.is, d.end));
-    second_gap_is = gap_more text rest p.width.1 p.second_gap p.second_gap_is (omega (arith, c.is, d.end)) (omega (arith, d.end));
-    height_is = number_more text rest p.second_gap p.height p.height_is (omega (arith, d.end)) last;
-    size_is = space_more text rest p.height.1 p.size p.size_is (omega arith);
-    header_is = p.header_is;
+      first_gap = p.first_gap;
+      width = p.width;
+      second_gap = p.second_gap;
+      height = p.height;
+      size = p.size;
+      first_gap_is = gap_more text rest 2 p.first_gap p.first_gap_is (omega (arith, a.is, b.end, c.is, d.end)) (omega (arith, b.end, c.is, d.end));
+      width_is = number_more text rest p.first_gap p.width p.width_is (omega (arith, b.end, c.is, d.end)) (omega (arith, c.is, d.end));
+      second_gap_is = gap_more text rest p.width.1 p.second_gap p.second_gap_is (omega (arith, c.is, d.end)) (omega (arith, d.end));
+      height_is = number_more text rest p.second_gap p.height p.height_is (omega (arith, d.end)) last;
+      size_is = space_more text rest p.height.1 p.size p.size_is (omega arith);
+      header_is = p.header_is;
     })
 
 pub header_within : (text : List ℕ) (header : Header) → header_at text ≡ Ok header → header.size ≤ length text

@@ -1,5 +1,5 @@
 -- The parts of a header that was read.
-use Rattle.std.proofs.Common.{◌≡◌, ◌+◌, ◌<◌, ◌≤◌, ℕ, Bool, true, false, cond, List, [], ◌∷◌, drop, Result, Ok, Err, arith, refl, ap, sym, ◌∙◌, subst}
+use Rattle.std.proofs.Common.{◌≡◌, ◌+◌, ◌<◌, ℕ, Bool, true, false, cond, List, drop, Result, Ok, Err, arith, refl, ap, sym, ◌∙◌, subst}
 use Rattle.vx_pbm.specs.declared.header.Header.{Header}
 use Rattle.vx_pbm.specs.Header.{◌>>=◌, header_at, gap_at, number_at, space_at, begins_with_space}
 

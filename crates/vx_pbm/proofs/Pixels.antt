@@ -1,13 +1,13 @@
 -- The pixels of packed rows, read back.
-use Rattle.std.proofs.Common.{◌≡◌, ◌+◌, ◌-◌, ◌*◌, ◌/◌, ◌%◌, ◌^◌, ◌<◌, ◌≤◌, ◌==◌, ℕ, zero, suc, Bool, true, false, List, [], ◌∷◌, ◌++◌, length, map, take, get_or, pos, arith, refl, ap, sym, ◌∙◌, length-append}
+use Rattle.std.proofs.Common.{◌≡◌, ◌+◌, ◌-◌, ◌*◌, ◌/◌, ◌%◌, ◌<◌, ◌≤◌, ◌==◌, ℕ, zero, suc, Bool, true, false, List, [], ◌∷◌, length, take, get_or, pos, arith, refl, ap, sym, ◌∙◌, length-append}
 use Rattle.std.specs.Int.{bit_at}
-use Rattle.std.specs.List.{flat_map, range_with_len}
+use Rattle.std.specs.List.{flat_map}
 use Rattle.std.proofs.lemmas.List.{get_or-take, length-take-le}
 use Rattle.std.proofs.lemmas.List.Concat.{get_or-flat_map}
 use Rattle.std.proofs.lemmas.List.FromFn.{length-map-range_with_len, get_or-map-range_with_len}
 use Rattle.vx_plane.specs.Plane.{Page, page_of, dark_at}
 use Rattle.vx_plane.specs.Count.{one_if}
-use Rattle.vx_plane.proofs.Pages.{page_of-same, row_at, length-rows_of}
+use Rattle.vx_plane.proofs.Pages.{page_of-same, row_at}
 use Rattle.vx_bits.specs.Packed.{stride_of, packed_pixel, packed_pixels, packed_page, packed_byte, packed_row}
 use Rattle.vx_pbm.proofs.Rasters.{length-rows}
 

@@ -1,15 +1,15 @@
 -- Laws of one step over an image.
-use Rattle.std.proofs.Common.{◌≡◌, ◌≢◌, ◌+◌, ◌<◌, ◌≤◌, ◌==◌, ◌&&◌, ℕ, zero, suc, Bool, true, false, cond, List, [], ◌∷◌, length, drop, Option, Some, None, Result, Ok, Err, arith, refl, ap, sym, ◌∙◌, subst, zero-add}
-use Rattle.std.proofs.lemmas.Bool.{ne_eqb, eq-eqb, eqb-true, and_parts}
+use Rattle.std.proofs.Common.{◌≡◌, ◌≢◌, ◌+◌, ◌≤◌, ◌==◌, ◌&&◌, ℕ, Bool, true, false, cond, List, [], ◌∷◌, length, drop, Some, None, Result, Ok, Err, arith, refl, ap, ◌∙◌, zero-add}
+use Rattle.std.proofs.lemmas.Bool.{ne_eqb, eq-eqb}
 use Rattle.std.proofs.lemmas.Bool.Decides.{nat_tests}
 use Rattle.std.proofs.lemmas.List.{drop-drop, length-drop}
 use Rattle.vx_plane.specs.Plane.{Page}
 use Rattle.vx_pbm.specs.declared.fault.PbmFault.{PbmFault}
-use Rattle.vx_pbm.specs.declared.fault.PbmFault.TheVariants.{BadMagic, BadHeader, SizeTooLarge, Truncated, BadPixel, TrailingPlain, OutOfMemory}
+use Rattle.vx_pbm.specs.declared.fault.PbmFault.TheVariants.{BadMagic, SizeTooLarge, TrailingPlain, OutOfMemory}
 use Rattle.vx_pbm.specs.declared.header.Header.{Header}
 use Rattle.vx_pbm.specs.Header.{◌>>=◌, header_at}
-use Rattle.vx_pbm.specs.Raster.{in_size, raw_raster, raw_image, plain_image, is_raw, is_plain, Reads}
-use Rattle.vx_pbm.specs.Images.{Unread, unread_from, goes_on, may_be_plain, step_over, next_of}
+use Rattle.vx_pbm.specs.Raster.{in_size, raw_raster, raw_image, plain_image, is_raw, is_plain}
+use Rattle.vx_pbm.specs.Images.{unread_from, goes_on, step_over, next_of}
 
 -- the choices of a step, one after another
 chosen_2 : {X : Type 0} (t u : Bool) (x y z : X) → t ≡ false → u ≡ true → cond t x (cond u y z) ≡ y

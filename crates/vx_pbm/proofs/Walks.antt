@@ -1,5 +1,5 @@
 -- Laws of walks over all images that are left.
-use Rattle.std.proofs.Common.{◌≡◌, ◌≢◌, ◌+◌, ◌-◌, ◌*◌, ◌<◌, ◌≤◌, ◌==◌, ◌&&◌, ◌⊎◌, ℕ, zero, suc, Bool, true, false, cond, List, [], ◌∷◌, length, drop, Option, Some, None, Result, Ok, Err, inl, inr, arith, refl, ap, sym, ◌∙◌, subst, add-one, length-drop}
+use Rattle.std.proofs.Common.{◌≡◌, ◌≢◌, ◌+◌, ◌*◌, ◌<◌, ◌≤◌, ◌==◌, ◌⊎◌, ℕ, zero, suc, Bool, true, false, cond, List, [], ◌∷◌, length, drop, Option, Some, None, Result, Ok, Err, inl, inr, arith, refl, ap, ◌∙◌, add-one, length-drop}
 use Rattle.std.proofs.lemmas.Bool.{eqb-false}
 use Rattle.vx_plane.specs.Plane.{Page}
 use Rattle.vx_bits.specs.Packed.{stride_of}
@@ -7,8 +7,8 @@ use Rattle.vx_pbm.specs.declared.fault.PbmFault.{PbmFault}
 use Rattle.vx_pbm.specs.declared.fault.PbmFault.TheVariants.{BadMagic, BadHeader, SizeTooLarge, Truncated, BadPixel, TrailingPlain, OutOfMemory}
 use Rattle.vx_pbm.specs.declared.header.Header.{Header}
 use Rattle.vx_pbm.specs.Header.{◌>>=◌, header_at, is_space}
-use Rattle.vx_pbm.specs.Raster.{in_size, raw_raster, raw_image, plain_raster, plain_image, raster_end, is_pixel, is_raw, is_plain}
-use Rattle.vx_pbm.specs.Images.{Unread, unread_from, goes_on, may_be_plain, step_over, next_of, Images, with_page, ended, onwards, images_within, images_left, Walks}
+use Rattle.vx_pbm.specs.Raster.{in_size, raw_raster, raw_image, plain_raster, plain_image, raster_end, is_pixel, is_raw}
+use Rattle.vx_pbm.specs.Images.{Unread, goes_on, may_be_plain, step_over, next_of, Images, with_page, ended, onwards, images_within, images_left, Walks}
 use Rattle.vx_pbm.specs.Step.{Finds}
 use Rattle.vx_pbm.proofs.Parts.{bind_ok, header_size}
 

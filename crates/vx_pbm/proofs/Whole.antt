@@ -1,10 +1,10 @@
 -- Whole walks.
-use Rattle.std.proofs.Common.{◌≡◌, ◌≢◌, ℕ, List, [], ◌∷◌, ◌++◌, Option, Some, None, Result, Ok, Err, refl, ap, sym, ◌∙◌}
+use Rattle.std.proofs.Common.{◌≡◌, ◌≢◌, ℕ, List, [], ◌∷◌, ◌++◌, Some, None, Err, refl, ap, sym, ◌∙◌}
 use Rattle.std.proofs.lemmas.List.{append-nil}
 use Rattle.vx_plane.specs.Plane.{Page}
 use Rattle.vx_pbm.specs.declared.fault.PbmFault.{PbmFault}
 use Rattle.vx_pbm.specs.declared.fault.PbmFault.TheVariants.{BadMagic, BadHeader, SizeTooLarge, Truncated, BadPixel, TrailingPlain, OutOfMemory}
-use Rattle.vx_pbm.specs.Images.{Unread, whole, next_of, Images, with_page, ended, onwards, images_left, images_of, Steps, Gave, EndsWalk}
+use Rattle.vx_pbm.specs.Images.{Unread, whole, Images, with_page, ended, onwards, images_left, images_of, Steps, Gave, EndsWalk}
 use Rattle.vx_pbm.proofs.Walks.{images_step, walks_page, walks_end}
 
 -- the pages that a reader gave are the first ones of what was left
@@ -32,9 +32,9 @@ walks_all bytes pages unread gave =
     let first : images_left (whole bytes) ≡ pages_and pages (images_left unread) = gave_first (whole bytes) unread pages gave in
     record {
       at_end = λ e. first
-        ∙ (ap (pages_and pages) (walks_end unread e.0)
-        ∙ ap (λ ps. record { pages = ps; fault = None }) (append-nil pages));
+          ∙ (ap (pages_and pages) (walks_end unread e.0)
+          ∙ ap (λ ps. record { pages = ps; fault = None }) (append-nil pages));
       at_fault = λ fault other e. first
-        ∙ (ap (pages_and pages) (fault_left unread fault other e)
-        ∙ ap (λ ps. record { pages = ps; fault = Some fault }) (append-nil pages));
+          ∙ (ap (pages_and pages) (fault_left unread fault other e)
+          ∙ ap (λ ps. record { pages = ps; fault = Some fault }) (append-nil pages));
     }

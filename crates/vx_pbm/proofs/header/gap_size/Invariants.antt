@@ -1,4 +1,4 @@
-use Rattle.std.proofs.Common.{◌≡◌, ◌+◌, ◌≤◌, drop, length, false}
+use Rattle.std.proofs.Common.{◌≡◌, ◌+◌, drop, false}
 use Rattle.vx_pbm.specs.Header.{gap_size}
 use Rattle.vx_pbm.proofs.header.gap_size.Given as goal
 

@@ -1,4 +1,4 @@
-use Rattle.std.proofs.Common.{arith, length}
+use Rattle.std.proofs.Common.{arith}
 use Rattle.vx_pbm.proofs.Headers.{OneDigitMore, one_digit_more}
 use Rattle.vx_pbm.proofs.header.number_of.Goals as goal
 

@@ -1,4 +1,4 @@
-use Rattle.std.proofs.Common.{◌≡◌, ap₂, ◌∙◌}
+use Rattle.std.proofs.Common.{ap₂, ◌∙◌}
 use Rattle.vx_bits.specs.Packed.{packed_page}
 use Rattle.vx_pbm.proofs.image.again.Goals as goal
 

@@ -1,6 +1,5 @@
-use Rattle.std.proofs.Common.{◌≡◌, ◌≢◌, ◌<◌, ◌*◌, ◌+◌, ℕ, Ok, ap₂, arith, sym, subst, ◌∙◌}
+use Rattle.std.proofs.Common.{◌*◌, ◌+◌, ℕ, ap₂, arith, sym, subst, ◌∙◌}
 use Rattle.vx_plane.specs.Plane.{Page}
-use Rattle.vx_pbm.specs.Raster.{raster_end}
 use Rattle.vx_pbm.proofs.Plains.{Filled, filled_pixel, filled_space, whole_raster}
 use Rattle.vx_pbm.proofs.plain.fill.Goals as goal
 use Rattle.vx_pbm.proofs.plain.fill.Goals.{then-is_pixel, else-is_pixel+else-not-is_space}

@@ -1,4 +1,4 @@
-use Rattle.std.proofs.Common.{◌≡◌, ◌++◌, length, take, ℕ, List}
+use Rattle.std.proofs.Common.{◌≡◌, ◌++◌, take}
 use Rattle.std.specs.List.{flat_map}
 use Rattle.vx_bits.specs.Packed.{packed_row}
 use Rattle.vx_pbm.specs.Raw.{header_of}

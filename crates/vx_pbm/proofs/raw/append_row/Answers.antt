@@ -1,4 +1,4 @@
-use Rattle.std.proofs.Common.{◌≡◌, ◌++◌, ◌<◌, ◌%◌, ◌*◌, ◌^◌, ◌+◌, ◌-◌, List, ℕ, length, take, get_or, [], ◌∷◌, arith, ap, sym, refl, rules, ◌∙◌, append_assoc, bit_and}
+use Rattle.std.proofs.Common.{◌≡◌, ◌++◌, ◌<◌, ◌%◌, ◌*◌, ◌^◌, ◌-◌, ℕ, length, take, get_or, [], ◌∷◌, arith, ap, sym, refl, rules, ◌∙◌, append_assoc, bit_and}
 use Rattle.vx_bits.specs.Packed.{packed_row, unpacked}
 use Rattle.vx_bits.proofs.Packing.{packed_row-whole, packed_row-padded}
 use Rattle.vx_pbm.proofs.raw.append_row.Goals as goal

@@ -1,4 +1,4 @@
-use Rattle.std.proofs.Common.{◌≡◌, ◌≢◌, ◌==◌, ◌&&◌, true, false, length, drop, arith, ap, sym, ◌∙◌}
+use Rattle.std.proofs.Common.{◌==◌, ◌&&◌, true, false, length, drop, ap, sym, ◌∙◌}
 use Rattle.std.proofs.lemmas.Bool.{ne_eqb, eqb-true, eqb-false}
 use Rattle.std.proofs.lemmas.List.{take_rest}
 use Rattle.vx_pbm.specs.Images.{goes_on}

@@ -1,7 +1,7 @@
-use Rattle.std.proofs.Common.{◌≡◌, true, false, Ok, Err, Some, ap, sym, subst, ◌∙◌}
+use Rattle.std.proofs.Common.{true, false, Ok, Err, Some, ap, sym, subst, ◌∙◌}
 use Rattle.std.proofs.lemmas.Result.{err_from_is_err_and}
 use Rattle.vx_plane.specs.Plane.{Page}
-use Rattle.vx_pbm.specs.Images.{unread_from, next_of}
+use Rattle.vx_pbm.specs.Images.{unread_from}
 use Rattle.vx_pbm.specs.Raster.{IsSized}
 use Rattle.vx_pbm.specs.Step.{Finds}
 use Rattle.vx_pbm.proofs.Finds.{finds_plain_fault}

@@ -1,8 +1,8 @@
-use Rattle.std.proofs.Common.{◌≡◌, ◌+◌, ◌≤◌, length, drop, true, false, Ok, Err, Some, ap, sym, subst, ◌∙◌, arith, length-drop}
+use Rattle.std.proofs.Common.{◌+◌, ◌≤◌, length, false, Ok, Err, Some, ap, sym, subst, ◌∙◌, arith, length-drop}
 use Rattle.std.proofs.lemmas.List.{take_rest}
 use Rattle.std.proofs.lemmas.Result.{err_from_is_err_and}
 use Rattle.vx_plane.specs.Plane.{Page}
-use Rattle.vx_pbm.specs.Images.{unread_from, next_of}
+use Rattle.vx_pbm.specs.Images.{unread_from}
 use Rattle.vx_pbm.specs.Raster.{IsSized, raw_image}
 use Rattle.vx_pbm.specs.Step.{Finds}
 use Rattle.vx_pbm.proofs.Finds.{finds_raw_fault}

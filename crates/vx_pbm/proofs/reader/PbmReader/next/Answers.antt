@@ -1,8 +1,7 @@
-use Rattle.std.proofs.Common.{◌≡◌, Ok, Err, Some, None, ap, sym, subst, ◌∙◌}
+use Rattle.std.proofs.Common.{◌≡◌, Err, None, ap, sym, subst, ◌∙◌}
 use Rattle.std.proofs.lemmas.Result.{err_from_is_err_and}
-use Rattle.vx_plane.specs.Plane.{Page}
-use Rattle.vx_pbm.specs.Images.{Unread, unread_from, next_of, images_left, with_page, ended, Walks}
-use Rattle.vx_pbm.specs.Step.{Finds, StepsOver}
+use Rattle.vx_pbm.specs.Images.{Unread, unread_from, images_left, with_page, ended, Walks}
+use Rattle.vx_pbm.specs.Step.{StepsOver}
 use Rattle.vx_pbm.proofs.Walks.{walks_page, walks_end, walks_fault}
 use Rattle.vx_pbm.proofs.reader.PbmReader.next.Goals as goal
 
