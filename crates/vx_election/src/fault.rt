@@ -5,6 +5,7 @@ ghost use Rattle.vx_election.specs.declared.fault.ElectionFault.TheVariants.{Out
 ghost use Rattle.vx_election.specs.Faults.{fault_of};
 
 use std::alloc::AllocFailed;
+use std::fmt;
 use vx_bits::OutOfMemory as AllocError;
 use vx_json::{JsonFault, Path, Text};
 
@@ -59,5 +60,28 @@ impl<T: Drop> From<AllocFailed<T>> for ElectionFault {
 
     fn from(_e: AllocFailed<T>) -> ElectionFault {
         ElectionFault::OutOfMemory
+    }
+}
+
+/// The fault's number, and its values with blanks between.
+impl fmt::Display for ElectionFault {
+    ghost use Rattle.std.specs.Prelude.{Some};
+    ghost use Rattle.vx_election.specs.FaultTexts.{text_of};
+
+    ghost output = { λ fault. Some (text_of fault) };
+
+    fn fmt<W: fmt::Write>(&self, f: &mut fmt::Formatter<W>) -> fmt::Result {
+        match self {
+            ElectionFault::NotJson => f.write_str("1"),
+            ElectionFault::Missing(path) => write!(f, "2 {}", path.as_str()),
+            ElectionFault::WrongKind(path) => write!(f, "3 {}", path.as_str()),
+            ElectionFault::OutOfRange(path) => write!(f, "4 {}", path.as_str()),
+            ElectionFault::RepeatedId(path, id) => write!(f, "5 {} {}", path.as_str(), id.as_str()),
+            ElectionFault::UnknownId(path, id) => write!(f, "6 {} {}", path.as_str(), id.as_str()),
+            ElectionFault::BadThresholds(marg, def) => write!(f, "7 {marg} {def}"),
+            ElectionFault::TooMany(path, count) => write!(f, "8 {} {count}", path.as_str()),
+            ElectionFault::TooManyCards(count) => write!(f, "9 {count}"),
+            ElectionFault::OutOfMemory => f.write_str("out of memory"),
+        }
     }
 }
