@@ -1,8 +1,9 @@
 -- The numbers of the statuses, and what the program says of them.
 use Rattle.std.specs.Prelude.{ℕ, List, ◌++◌, ◌∷◌, codes}
 use Rattle.std.specs.Fmt.{decimal}
+use Rattle.vx_election.specs.FaultTexts.{text_of}
 use Rattle.vx_app.specs.declared.status.Status.{Status}
-use Rattle.vx_app.specs.declared.status.Status.TheVariants.{Ok, Usage, NoInput, TooLong, ReadFault, WriteFault, NoMemory}
+use Rattle.vx_app.specs.declared.status.Status.TheVariants.{Ok, Usage, NoInput, TooLong, Election, ReadFault, WriteFault, NoMemory}
 
 -- the number that the program ends with
 abbrev pub number_of : Status → ℕ
@@ -10,6 +11,7 @@ number_of Ok = 0
 number_of Usage = 1
 number_of (NoInput word) = 2
 number_of (TooLong word size) = 3
+number_of (Election fault) = 4
 number_of ReadFault = 10
 number_of WriteFault = 11
 number_of NoMemory = 13
@@ -20,6 +22,7 @@ line_of Ok = codes "ok"
 line_of Usage = codes "usage"
 line_of (NoInput word) = codes "no input " ++ decimal word
 line_of (TooLong word size) = codes "too long " ++ decimal word ++ 32 ∷ decimal size
+line_of (Election fault) = codes "election " ++ text_of fault
 line_of ReadFault = codes "read fault"
 line_of WriteFault = codes "write fault"
 line_of NoMemory = codes "no memory"
