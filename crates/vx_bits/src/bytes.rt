@@ -1,4 +1,4 @@
-ghost use Rattle.std.specs.Prelude.{◌≡◌, ◌==◌, ◌++◌, ◌∷◌, [], length, if◌then◌else◌, is_ok, IfOk};
+ghost use Rattle.std.specs.Prelude.{◌≡◌, ◌==◌, ◌++◌, ◌∷◌, [], length, take, if◌then◌else◌, is_ok, IfOk};
 
 use std::alloc::{AllocError, Global};
 use std::marker::Model;
@@ -91,6 +91,13 @@ impl Bytes {
         ensures { self.new ≡ (if is_ok result then self.old ++ more.now else self.old) }
     {
         self.items.extend_from_slice(more)
+    }
+
+    /// Forgets the bytes from place `len` on and keeps their room.
+    pub fn truncate(&mut self, len: usize)
+        ensures { self.new ≡ take len self.old }
+    {
+        self.items.truncate(len);
     }
 
     /// Forgets all bytes and keeps their room.

@@ -1,5 +1,5 @@
 -- Places of a scan, and the windows where what was printed is looked for.
-use Rattle.std.specs.Prelude.{ℕ, ℤ, pos, ◌+ℤ◌, ◌-ℤ◌, ◌≤ℤ◌}
+use Rattle.std.specs.Prelude.{◌≡◌, ℕ, ℤ, pos, ◌+ℤ◌, ◌-ℤ◌, ◌≤ℤ◌, List, Some, slice_get, slice_index_or}
 use Rattle.vx_grid.specs.declared.places.Point.{Point}
 use Rattle.vx_grid.specs.declared.places.Rect.{Rect}
 
@@ -15,3 +15,16 @@ bubble_window_of p = record { left = p.u -ℤ pos 28; top = p.v -ℤ pos 19; wid
 -- the box of the page code, at offsets -14 to 13 and -10 to 9, grown by 8 columns and 6 rows
 abbrev pub code_window_of : Point → Rect
 code_window_of p = record { left = p.u -ℤ pos 22; top = p.v -ℤ pos 16; width = 44; height = 32 }
+
+-- a point within n of the origin in both coordinates
+pub record IsPointWithin (n : ℕ) (p : Point) : Type 0 where
+  pub u : IsWithin n p.u
+  pub v : IsWithin n p.v
+
+-- every point of a list lies within n of the origin
+abbrev pub AreWithin : ℕ → List Point → Type 0
+AreWithin n places = (k : ℕ) (p : Point) → slice_get places k ≡ Some p → IsPointWithin n p
+
+-- the point at an index of a list
+abbrev pub point_at : List Point → ℕ → Point
+point_at places k = slice_index_or places k (record { u = pos 0; v = pos 0 })

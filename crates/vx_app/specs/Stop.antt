@@ -1,0 +1,25 @@
+-- Why a text wasn't written whole.
+use Rattle.std.specs.Prelude.{◌≡◌, ℕ}
+use Rattle.vx_io.specs.Outside.{Rose}
+use Rattle.vx_app.specs.declared.pages.Stop.{Stop}
+use Rattle.vx_app.specs.declared.pages.Stop.TheVariants.{WriteFault, NoMemory}
+use Rattle.vx_io.specs.declared.taking.TakeFault.{TakeFault}
+use Rattle.vx_io.specs.declared.taking.TakeFault.TheVariants as take
+use Rattle.vx_app.specs.declared.status.Status.{Status}
+use Rattle.vx_app.specs.declared.status.Status.TheVariants as answer
+
+-- a write fault shows in the sink's count
+abbrev pub HasStopCause : ℕ → ℕ → Stop → Type 0
+HasStopCause before now stop = stop ≡ WriteFault → Rose before now
+
+-- the status of a text that wasn't written whole
+abbrev pub stop_status_of : Stop → Status
+stop_status_of WriteFault = answer.WriteFault
+stop_status_of NoMemory = answer.NoMemory
+
+-- the status of an input that wasn't taken
+abbrev pub taking_status_of : ℕ → TakeFault → Status
+taking_status_of word take.Failed = answer.ReadFault
+taking_status_of word take.NoInput = answer.NoInput word
+taking_status_of word (take.TooLong size) = answer.TooLong word size
+taking_status_of word take.OutOfMemory = answer.NoMemory

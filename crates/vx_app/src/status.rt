@@ -1,0 +1,60 @@
+ghost use Rattle.std.specs.Prelude.{◌≡◌};
+ghost use Rattle.vx_app.specs.Status.{number_of};
+
+use std::fmt;
+
+/// What a command answers. Words are counted from 0.
+#[derive(Clone, Copy, Debug, PartialEq, Eq)]
+pub enum Status {
+    /// The command did its work.
+    Ok,
+    /// The words aren't a command.
+    Usage,
+    /// The inputs hold nothing under that word.
+    NoInput(u32),
+    /// That input has so many bytes, more than the limit.
+    TooLong(u32, u64),
+    /// The inputs failed.
+    ReadFault,
+    /// The sink failed.
+    WriteFault,
+    /// There was no memory.
+    NoMemory,
+}
+
+impl Status {
+    /// The number that the program ends with.
+    pub fn number(&self) -> u8
+        ensures { result ≡ number_of self.now }
+    {
+        match self {
+            Status::Ok => 0,
+            Status::Usage => 1,
+            Status::NoInput(_) => 2,
+            Status::TooLong(_, _) => 3,
+            Status::ReadFault => 10,
+            Status::WriteFault => 11,
+            Status::NoMemory => 13,
+        }
+    }
+}
+
+/// What the program says on standard error after its name.
+impl fmt::Display for Status {
+    ghost use Rattle.std.specs.Prelude.{Some};
+    ghost use Rattle.vx_app.specs.Status.{line_of};
+
+    ghost output = { λ status. Some (line_of status) };
+
+    fn fmt<W: fmt::Write>(&self, f: &mut fmt::Formatter<W>) -> fmt::Result {
+        match self {
+            Status::Ok => f.write_str("ok"),
+            Status::Usage => f.write_str("usage"),
+            Status::NoInput(word) => write!(f, "no input {word}"),
+            Status::TooLong(word, size) => write!(f, "too long {word} {size}"),
+            Status::ReadFault => f.write_str("read fault"),
+            Status::WriteFault => f.write_str("write fault"),
+            Status::NoMemory => f.write_str("no memory"),
+        }
+    }
+}

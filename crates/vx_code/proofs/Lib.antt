@@ -1,0 +1,5 @@
+pub mod Numbers
+pub mod Fields
+pub mod Pairs
+pub mod Tags
+pub mod Readings

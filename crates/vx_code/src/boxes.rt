@@ -1,0 +1,38 @@
+ghost use Rattle.std.specs.Prelude.{◌<◌, ◌≡◌, ◌≤◌, ◌+◌, ◌*◌, ◌-◌, ℕ};
+ghost use Rattle.vx_code.specs.Code as page_code;
+ghost use Rattle.vx_code.specs.Code.{IsInRange};
+ghost use Rattle.vx_code.specs.declared.code.PageCode.{PageCode};
+
+use crate::code::{PageCode, number_of};
+
+/// Which boxes are printed for a code: index `2 * n` is the left box of pair `n`, printed where bit
+/// `n` is 0, and the next index its right box.
+pub fn boxes_of(code: &PageCode) -> [bool; 84]
+    requires { IsInRange code.now }
+    ensures exact { result ≡ page_code.boxes_of code.now }
+    // Two codes with the same boxes are one.
+    ensures distinct { (other : PageCode) → IsInRange other → page_code.boxes_of other ≡ result
+        → other ≡ code.now }
+{
+    let number = number_of(code);
+    let mut boxes = [false; 84];
+    for n in 0..42 {
+        let bit = (number >> (41 - n)) % 2 == 1;
+        boxes[2 * n] = !bit;
+        boxes[2 * n + 1] = bit;
+    }
+    boxes
+}
+
+/// The grid column and row of a box, 0 to 83.
+pub fn place_of_box(index: u32) -> (u32, u32)
+    requires { index < 84 }
+    ensures exact { result ≡ page_code.place_of_box index }
+    ensures columns { (3 ≤ result.0) × (result.0 ≤ 30) }
+    ensures rows { (35 ≤ result.1) × (result.1 ≤ 37) }
+    // Each box has a place of its own.
+    ensures distinct { index ≡ 28 * (result.1 - 35) + (result.0 - 3) }
+{
+    let pair = index / 2;
+    (3 + 2 * (pair % 14) + index % 2, 35 + pair / 14)
+}

@@ -1,0 +1,69 @@
+ghost use Rattle.vx_code.specs.Code.{IsInRange};
+
+use super::*;
+use std::test::Fail;
+use vx_grid::Kind;
+
+// The SHA-256 of the three bytes `abc`.
+const DIGEST: [u8; 32] = [
+    0xba, 0x78, 0x16, 0xbf, 0x8f, 0x01, 0xcf, 0xea, 0x41, 0x41, 0x40, 0xde, 0x5d, 0xae, 0x22, 0x23,
+    0xb0, 0x03, 0x61, 0xa3, 0x96, 0x17, 0x7a, 0x9c, 0xb4, 0x10, 0xff, 0x61, 0xf2, 0x00, 0x15, 0xad,
+];
+
+// Live, absentee, card 5, page 3 and the tag of `DIGEST`.
+const CODE: PageCode = PageCode {
+    version: 1,
+    test: false,
+    kind: Kind::Absentee,
+    card: 5,
+    page: 3,
+    tag: 0xba781,
+};
+
+// The counts of dark pixels of the boxes of `code`: `dark` where a box is printed, else `blank`.
+fn counts_of(code: &PageCode, dark: u32, blank: u32) -> [u32; 84]
+    requires { IsInRange code.now }
+{
+    boxes_of(code).map(|printed| if printed { dark } else { blank })
+}
+
+#[test]
+fn a_code_is_printed_and_read(rt: HostRuntime) {
+    assert_eq!(rt; tag_of(&DIGEST), 0xba781);
+    assert_eq!(rt; number_of(&CODE), 618_814_744_449);
+    let bits = b"001001000000010100001110111010011110000001";
+    let boxes = boxes_of(&CODE);
+    for n in 0..42 {
+        assert_eq!(rt; boxes[2 * n], bits[n] == b'0', "left box of pair {n}");
+        assert_eq!(rt; boxes[2 * n + 1], bits[n] == b'1', "right box of pair {n}");
+    }
+    assert_eq!(rt; read_boxes(&counts_of(&CODE, 560, 0)), Ok(CODE));
+    assert_eq!(rt; read_boxes(&counts_of(&CODE, 400, 160)), Ok(CODE));
+}
+
+#[test]
+fn other_counts_are_refused(rt: HostRuntime) {
+    let mut counts = counts_of(&CODE, 560, 0);
+    counts[0] = 560;
+    counts[1] = 560;
+    assert_eq!(rt; read_boxes(&counts), Err(CodeFault::BadPair(0, 560, 560)));
+    let second = PageCode { version: 2, ..CODE };
+    counts = counts_of(&second, 560, 0);
+    assert_eq!(rt; read_boxes(&counts), Err(CodeFault::BadVersion(2)));
+    counts[82] = 161;
+    counts[83] = 399;
+    assert_eq!(rt; read_boxes(&counts), Err(CodeFault::BadPair(41, 161, 399)));
+}
+
+#[test]
+fn boxes_stand_in_three_rows(rt: HostRuntime) {
+    for (index, place) in [
+        (0, (3, 35)),
+        (1, (4, 35)),
+        (27, (30, 35)),
+        (28, (3, 36)),
+        (83, (30, 37)),
+    ] {
+        assert_eq!(rt; place_of_box(index), place, "box {index}");
+    }
+}

@@ -1,0 +1,57 @@
+use Rattle.std.proofs.Common.{ℤ, pos, ◌-ℤ◌, ◌+ℤ◌, ◌≤ℤ◌, subst, sym, arith, rules, ap, ◌∙◌, ◌≡◌, to_z, of_z, w32, ◌+◌}
+use Rattle.std.proofs.lemmas.Int.{ints}
+use Rattle.std.proofs.lemmas.Option.{get_or_from_slice_get}
+use Rattle.vx_grid.specs.declared.places.Point.{Point}
+use Rattle.vx_grid.specs.Places.{IsWithin, IsPointWithin, point_at}
+use Rattle.vx_fit.specs.Fit.{left_mark, right_mark, between, place_between}
+use Rattle.vx_fit.proofs.fit.place.Goals as goal
+
+same_within : (z w : ℤ) → w ≡ z → IsWithin 9000 z → IsWithin 9000 w
+same_within z w e h = let Within : ℤ → Type 0 = λ x. IsWithin 9000 x in subst Within (sym e) h
+
+same_point : (u v x y : ℤ) → u ≡ x → v ≡ y → ◌≡◌ {A = Point} (record { u = u; v = v }) (record { u = x; v = y })
+same_point u v x y e f =
+    ap (λ z. let p : Point = record { u = z; v = v } in p) e ∙ ap (λ z. let p : Point = record { u = x; v = z } in p) f
+
+pub between-requires-clause-a : goal.between-requires-clause-a
+between-requires-clause-a c =
+    let p : IsPointWithin 9000 c.at-left.result = c.requires.border c.left_mark.result c.at-left.result c.at-left.ensures.place in
+    same_within c.at-left.result.u _ (omega (arith, ints, p.u.low, p.u.high)) p.u
+
+pub between-requires-clause-b : goal.between-requires-clause-b
+between-requires-clause-b c =
+    let p : IsPointWithin 9000 c.at-right.result = c.requires.border _ c.at-right.result c.at-right.ensures.place in
+    same_within c.at-right.result.u _ (omega (arith, ints, p.u.low, p.u.high)) p.u
+
+pub between-requires-2-clause-a : goal.between-requires-2-clause-a
+between-requires-2-clause-a c =
+    let p : IsPointWithin 9000 c.at-left.result = c.requires.border c.left_mark.result c.at-left.result c.at-left.ensures.place in
+    same_within c.at-left.result.v _ (omega (arith, ints, p.v.low, p.v.high)) p.v
+
+pub between-requires-2-clause-b : goal.between-requires-2-clause-b
+between-requires-2-clause-b c =
+    let p : IsPointWithin 9000 c.at-right.result = c.requires.border _ c.at-right.result c.at-right.ensures.place in
+    same_within c.at-right.result.v _ (omega (arith, ints, p.v.low, p.v.high)) p.v
+
+pub returns-clause-value : goal.returns-clause-value
+returns-clause-value c =
+    let origin : Point = record { u = pos 0; v = pos 0 } in
+    let left : point_at c.args.border.now (left_mark c.args.row) ≡ c.at-left.result =
+    ap (point_at c.args.border.now) (sym c.left_mark.ensures.value) ∙ get_or_from_slice_get c.args.border.now c.left_mark.result c.at-left.result origin c.at-left.ensures.place in
+    let right : point_at c.args.border.now (right_mark c.args.row) ≡ c.at-right.result =
+    get_or_from_slice_get c.args.border.now (33 + c.args.row) c.at-right.result origin c.at-right.ensures.place in
+    let p : IsPointWithin 9000 c.at-left.result = c.requires.border c.left_mark.result c.at-left.result c.at-left.ensures.place in
+    let q : IsPointWithin 9000 c.at-right.result = c.requires.border (33 + c.args.row) c.at-right.result c.at-right.ensures.place in
+    let lu : to_z w32 (of_z w32 c.at-left.result.u) ≡ c.at-left.result.u = omega (arith, ints, p.u.low, p.u.high) in
+    let lv : to_z w32 (of_z w32 c.at-left.result.v) ≡ c.at-left.result.v = omega (arith, ints, p.v.low, p.v.high) in
+    let ru : to_z w32 (of_z w32 c.at-right.result.u) ≡ c.at-right.result.u = omega (arith, ints, q.u.low, q.u.high) in
+    let rv : to_z w32 (of_z w32 c.at-right.result.v) ≡ c.at-right.result.v = omega (arith, ints, q.v.low, q.v.high) in
+    let bu : to_z w32 (of_z w32 c.between.result) ≡ c.between.result = omega (arith, ints, c.between.ensures.bound.low, c.between.ensures.bound.high) in
+    let bv : to_z w32 (of_z w32 c.between-2.result) ≡ c.between-2.result = omega (arith, ints, c.between-2.ensures.bound.low, c.between-2.ensures.bound.high) in
+    let u : to_z w32 (of_z w32 c.between.result) ≡ between c.at-left.result.u c.at-right.result.u c.args.col =
+    bu ∙ (c.between.ensures.value ∙ (ap (λ z. between z (to_z w32 (of_z w32 c.at-right.result.u)) c.args.col) lu ∙ ap (λ z. between c.at-left.result.u z c.args.col) ru)) in
+    let v : to_z w32 (of_z w32 c.between-2.result) ≡ between c.at-left.result.v c.at-right.result.v c.args.col =
+    bv ∙ (c.between-2.ensures.value ∙ (ap (λ z. between z (to_z w32 (of_z w32 c.at-right.result.v)) c.args.col) lv ∙ ap (λ z. between c.at-left.result.v z c.args.col) rv)) in
+    same_point _ _ _ _ u v
+    ∙ (ap (λ (x : Point). place_between x c.at-right.result c.args.col) (sym left)
+    ∙ ap (λ (x : Point). place_between (point_at c.args.border.now (left_mark c.args.row)) x c.args.col) (sym right))

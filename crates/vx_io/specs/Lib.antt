@@ -1,0 +1,4 @@
+pub mod Fakes
+pub mod Keeping
+pub mod Outside
+pub mod Take

@@ -1,0 +1,76 @@
+-- What the outside holds, told or not told, and when it may refuse a call.
+use Rattle.std.specs.Prelude.{◌≡◌, ◌⊎◌, ◌+◌, ◌-◌, ◌^◌, ◌<◌, ◌≤◌, ℕ, List, [], ◌∷◌, ◌++◌, length, take, drop, min, Option, None, Some, Result, Err, MatchOption, IfSome, IsErr, slice_get}
+use Rattle.std.specs.Option.{option_map}
+use Rattle.vx_io.specs.declared.outside.KeeperError.{KeeperError}
+use Rattle.vx_io.specs.declared.outside.KeeperError.TheVariants.{Failed}
+
+-- the bytes under each name
+abbrev pub Files : Type 0
+Files = List ℕ → Option (List ℕ)
+
+-- a count of faults has risen, or stands at its last value
+abbrev pub Rose : ℕ → ℕ → Type 0
+Rose before now = min (before + 1) (2 ^ 64 - 1) ≤ now
+
+-- a count of faults never falls, and a refusal shows in it
+pub record HasCause {T E : Type 0} (before now : ℕ) (result : Result T E) : Type 0 where
+  pub later : before ≤ now
+  pub failed : IsErr result → Rose before now
+
+-- the same of a keeper, whose want of memory is no fault
+pub record HasKeeperCause {T : Type 0} (before now : ℕ) (result : Result T KeeperError) : Type 0 where
+  pub later : before ≤ now
+  pub failed : result ≡ Err Failed → Rose before now
+
+-- an answer to the question for a size
+abbrev pub IsSizeOf : Option Files → List ℕ → Option ℕ → Type 0
+IsSizeOf told name answer = IfSome told (λ files. answer ≡ option_map length (files name))
+
+-- where contents are told, something is held under the name and the place is inside it
+abbrev pub IsThere : Option Files → List ℕ → ℕ → Type 0
+IsThere told name at =
+    (files : Files) → told ≡ Some files → (bytes : List ℕ) × (files name ≡ Some bytes) × (at < length bytes)
+
+-- where contents are told, a piece is what is held under the name from the place on
+abbrev pub ReadsFrom : Option Files → List ℕ → ℕ → List ℕ → Type 0
+ReadsFrom told name at piece =
+    IfSome told (λ files. IfSome (files name) (λ bytes. piece ≡ take (length piece) (drop at bytes)))
+
+-- a list begins another
+pub record IsPrefix (front whole : List ℕ) : Type 0 where
+  pub rest : List ℕ
+  pub is : whole ≡ front ++ rest
+
+-- a sink has taken the text, where it tells; whether it tells doesn't change
+abbrev pub Took : Option (List ℕ) → Option (List ℕ) → List ℕ → Type 0
+Took old new text = MatchOption old (new ≡ None) (λ before. new ≡ Some (before ++ text))
+
+-- a sink has taken some front of the text
+pub record TookFront (old new : Option (List ℕ)) (text : List ℕ) : Type 0 where
+  pub front : List ℕ
+  pub took : Took old new front
+  pub is_prefix : IsPrefix front text
+
+-- a sink has taken the first so many bytes of a piece
+abbrev pub TookPiece : Option (List ℕ) → Option (List ℕ) → List ℕ → ℕ → Type 0
+TookPiece old new piece count = Took old new (take count piece)
+
+-- where records are told, there are so many
+abbrev pub IsCountOf : Option (List (List ℕ)) → ℕ → Type 0
+IsCountOf told count = IfSome told (λ records. count ≡ length records)
+
+-- where records are told, there is one at the index
+abbrev pub IsIndexOf : Option (List (List ℕ)) → ℕ → Type 0
+IsIndexOf told index = (records : List (List ℕ)) → told ≡ Some records → index < length records
+
+-- where records are told, this is the one at the index
+abbrev pub IsRecordAt : Option (List (List ℕ)) → ℕ → List ℕ → Type 0
+IsRecordAt told index body = IfSome told (λ records. slice_get records index ≡ Some body)
+
+-- a keeper has one record more, where it tells; whether it tells doesn't change
+abbrev pub Appends : Option (List (List ℕ)) → Option (List (List ℕ)) → List ℕ → Type 0
+Appends old new body = MatchOption old (new ≡ None) (λ records. new ≡ Some (records ++ body ∷ []))
+
+-- a keeper is as before or has one record more
+abbrev pub MayAppend : Option (List (List ℕ)) → Option (List (List ℕ)) → List ℕ → Type 0
+MayAppend old new body = (new ≡ old) ⊎ Appends old new body

@@ -1,0 +1,18 @@
+ghost use Rattle.std.specs.Prelude.{OnOk, OnErr};
+ghost use Rattle.vx_io.specs.Outside.{HasCause, Took, TookFront};
+
+use crate::outside::{Failed, Sink};
+
+/// Writes a text whole; takes no memory. After a refusal the sink has taken a front of it.
+pub fn give<S: Sink>(out: &mut S, text: &[u8]) -> Result<(), Failed>
+    ensures given { OnOk result (Took (S.taken out.old) (S.taken out.new) text.now) }
+    ensures refused { OnErr result (TookFront (S.taken out.old) (S.taken out.new) text.now) }
+    ensures cause { HasCause (S.faults out.old) (S.faults out.new) result }
+{
+    let mut at = 0;
+    while at < text.len() {
+        let count = out.write(&text[at..])?;
+        at += count;
+    }
+    Ok(())
+}

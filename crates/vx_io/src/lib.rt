@@ -1,0 +1,40 @@
+//! The outside as three traits, and what stands behind them.
+//!
+//! `Inputs` are named files, a `Sink` takes bytes, a `Keeper` keeps records. Each means what it
+//! holds, told or not told, and a count of faults: a call answers `Failed` only where that count
+//! rose in the call. `MemInputs`, `MemSink` and `MemKeeper` hold everything in memory and fail
+//! exactly at the listed calls; `StdInputs` and `StdSink` are the real files and the real standard
+//! output. `take` reads an input whole and `give` writes a text whole. `Words` are the words of a
+//! command.
+//!
+//! The definitions stand in `specs/`: `Outside.antt` has what the outside holds and when it may
+//! refuse, `Take.antt` what `take` may answer, `Fakes.antt` and `Keeping.antt` which calls fail in
+//! memory and what a call leaves. `proofs/Laws.antt` has the laws for callers: what was taken one
+//! text after another, fronts of a text, counts of faults.
+#![tactic(auto)]
+
+mod giving;
+mod lists;
+mod mem_inputs;
+mod mem_keeper;
+mod mem_sink;
+mod outside;
+mod std_inputs;
+mod std_sink;
+mod taking;
+mod tally;
+mod words;
+
+pub use giving::give;
+pub use lists::{Calls, KeeperCalls, NamedBytes, Records};
+pub use mem_inputs::MemInputs;
+pub use mem_keeper::MemKeeper;
+pub use mem_sink::MemSink;
+pub use outside::{Failed, Inputs, Keeper, KeeperError, Sink};
+pub use std_inputs::StdInputs;
+pub use std_sink::StdSink;
+pub use taking::{TakeFault, take};
+pub use words::Words;
+
+#[cfg(test)]
+mod tests;

@@ -1,0 +1,82 @@
+ghost use Rattle.std.specs.Prelude.{◌≡◌, ◌≤◌, Some, length, IfSome, IfOk, OnOk};
+ghost use Rattle.vx_io.specs.Outside.{HasCause, IsSizeOf, ReadsFrom, Rose};
+ghost use Rattle.vx_io.specs.Take.{Takes, IsWithin};
+
+use crate::outside::{Failed, Inputs};
+use std::alloc::{AllocError, Global};
+use vx_bits::Bytes;
+
+/// Why an input wasn't taken.
+#[derive(Clone, Copy, Debug, PartialEq, Eq)]
+pub enum TakeFault {
+    /// The inputs failed; their count of faults rose in the call.
+    Failed,
+    /// Nothing has the name.
+    NoInput,
+    /// The input has this many bytes, which is above the limit.
+    TooLong(u64),
+    /// There was no memory for the bytes.
+    OutOfMemory,
+}
+
+impl From<Failed> for TakeFault {
+    ghost use Rattle.std.specs.Prelude.{◌≡◌};
+    ghost use Rattle.vx_io.specs.declared.taking.TakeFault.TheVariants as faults;
+
+    ghost from_gives = { λ _ fault. fault ≡ faults.Failed };
+
+    fn from(_failed: Failed) -> TakeFault {
+        TakeFault::Failed
+    }
+}
+
+impl From<AllocError> for TakeFault {
+    ghost use Rattle.std.specs.Prelude.{◌≡◌};
+    ghost use Rattle.vx_io.specs.declared.taking.TakeFault.TheVariants as faults;
+
+    ghost from_gives = { λ _ fault. fault ≡ faults.OutOfMemory };
+
+    fn from(_error: AllocError) -> TakeFault {
+        TakeFault::OutOfMemory
+    }
+}
+
+/// Reads the bytes under the name into a buffer of their number, in the largest pieces.
+fn read_whole<I: Inputs>(inputs: &mut I, name: &str, buffer: &mut [u8]) -> Result<(), Failed>
+    requires sized { IsSizeOf (I.held inputs.old) name.now (Some (length buffer.old)) }
+    ensures read { OnOk result (ReadsFrom (I.held inputs.old) name.now 0 buffer.new) }
+    ensures held { I.held inputs.new ≡ I.held inputs.old }
+    ensures cause { HasCause (I.faults inputs.old) (I.faults inputs.new) result }
+{
+    let mut at = 0;
+    while at < buffer.len() {
+        let count = inputs.read(name, at as u64, &mut buffer[at..])?;
+        at += count;
+    }
+    Ok(())
+}
+
+/// Takes the bytes under the name, where there are at most `limit` of them. It asks for their
+/// number, makes one buffer of that length and reads into it in the largest pieces.
+pub fn take<I: Inputs>(
+    alloc: Global,
+    inputs: &mut I,
+    name: &str,
+    limit: u64,
+) -> Result<Bytes, TakeFault>
+    ensures told { IfSome (I.held inputs.old) (λ files. Takes (files name.now) limit result) }
+    ensures within { IsWithin limit result }
+    ensures held { I.held inputs.new ≡ I.held inputs.old }
+    ensures later { I.faults inputs.old ≤ I.faults inputs.new }
+    ensures cause { result ≡ Err TakeFault.Failed → Rose (I.faults inputs.old) (I.faults inputs.new) }
+{
+    let Some(size) = inputs.size(name)? else {
+        return Err(TakeFault::NoInput);
+    };
+    if size > limit {
+        return Err(TakeFault::TooLong(size));
+    }
+    let mut buffer = Vec::from_elem(alloc, 0u8, size as usize)?;
+    read_whole(inputs, name, buffer.as_mut_slice())?;
+    Ok(Bytes::from_vec(buffer))
+}
