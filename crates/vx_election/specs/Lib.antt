@@ -11,3 +11,4 @@ pub mod Styles
 pub mod Settings
 pub mod Reading
 pub mod FaultTexts
+pub mod Valid
