@@ -1,5 +1,7 @@
-ghost use Rattle.std.specs.Prelude.{◌≡◌, ◌<◌, ◌≤◌, ◌↔◌, IsTrue, IfOk, OnOk, IfErr, length};
-ghost use Rattle.vx_grid.specs.Places.{IsPointWithin, AreWithin, point_at};
+ghost use Rattle.std.specs.Prelude.{◌≡◌, ◌<◌, ◌↔◌, ℕ, List, ◌+ℤ◌, ◌-ℤ◌, ◌≤ℤ◌, IsTrue, IfOk, OnOk, IfErr, length};
+ghost use Rattle.vx_plane.specs.Plane.{Page};
+ghost use Rattle.vx_grid.specs.declared.places.Point.{Point as PointOf};
+ghost use Rattle.vx_grid.specs.Places.{IsWithin, IsPointWithin, AreWithin, point_at};
 ghost use Rattle.vx_border.specs.Border.{side_of as side_is, index_of as index_is, is_in_row, leader_of as leader_is, expected_from, right_of as right_is, IsFollowed, IsLack, IsBorderOf};
 ghost use Rattle.vx_mark.specs.Corner.{IsCorner};
 ghost use Rattle.vx_mark.specs.Best.{IsNear};
@@ -86,15 +88,23 @@ fn expected(k: u32, leader: Point) -> Point
     }
 }
 
+/// Whether a number lies so close to another.
+fn is_close(expected: i32, found: i32, reach: i32) -> bool
+    requires expected { IsWithin 9000 expected }
+    requires found { IsWithin 9000 found }
+    requires reach { IsWithin 100 reach }
+    ensures { IsTrue result ↔ (((expected -ℤ reach) ≤ℤ found) × (found ≤ℤ (expected +ℤ reach))) }
+{
+    expected - reach <= found && found <= expected + reach
+}
+
 /// Whether a place is near where it is expected: within 10 columns and 6 rows.
 fn is_near(predicted: Point, place: Point) -> bool
     requires predicted { IsPointWithin 9000 predicted }
     requires place { IsPointWithin 9000 place }
     ensures { IsTrue result ↔ IsNear predicted place }
 {
-    let u = place.u - predicted.u;
-    let v = place.v - predicted.v;
-    -10 <= u && u <= 10 && -6 <= v && v <= 6
+    is_close(predicted.u, place.u, 10) && is_close(predicted.v, place.v, 6)
 }
 
 /// Finds the marks after the corner, each from the mark that leads to it.
@@ -139,3 +149,10 @@ pub fn trace(counter: &Counter) -> Result<Border, BorderFault>
         Err(BorderFault::OpenBorder(end, found))
     }
 }
+
+/// Two followed lists of the same number of marks have the same places: so a scan has one border
+/// at most, and one first mark that isn't found.
+pub fn borders_are_one()
+    ensures { (page : Page) (n : ℕ) (a b : List PointOf) → IsFollowed page n a → IsFollowed page n b →
+        (k : ℕ) → k < n → point_at a k ≡ point_at b k }
+{}

@@ -6,4 +6,4 @@
 
 mod following;
 
-pub use following::{BorderFault, trace};
+pub use following::{BorderFault, borders_are_one, trace};
