@@ -7,3 +7,6 @@
 mod following;
 
 pub use following::{BorderFault, borders_are_one, trace};
+
+#[cfg(test)]
+mod tests;
