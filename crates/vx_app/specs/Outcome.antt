@@ -7,9 +7,11 @@ use Rattle.vx_pbm.specs.Raw.{p4_of}
 use Rattle.vx_election.specs.declared.election.Election.{Election}
 use Rattle.vx_election.specs.declared.fault.ElectionFault.{ElectionFault}
 use Rattle.vx_election.specs.Reading.{election_of}
+use Rattle.vx_styles.specs.Cards.{cards_of}
 use Rattle.vx_io.specs.Outside.{Files, IsPrefix, Took}
 use Rattle.vx_app.specs.declared.command.Command.{Command}
 use Rattle.vx_app.specs.declared.command.Command.TheVariants.{Print}
+use Rattle.vx_app.specs.declared.status.LayoutFault.TheVariants.{NoCard}
 use Rattle.vx_app.specs.declared.status.Status.{Status}
 use Rattle.vx_app.specs.declared.status.Status.TheVariants as answer
 
@@ -45,21 +47,27 @@ stopped status = record { acts = []; status = status }
 unfoldable pub mark_page : Page
 mark_page = page_of 1700 2200 timing_marks
 
--- `print`, by what the election's bytes define: both pages are written
-abbrev pub pages_outcome : Result Election ElectionFault → Outcome
-pages_outcome (Err fault) = stopped (answer.Election fault)
-pages_outcome (Ok election) = record { acts = Write (p4_of mark_page) ∷ Write (p4_of mark_page) ∷ []; status = answer.Ok }
+-- `print` of a card of an election with so many: both pages are written
+abbrev pub card_outcome : ℕ → ℕ → Outcome
+card_outcome card cards =
+    if nat_lt card cards then record { acts = Write (p4_of mark_page) ∷ Write (p4_of mark_page) ∷ []; status = answer.Ok }
+    else stopped (answer.Layout card (NoCard cards))
 
--- `print`, by what stands under the election's name
-abbrev pub print_outcome : Option (List ℕ) → Outcome
-print_outcome None = stopped (answer.NoInput 1)
-print_outcome (Some bytes) =
+-- `print` of a card, by what the election's bytes define
+abbrev pub pages_outcome : ℕ → Result Election ElectionFault → Outcome
+pages_outcome card (Err fault) = stopped (answer.Election fault)
+pages_outcome card (Ok election) = card_outcome card (length (cards_of election))
+
+-- `print` of a card, by what stands under the election's name
+abbrev pub print_outcome : ℕ → Option (List ℕ) → Outcome
+print_outcome card None = stopped (answer.NoInput 1)
+print_outcome card (Some bytes) =
     if nat_lt input_limit (length bytes) then stopped (answer.TooLong 1 (length bytes))
-    else pages_outcome (election_of bytes)
+    else pages_outcome card (election_of bytes)
 
 -- what a command does, by its words, the files and the records of the journal
 abbrev pub outcome_of : Command → List (List ℕ) → Files → List (List ℕ) → Outcome
-outcome_of (Print card kind test) words files records = print_outcome (files (slice_index_or words 1 []))
+outcome_of (Print card kind test) words files records = print_outcome card (files (slice_index_or words 1 []))
 
 -- the sink has taken the texts of the first acts and a front of the next one's
 pub record WroteUpTo (place : ℕ) (acts : List Act) (old new : Option (List ℕ)) : Type 0 where
@@ -80,6 +88,7 @@ breaks_off answer.Usage = false
 breaks_off (answer.NoInput word) = false
 breaks_off (answer.TooLong word size) = false
 breaks_off (answer.Election fault) = false
+breaks_off (answer.Layout card fault) = false
 breaks_off answer.ReadFault = true
 breaks_off answer.WriteFault = true
 breaks_off answer.NoMemory = true
@@ -91,6 +100,7 @@ writes_nothing answer.Usage = true
 writes_nothing (answer.NoInput word) = true
 writes_nothing (answer.TooLong word size) = true
 writes_nothing (answer.Election fault) = true
+writes_nothing (answer.Layout card fault) = true
 writes_nothing answer.ReadFault = true
 writes_nothing answer.WriteFault = false
 writes_nothing answer.NoMemory = false

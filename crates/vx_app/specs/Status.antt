@@ -2,8 +2,10 @@
 use Rattle.std.specs.Prelude.{ℕ, List, ◌++◌, ◌∷◌, codes}
 use Rattle.std.specs.Fmt.{decimal}
 use Rattle.vx_election.specs.FaultTexts.{text_of}
+use Rattle.vx_app.specs.declared.status.LayoutFault.{LayoutFault}
+use Rattle.vx_app.specs.declared.status.LayoutFault.TheVariants.{NoCard}
 use Rattle.vx_app.specs.declared.status.Status.{Status}
-use Rattle.vx_app.specs.declared.status.Status.TheVariants.{Ok, Usage, NoInput, TooLong, Election, ReadFault, WriteFault, NoMemory}
+use Rattle.vx_app.specs.declared.status.Status.TheVariants.{Ok, Usage, NoInput, TooLong, Election, Layout, ReadFault, WriteFault, NoMemory}
 
 -- the number that the program ends with
 abbrev pub number_of : Status → ℕ
@@ -12,9 +14,14 @@ number_of Usage = 1
 number_of (NoInput word) = 2
 number_of (TooLong word size) = 3
 number_of (Election fault) = 4
+number_of (Layout card fault) = 5
 number_of ReadFault = 10
 number_of WriteFault = 11
 number_of NoMemory = 13
+
+-- a fault of a layout: its number and its values
+abbrev pub layout_text_of : LayoutFault → List ℕ
+layout_text_of (NoCard cards) = codes "4 " ++ decimal cards
 
 -- what the program says on standard error after its name
 abbrev pub line_of : Status → List ℕ
@@ -23,6 +30,7 @@ line_of Usage = codes "usage"
 line_of (NoInput word) = codes "no input " ++ decimal word
 line_of (TooLong word size) = codes "too long " ++ decimal word ++ 32 ∷ decimal size
 line_of (Election fault) = codes "election " ++ text_of fault
+line_of (Layout card fault) = codes "layout " ++ decimal card ++ 32 ∷ layout_text_of fault
 line_of ReadFault = codes "read fault"
 line_of WriteFault = codes "write fault"
 line_of NoMemory = codes "no memory"
