@@ -1,9 +1,8 @@
-use Rattle.std.proofs.Common.{◌≡◌, ℕ, ◌<◌, List, [], None, length, get_or, sym, ap, subst, ◌∙◌}
+use Rattle.std.proofs.Common.{◌≡◌, ℕ, ◌<◌, length, get_or, sym, ap, subst, ◌∙◌}
 use Rattle.std.proofs.lemmas.List.{get_or_read}
 use Rattle.vx_election.specs.declared.style.Style.{Style}
-use Rattle.vx_election.specs.declared.contest.Contest.{Contest}
 use Rattle.vx_styles.specs.declared.card.Card.{Card}
-use Rattle.vx_styles.specs.Cards.{cards_from, contests_from, contests_of_card, no_style, card_at}
+use Rattle.vx_styles.specs.Cards.{cards_from, contests_from, no_style, card_at}
 use Rattle.vx_styles.proofs.Places.{style_below}
 use Rattle.vx_styles.proofs.styles.contests_of.Goals as goal
 
