@@ -1,1 +1,12 @@
+pub mod Backs
+pub mod Finds
+pub mod Headers
+pub mod Joins
+pub mod Local
+pub mod Parts
+pub mod Pixels
+pub mod Plains
 pub mod Rasters
+pub mod Steps
+pub mod Walks
+pub mod Whole

@@ -1,1 +1,6 @@
+pub mod Header
+pub mod Image
+pub mod Images
+pub mod Raster
 pub mod Raw
+pub mod Step

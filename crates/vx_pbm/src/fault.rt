@@ -1,0 +1,35 @@
+//! Why bytes are no bitmap.
+
+ghost use Rattle.std.specs.Prelude.{◌≡◌};
+ghost use Rattle.vx_pbm.specs.declared.fault.PbmFault.TheVariants.{OutOfMemory};
+
+use vx_bits::OutOfMemory as AllocError;
+
+/// The first place where bytes leave the grammar of bitmaps. Places count bytes from 0.
+#[derive(Debug, Clone, Copy, PartialEq, Eq)]
+pub enum PbmFault {
+    /// No image begins at this place.
+    BadMagic(u64),
+    /// No header has this byte at this place, or the bytes end there. A number that is 0 or has
+    /// more than 9 digits is bad at its first digit.
+    BadHeader(u64),
+    /// The width or the height that a header gives is above 4096.
+    SizeTooLarge(u32, u32),
+    /// The bytes end before the raster does: what there is and what it takes, counted in bytes for
+    /// a raw image and in pixels for a plain one.
+    Truncated(u64, u64),
+    /// The byte at this place of a plain raster is no pixel and no whitespace.
+    BadPixel(u64),
+    /// The byte at this place, directly after a plain image's last pixel, isn't whitespace.
+    TrailingPlain(u64),
+    /// Memory ran out.
+    OutOfMemory,
+}
+
+impl From<AllocError> for PbmFault {
+    ghost from_gives = { λ _ fault. fault ≡ OutOfMemory };
+
+    fn from(_e: AllocError) -> PbmFault {
+        PbmFault::OutOfMemory
+    }
+}

@@ -1,0 +1,141 @@
+ghost use Rattle.std.specs.Prelude.{◌≤◌};
+
+use super::{PbmFault, PbmReader, write_p4};
+use std::alloc::Global;
+use std::process::Abort;
+use std::test::Fail;
+use vx_bits::{BitPage, BitView, Bytes, OutOfMemory};
+
+/// The images of the bytes are so many, and then comes the end or a fault, twice.
+fn walk(rt: &(impl Abort + AllocGlobal), bytes: &[u8], images: u32, fault: Option<PbmFault>) {
+    let mut reader = PbmReader::new(rt.alloc(), bytes);
+    for _ in 0..images {
+        assert!(rt; matches!(&reader.next(), Ok(Some(_))), "an image is missing");
+    }
+    for _ in 0..2 {
+        match reader.next() {
+            Ok(None) => assert!(rt; fault.is_none(), "no fault came"),
+            Ok(Some(_)) => panic!(rt; "an image too many"),
+            Err(found) => assert_eq!(rt; Some(found), fault),
+        }
+    }
+}
+
+#[test]
+fn broken_bitmaps(rt: HostRuntime) {
+    walk(&rt, b"P", 0, Some(PbmFault::BadMagic(0)));
+    walk(&rt, b"P4", 0, Some(PbmFault::BadHeader(2)));
+    walk(&rt, b"P4 0 5", 0, Some(PbmFault::BadHeader(3)));
+    walk(&rt, b"P4 1234567890 1", 0, Some(PbmFault::BadHeader(3)));
+    walk(&rt, b"P4 8 1", 0, Some(PbmFault::BadHeader(6)));
+    walk(&rt, b"P4 8 1\n", 0, Some(PbmFault::Truncated(0, 1)));
+    walk(&rt, b"P4 8 1\n\xffx", 1, Some(PbmFault::BadMagic(8)));
+    walk(&rt, b"P1 2 1 12", 0, Some(PbmFault::BadPixel(8)));
+    walk(&rt, b"P1 1 1 11", 1, Some(PbmFault::TrailingPlain(8)));
+    walk(&rt, b"P1 1 1 1 1", 1, None);
+}
+
+#[test]
+fn places_in_a_header(rt: HostRuntime) {
+    walk(&rt, b"", 0, None);
+    walk(&rt, b"P4 4097 10\n", 0, Some(PbmFault::SizeTooLarge(4097, 10)));
+    walk(&rt, b"P4 4097 10", 0, Some(PbmFault::BadHeader(10)));
+    walk(&rt, b"P4#a\r 0008#b\n1\t\x00", 1, None);
+    walk(&rt, b"P4 8 1#c", 0, Some(PbmFault::BadHeader(6)));
+    walk(&rt, b"P4 #never ended", 0, Some(PbmFault::BadHeader(15)));
+    walk(&rt, b"P1 2 1\n1", 0, Some(PbmFault::Truncated(1, 2)));
+    walk(&rt, b"P4 1 1 \x80P1 1 1 1", 1, Some(PbmFault::BadMagic(8)));
+}
+
+/// The page of these tests: three dark rectangles on 1700 by 2200 pixels, or on a wider frame.
+fn sample(alloc: Global, width: u32) -> Result<BitPage, OutOfMemory>
+    requires low { 1700 ≤ width }
+    requires high { width ≤ 4096 }
+{
+    let mut page = BitPage::new(alloc, width, 2200)?;
+    page.darken(0, 0, 1700, 3);
+    page.darken(41, 54, 36, 2133);
+    page.darken(1693, 700, 7, 1500);
+    Ok(page)
+}
+
+/// Whether the two pages are dark at the same places of a frame of 1700 by 2200.
+fn look_alike(a: &BitView<'_>, b: &BitView<'_>) -> bool {
+    for v in 0..2200 {
+        for u in 0..1700 {
+            if a.dark(u, v) != b.dark(u, v) {
+                return false;
+            }
+        }
+    }
+    true
+}
+
+/// Appends the raw bitmap of a page with all its padding bits set.
+fn write_padded(page: &BitView<'_>, header: &[u8], into: &mut Bytes) -> Result<(), OutOfMemory> {
+    into.extend_from_slice(header)?;
+    let padding = (8 - page.width() % 8) % 8;
+    let mask = (1u8 << padding) - 1;
+    for v in 0..page.height() {
+        if let [front @ .., last] = page.row_bytes(v) {
+            into.extend_from_slice(front)?;
+            into.push(*last | mask)?;
+        }
+    }
+    Ok(())
+}
+
+/// Appends the plain bitmap of a page, with a comment and with no whitespace in its raster.
+fn write_plain(page: &BitView<'_>, header: &[u8], into: &mut Bytes) -> Result<(), OutOfMemory> {
+    into.extend_from_slice(header)?;
+    for v in 0..2200 {
+        for u in 0..1700 {
+            into.push(if page.dark(u, v) { b'1' } else { b'0' })?;
+        }
+    }
+    Ok(())
+}
+
+/// The first image of the bytes looks like the page, has its sides, and is all that there is.
+fn shows(
+    rt: &(impl Abort + AllocGlobal),
+    bytes: &[u8],
+    width: u32,
+    page: &BitView<'_>,
+) -> Result<(), Fail> {
+    let mut reader = PbmReader::new(rt.alloc(), bytes);
+    let image = reader.next()?.ok_or("no image")?;
+    let view = image.view();
+    assert_eq!(rt; (view.width(), view.height()), (width, 2200));
+    assert!(rt; look_alike(&view, page), "the pixels differ");
+    assert!(rt; matches!(&reader.next(), Ok(None)), "there is more");
+    Ok(())
+}
+
+#[test]
+fn one_page_in_three_texts(rt: HostRuntime) -> Result<(), Fail> {
+    let page = sample(rt.alloc(), 1700)?;
+    let mut text = Bytes::new(rt.alloc());
+    write_p4(&page.view(), &mut text)?;
+    assert_eq!(rt; text.len(), 468_613);
+    shows(&rt, text.as_slice(), 1700, &page.view())?;
+    text.clear();
+    write_plain(&page.view(), b"P1\n# by hand\n1700 2200\n", &mut text)?;
+    shows(&rt, text.as_slice(), 1700, &page.view())?;
+    text.clear();
+    let wide = sample(rt.alloc(), 1701)?;
+    write_padded(&wide.view(), b"P4\n1701 2200\n", &mut text)?;
+    shows(&rt, text.as_slice(), 1701, &page.view())
+}
+
+#[test]
+fn the_second_page_is_cut_off(rt: HostRuntime) -> Result<(), Fail> {
+    let page = sample(rt.alloc(), 1700)?;
+    let mut text = Bytes::new(rt.alloc());
+    write_p4(&page.view(), &mut text)?;
+    write_p4(&page.view(), &mut text)?;
+    walk(&rt, text.as_slice(), 2, None);
+    text.truncate(937_225);
+    walk(&rt, text.as_slice(), 1, Some(PbmFault::Truncated(468_599, 468_600)));
+    Ok(())
+}
