@@ -21,5 +21,5 @@ third_word words a b c d e f g h first second = cc
 -- words spell one card only
 pub same_card : (words : List (List ℕ)) (m n : ℕ) (kind other : Kind) (test again : Bool) → SpellsPrint words m kind test → SpellsPrint words n other again → m ≡ n
 same_card words m n kind other test again a b =
-  decimal_injective m n (omega (arith, a.card_in_range)) (omega (arith, b.card_in_range))
+    decimal_injective m n (omega (arith, a.card_in_range)) (omega (arith, b.card_in_range))
     (third_word words (codes "print") a.election (decimal m) (kind_word kind test) (codes "print") b.election (decimal n) (kind_word other again) a.words_are b.words_are)

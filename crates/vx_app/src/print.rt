@@ -13,8 +13,8 @@ use crate::pages::{Stop, write_page};
 use crate::status::{LayoutFault, Status};
 use std::alloc::Global;
 use vx_election::{Election, ElectionFault, read_election};
-use vx_styles::cards;
 use vx_io::{Inputs, Sink, TakeFault, take};
+use vx_styles::cards;
 
 /// The most bytes that an input may have.
 const INPUT_LIMIT: u64 = 67_108_864;

@@ -122,7 +122,14 @@ fn words_are_a_command_or_usage(rt: HostRuntime) -> Result<(), Fail> {
     assert_eq!(rt; absent.status.as_str(), "no input 1");
     assert!(rt; absent.text.is_empty());
     for card in ["1", "1023"] {
-        let answer = attempt(&rt, TOWN, &["print", "e", card, "precinct"], &[], &[], WHOLE)?;
+        let answer = attempt(
+            &rt,
+            TOWN,
+            &["print", "e", card, "precinct"],
+            &[],
+            &[],
+            WHOLE,
+        )?;
         assert!(rt; answer.status.as_str().starts_with("layout"), "{card}");
         assert!(rt; answer.status.as_str().ends_with(" 4 1"), "{card}");
         assert!(rt; answer.text.is_empty(), "{card}");

@@ -21,10 +21,8 @@ fn obey<I: Inputs, S: Sink>(
     out: &mut S,
 ) -> Status
     requires { Spells words.now command }
-    ensures written {
-        IfSome (I.held inputs.old) (λ files.
-          IsWritten (outcome_of command words.now files []) (S.taken out.old) (S.taken out.new) result)
-    }
+    ensures written { IfSome (I.held inputs.old) (λ files.
+        IsWritten (outcome_of command words.now files []) (S.taken out.old) (S.taken out.new) result) }
     ensures nothing { writes_nothing result ≡ true → S.taken out.new ≡ S.taken out.old }
     ensures no_usage { result ≢ Status.Usage }
     ensures held { I.held inputs.new ≡ I.held inputs.old }

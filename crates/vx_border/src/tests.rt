@@ -85,7 +85,10 @@ fn a_mark_with_a_hole_is_not_found(rt: HostRuntime) -> Result<(), Fail> {
     }
     let counter = Counter::new(rt.alloc(), &page.view())?;
     let fault = trace(&counter).err();
-    assert_eq!(rt; fault, Some(BorderFault::NoMark(Side::Top, 5, place(297, 59))));
+    assert_eq!(rt;
+        fault,
+        Some(BorderFault::NoMark(Side::Top, 5, place(297, 59)))
+    );
     paint(&mut page, 298, 60, true);
     let counter = Counter::new(rt.alloc(), &page.view())?;
     let border = trace(&counter).map_err(|_| "no border")?;

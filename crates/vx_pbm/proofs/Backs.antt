@@ -130,17 +130,17 @@ spelled_header w h width height raster a b =
     let fourth : drop (3 + length width + 1 + length height) (spelled_text width height raster) ≡ 10 ∷ raster = dropped_on (length height) (3 + length width + 1) (spelled_text width height raster) height (10 ∷ raster) third refl in
     record {
       read = header_of_parts (spelled_text width height raster) (record { width = w; height = h; size = spelled_size width height }) (record {
-      first_gap = 3;
-      width = (w, 3 + length width);
-      second_gap = 3 + length width + 1;
-      height = (h, 3 + length width + 1 + length height);
-      size = spelled_size width height;
-      first_gap_is = gap_there (spelled_text width height raster) width (32 ∷ (height ++ 10 ∷ raster)) 2 10 refl refl a.all a.some;
-      width_is = number_there (spelled_text width height raster) width (height ++ 10 ∷ raster) 3 w 32 refl a refl;
-      second_gap_is = gap_there (spelled_text width height raster) height (10 ∷ raster) (3 + length width) 32 second refl b.all b.some;
-      height_is = number_there (spelled_text width height raster) height raster (3 + length width + 1) h 10 third b refl;
-      size_is = space_there (spelled_text width height raster) raster (3 + length width + 1 + length height) 10 fourth refl;
-      header_is = refl;
+        first_gap = 3;
+        width = (w, 3 + length width);
+        second_gap = 3 + length width + 1;
+        height = (h, 3 + length width + 1 + length height);
+        size = spelled_size width height;
+        first_gap_is = gap_there (spelled_text width height raster) width (32 ∷ (height ++ 10 ∷ raster)) 2 10 refl refl a.all a.some;
+        width_is = number_there (spelled_text width height raster) width (height ++ 10 ∷ raster) 3 w 32 refl a refl;
+        second_gap_is = gap_there (spelled_text width height raster) height (10 ∷ raster) (3 + length width) 32 second refl b.all b.some;
+        height_is = number_there (spelled_text width height raster) height raster (3 + length width + 1) h 10 third b refl;
+        size_is = space_there (spelled_text width height raster) raster (3 + length width + 1 + length height) 10 fourth refl;
+        header_is = refl;
       });
       rest = dropped_on 1 (3 + length width + 1 + length height) (spelled_text width height raster) (10 ∷ []) raster fourth refl;
     }
@@ -200,5 +200,5 @@ reads_back page is =
     is.sized.width_below is.sized.height_below long in
     ap (λ text. images_left (whole text)) (p4_spelled page)
     ∙ (alone (packed_page page.width page.height (flat_map packed_row page.rows)) (spelled_text (decimal page.width) (decimal page.height) (flat_map packed_row page.rows)) (spelled_size (decimal page.width) (decimal page.height) + page.height * stride_of page.width) refl (omega arith) read
-      (omega (arith, spelled_length (decimal page.width) (decimal page.height) (flat_map packed_row page.rows), long))
+    (omega (arith, spelled_length (decimal page.width) (decimal page.height) (flat_map packed_row page.rows), long))
     ∙ ap (λ p. with_page p (ended None)) (packed_back page is.whole))

@@ -153,10 +153,10 @@ moved_images (suc n) size at text small past far =
     ∙ (ap (onwards images_left) (past_next (size + at) text far)
     ∙ (ap (λ r. onwards images_left (cond (length text == 0) (Ok None) (cond (is_raw text) (r >>= step_over (left_at (size + at) text) false) (Err (BadMagic (size + at)))))) (moved_raw size at text)
     ∙ (moved_choice size at text (length text == 0) (is_raw text) (raw_image at text) (λ image is nonempty.
-      let ne : length text ≢ 0 = eqb-false (length text) 0 nonempty in
-      let taken : 0 < image.1 = raw_size at text image is in
-      ap (λ k. images_left (left_at k (drop image.1 text))) (add_assoc size at image.1)
-      ∙ moved_images n size (at + image.1) (drop image.1 text) (omega (arith, length-drop image.1 text)) (past_place (at + image.1) (drop image.1 text) (omega arith)) (past_place (size + (at + image.1)) (drop image.1 text) (omega arith)))
+    let ne : length text ≢ 0 = eqb-false (length text) 0 nonempty in
+    let taken : 0 < image.1 = raw_size at text image is in
+    ap (λ k. images_left (left_at k (drop image.1 text))) (add_assoc size at image.1)
+    ∙ moved_images n size (at + image.1) (drop image.1 text) (omega (arith, length-drop image.1 text)) (past_place (at + image.1) (drop image.1 text) (omega arith)) (past_place (size + (at + image.1)) (drop image.1 text) (omega arith)))
     ∙ sym (ap (moved size) (images_step (left_at at text) ∙ ap (onwards images_left) (past_next at text past))))))
 
 -- raw images, and bytes behind them that don't begin as a plain image does

@@ -126,17 +126,17 @@ header_more text rest header e =
     let last : p.height.1 < length text = omega (arith, some_bytes (drop p.height.1 text) f.space, length-drop p.height.1 text) in
     let digits : 0 < digit_count (drop p.second_gap text) = ltb-true 0 _ (and_parts _ _ d.some).0 in
     header_of_parts (text ++ rest) header (record {
-    first_gap = p.first_gap;
-    width = p.width;
-    second_gap = p.second_gap;
-    height = p.height;
-    size = p.size;
-    first_gap_is = gap_more text rest 2 p.first_gap p.first_gap_is (omega (arith, a.is, b.end, c.is, d.end)) (omega (arith, b.end, c.is, d.end));
-    width_is = number_more text rest p.first_gap p.width p.width_is (omega (arith, b.end, c.is, d.end)) (omega (arith, c.is, d.end));
-    second_gap_is = gap_more text rest p.width.1 p.second_gap p.second_gap_is (omega (arith, c.is, d.end)) (omega (arith, d.end));
-    height_is = number_more text rest p.second_gap p.height p.height_is (omega (arith, d.end)) last;
-    size_is = space_more text rest p.height.1 p.size p.size_is (omega arith);
-    header_is = p.header_is;
+      first_gap = p.first_gap;
+      width = p.width;
+      second_gap = p.second_gap;
+      height = p.height;
+      size = p.size;
+      first_gap_is = gap_more text rest 2 p.first_gap p.first_gap_is (omega (arith, a.is, b.end, c.is, d.end)) (omega (arith, b.end, c.is, d.end));
+      width_is = number_more text rest p.first_gap p.width p.width_is (omega (arith, b.end, c.is, d.end)) (omega (arith, c.is, d.end));
+      second_gap_is = gap_more text rest p.width.1 p.second_gap p.second_gap_is (omega (arith, c.is, d.end)) (omega (arith, d.end));
+      height_is = number_more text rest p.second_gap p.height p.height_is (omega (arith, d.end)) last;
+      size_is = space_more text rest p.height.1 p.size p.size_is (omega arith);
+      header_is = p.header_is;
     })
 
 pub header_within : (text : List ℕ) (header : Header) → header_at text ≡ Ok header → header.size ≤ length text

@@ -90,13 +90,13 @@ filled_pixel width height place need raster i page after have some inside more p
     pixels_more raster i inside ∙ ap (λ ys. pixels_in (take i raster) ++ map (λ (byte : ℕ). byte == 49) ys) (filter_one (get_or raster i 0) true pixel) in
     record {
       page_is = put_more width height have (pixels_in (take i raster)) (get_or raster i 0 == 49) page after some filled.have_is filled.page_is is
-        ∙ ap (λ ps. page_of width height (listed width ps)) (sym one);
+          ∙ ap (λ ps. page_of width height (listed width ps)) (sym one);
       have_is = omega (arith, filled.have_is, ap length one, length-append (pixels_in (take i raster)) ((get_or raster i 0 == 49) ∷ []));
       few = omega (arith, filled.few);
       rest =
-        ap (λ at. raster_end need (have + 1) at (drop (i + 1) raster)) (omega arith)
-        ∙ (sym (ap (raster_end need have (place + i)) (drop_more raster i 0 inside) ∙ second (have == need) (is_pixel (get_or raster i 0)) _ _ _ (ne_eqb have need more) pixel)
-        ∙ filled.rest);
+          ap (λ at. raster_end need (have + 1) at (drop (i + 1) raster)) (omega arith)
+          ∙ (sym (ap (raster_end need have (place + i)) (drop_more raster i 0 inside) ∙ second (have == need) (is_pixel (get_or raster i 0)) _ _ _ (ne_eqb have need more) pixel)
+          ∙ filled.rest);
     }
 
 -- the same with whitespace more

@@ -32,9 +32,9 @@ walks_all bytes pages unread gave =
     let first : images_left (whole bytes) ≡ pages_and pages (images_left unread) = gave_first (whole bytes) unread pages gave in
     record {
       at_end = λ e. first
-        ∙ (ap (pages_and pages) (walks_end unread e.0)
-        ∙ ap (λ ps. record { pages = ps; fault = None }) (append-nil pages));
+          ∙ (ap (pages_and pages) (walks_end unread e.0)
+          ∙ ap (λ ps. record { pages = ps; fault = None }) (append-nil pages));
       at_fault = λ fault other e. first
-        ∙ (ap (pages_and pages) (fault_left unread fault other e)
-        ∙ ap (λ ps. record { pages = ps; fault = Some fault }) (append-nil pages));
+          ∙ (ap (pages_and pages) (fault_left unread fault other e)
+          ∙ ap (λ ps. record { pages = ps; fault = Some fault }) (append-nil pages));
     }

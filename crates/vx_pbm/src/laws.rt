@@ -6,18 +6,15 @@ ghost use Rattle.vx_pbm.specs.Images.{JoinsRawImages, ReadsBack, WalksAllImages}
 /// plain image does, the images of both are those of the first and then those of the second.
 pub fn raw_images_join()
     ensures { JoinsRawImages }
-{
-}
+{}
 
 /// What is written of a page with sides of 1 to 4096 pixels is read as that page alone.
 pub fn what_is_written_reads_back()
     ensures { ReadsBack }
-{
-}
+{}
 
 /// The pages that a reader gives until it comes to the end or to a fault, with that fault, are the
 /// images of the bytes.
 pub fn a_walk_gives_all_images()
     ensures { WalksAllImages }
-{
-}
+{}

@@ -10,7 +10,10 @@ use vx_bits::{BitPage, BitView, Bytes, OutOfMemory};
 fn walk(rt: &(impl Abort + AllocGlobal), bytes: &[u8], images: u32, fault: Option<PbmFault>) {
     let mut reader = PbmReader::new(rt.alloc(), bytes);
     for _ in 0..images {
-        assert!(rt; matches!(&reader.next(), Ok(Some(_))), "an image is missing");
+        assert!(rt;
+            matches!(&reader.next(), Ok(Some(_))),
+            "an image is missing"
+        );
     }
     for _ in 0..2 {
         match reader.next() {
@@ -38,7 +41,12 @@ fn broken_bitmaps(rt: HostRuntime) {
 #[test]
 fn places_in_a_header(rt: HostRuntime) {
     walk(&rt, b"", 0, None);
-    walk(&rt, b"P4 4097 10\n", 0, Some(PbmFault::SizeTooLarge(4097, 10)));
+    walk(
+        &rt,
+        b"P4 4097 10\n",
+        0,
+        Some(PbmFault::SizeTooLarge(4097, 10)),
+    );
     walk(&rt, b"P4 4097 10", 0, Some(PbmFault::BadHeader(10)));
     walk(&rt, b"P4#a\r 0008#b\n1\t\x00", 1, None);
     walk(&rt, b"P4 8 1#c", 0, Some(PbmFault::BadHeader(6)));
@@ -136,6 +144,11 @@ fn the_second_page_is_cut_off(rt: HostRuntime) -> Result<(), Fail> {
     write_p4(&page.view(), &mut text)?;
     walk(&rt, text.as_slice(), 2, None);
     text.truncate(937_225);
-    walk(&rt, text.as_slice(), 1, Some(PbmFault::Truncated(468_599, 468_600)));
+    walk(
+        &rt,
+        text.as_slice(),
+        1,
+        Some(PbmFault::Truncated(468_599, 468_600)),
+    );
     Ok(())
 }
