@@ -1,14 +1,19 @@
 -- What a command does to the outside, as a whole: its acts in order, and its status.
-use Rattle.std.specs.Prelude.{◌≡◌, ◌≤◌, ◌<◌, ◌⊎◌, ◌+◌, ℕ, Bool, true, false, nat_lt, if◌then◌else◌, List, [], ◌∷◌, ◌++◌, length, take, drop, Option, None, Some, MatchOption, slice_index_or}
+use Rattle.std.specs.Prelude.{◌≡◌, ◌≤◌, ◌<◌, ◌⊎◌, ◌+◌, ℕ, Bool, true, false, nat_lt, if◌then◌else◌, List, [], ◌∷◌, ◌++◌, length, take, drop, Option, None, Some, Result, Ok, Err, MatchOption, slice_index_or}
 use Rattle.std.specs.List.{flat_map}
 use Rattle.vx_plane.specs.Plane.{Page, page_of}
 use Rattle.vx_grid.specs.Marks.{timing_marks}
 use Rattle.vx_pbm.specs.Raw.{p4_of}
+use Rattle.vx_election.specs.declared.election.Election.{Election}
+use Rattle.vx_election.specs.declared.fault.ElectionFault.{ElectionFault}
+use Rattle.vx_election.specs.Reading.{election_of}
+use Rattle.vx_styles.specs.Cards.{cards_of}
 use Rattle.vx_io.specs.Outside.{Files, IsPrefix, Took}
 use Rattle.vx_app.specs.declared.command.Command.{Command}
 use Rattle.vx_app.specs.declared.command.Command.TheVariants.{Print}
+use Rattle.vx_app.specs.declared.status.LayoutFault.TheVariants.{NoCard}
 use Rattle.vx_app.specs.declared.status.Status.{Status}
-use Rattle.vx_app.specs.declared.status.Status.TheVariants.{Ok, Usage, NoInput, TooLong, ReadFault, WriteFault, NoMemory}
+use Rattle.vx_app.specs.declared.status.Status.TheVariants as answer
 
 -- a text is written, or a record is appended to the journal
 pub data Act : Type 0 where
@@ -42,16 +47,27 @@ stopped status = record { acts = []; status = status }
 unfoldable pub mark_page : Page
 mark_page = page_of 1700 2200 timing_marks
 
--- `print`, by what stands under the election's name: both pages are written
-abbrev pub print_outcome : Option (List ℕ) → Outcome
-print_outcome None = stopped (NoInput 1)
-print_outcome (Some election) =
-    if nat_lt input_limit (length election) then stopped (TooLong 1 (length election))
-    else record { acts = Write (p4_of mark_page) ∷ Write (p4_of mark_page) ∷ []; status = Ok }
+-- `print` of a card of an election with so many: both pages are written
+abbrev pub card_outcome : ℕ → ℕ → Outcome
+card_outcome card cards =
+    if nat_lt card cards then record { acts = Write (p4_of mark_page) ∷ Write (p4_of mark_page) ∷ []; status = answer.Ok }
+    else stopped (answer.Layout card (NoCard cards))
+
+-- `print` of a card, by what the election's bytes define
+abbrev pub pages_outcome : ℕ → Result Election ElectionFault → Outcome
+pages_outcome card (Err fault) = stopped (answer.Election fault)
+pages_outcome card (Ok election) = card_outcome card (length (cards_of election))
+
+-- `print` of a card, by what stands under the election's name
+abbrev pub print_outcome : ℕ → Option (List ℕ) → Outcome
+print_outcome card None = stopped (answer.NoInput 1)
+print_outcome card (Some bytes) =
+    if nat_lt input_limit (length bytes) then stopped (answer.TooLong 1 (length bytes))
+    else pages_outcome card (election_of bytes)
 
 -- what a command does, by its words, the files and the records of the journal
 abbrev pub outcome_of : Command → List (List ℕ) → Files → List (List ℕ) → Outcome
-outcome_of (Print card kind test) words files records = print_outcome (files (slice_index_or words 1 []))
+outcome_of (Print card kind test) words files records = print_outcome card (files (slice_index_or words 1 []))
 
 -- the sink has taken the texts of the first acts and a front of the next one's
 pub record WroteUpTo (place : ℕ) (acts : List Act) (old new : Option (List ℕ)) : Type 0 where
@@ -67,23 +83,27 @@ KeptUpTo place acts old new =
 
 -- a command that answers so may have broken off anywhere
 abbrev pub breaks_off : Status → Bool
-breaks_off Ok = false
-breaks_off Usage = false
-breaks_off (NoInput word) = false
-breaks_off (TooLong word size) = false
-breaks_off ReadFault = true
-breaks_off WriteFault = true
-breaks_off NoMemory = true
+breaks_off answer.Ok = false
+breaks_off answer.Usage = false
+breaks_off (answer.NoInput word) = false
+breaks_off (answer.TooLong word size) = false
+breaks_off (answer.Election fault) = false
+breaks_off (answer.Layout card fault) = false
+breaks_off answer.ReadFault = true
+breaks_off answer.WriteFault = true
+breaks_off answer.NoMemory = true
 
 -- a command that answers so has written nothing
 abbrev pub writes_nothing : Status → Bool
-writes_nothing Ok = false
-writes_nothing Usage = true
-writes_nothing (NoInput word) = true
-writes_nothing (TooLong word size) = true
-writes_nothing ReadFault = true
-writes_nothing WriteFault = false
-writes_nothing NoMemory = false
+writes_nothing answer.Ok = false
+writes_nothing answer.Usage = true
+writes_nothing (answer.NoInput word) = true
+writes_nothing (answer.TooLong word size) = true
+writes_nothing (answer.Election fault) = true
+writes_nothing (answer.Layout card fault) = true
+writes_nothing answer.ReadFault = true
+writes_nothing answer.WriteFault = false
+writes_nothing answer.NoMemory = false
 
 -- the acts are done up to some place; all of them, with the outcome's status, unless the command
 -- broke off

@@ -5,6 +5,8 @@ use Rattle.vx_app.specs.declared.pages.Stop.{Stop}
 use Rattle.vx_app.specs.declared.pages.Stop.TheVariants.{WriteFault, NoMemory}
 use Rattle.vx_io.specs.declared.taking.TakeFault.{TakeFault}
 use Rattle.vx_io.specs.declared.taking.TakeFault.TheVariants as take
+use Rattle.vx_election.specs.declared.fault.ElectionFault.{ElectionFault}
+use Rattle.vx_election.specs.declared.fault.ElectionFault.TheVariants as refused
 use Rattle.vx_app.specs.declared.status.Status.{Status}
 use Rattle.vx_app.specs.declared.status.Status.TheVariants as answer
 
@@ -23,3 +25,16 @@ taking_status_of word take.Failed = answer.ReadFault
 taking_status_of word take.NoInput = answer.NoInput word
 taking_status_of word (take.TooLong size) = answer.TooLong word size
 taking_status_of word take.OutOfMemory = answer.NoMemory
+
+-- the status of an election definition that is refused
+abbrev pub refusal_status_of : ElectionFault → Status
+refusal_status_of refused.NotJson = answer.Election refused.NotJson
+refusal_status_of (refused.Missing path) = answer.Election (refused.Missing path)
+refusal_status_of (refused.WrongKind path) = answer.Election (refused.WrongKind path)
+refusal_status_of (refused.OutOfRange path) = answer.Election (refused.OutOfRange path)
+refusal_status_of (refused.RepeatedId path id) = answer.Election (refused.RepeatedId path id)
+refusal_status_of (refused.UnknownId path id) = answer.Election (refused.UnknownId path id)
+refusal_status_of (refused.BadThresholds marg def) = answer.Election (refused.BadThresholds marg def)
+refusal_status_of (refused.TooMany path count) = answer.Election (refused.TooMany path count)
+refusal_status_of (refused.TooManyCards count) = answer.Election (refused.TooManyCards count)
+refusal_status_of refused.OutOfMemory = answer.NoMemory

@@ -13,7 +13,7 @@ mod print;
 mod status;
 mod top;
 
-pub use status::Status;
+pub use status::{LayoutFault, Status};
 pub use top::run;
 
 #[cfg(test)]

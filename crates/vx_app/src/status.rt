@@ -2,9 +2,30 @@ ghost use Rattle.std.specs.Prelude.{◌≡◌};
 ghost use Rattle.vx_app.specs.Status.{number_of};
 
 use std::fmt;
+use vx_election::ElectionFault;
+
+/// Why a card can't be laid out.
+#[derive(Clone, Copy, Debug, PartialEq, Eq)]
+pub enum LayoutFault {
+    /// There is no such card; the election has so many.
+    NoCard(u32),
+}
+
+impl fmt::Display for LayoutFault {
+    ghost use Rattle.std.specs.Prelude.{Some};
+    ghost use Rattle.vx_app.specs.Status.{layout_text_of};
+
+    ghost output = { λ fault. Some (layout_text_of fault) };
+
+    fn fmt<W: fmt::Write>(&self, f: &mut fmt::Formatter<W>) -> fmt::Result {
+        match self {
+            LayoutFault::NoCard(cards) => write!(f, "4 {cards}"),
+        }
+    }
+}
 
 /// What a command answers. Words are counted from 0.
-#[derive(Clone, Copy, Debug, PartialEq, Eq)]
+#[derive(Debug, Drop)]
 pub enum Status {
     /// The command did its work.
     Ok,
@@ -14,6 +35,10 @@ pub enum Status {
     NoInput(u32),
     /// That input has so many bytes, more than the limit.
     TooLong(u32, u64),
+    /// The election definition is refused.
+    Election(ElectionFault),
+    /// That card can't be laid out.
+    Layout(u32, LayoutFault),
     /// The inputs failed.
     ReadFault,
     /// The sink failed.
@@ -32,6 +57,8 @@ impl Status {
             Status::Usage => 1,
             Status::NoInput(_) => 2,
             Status::TooLong(_, _) => 3,
+            Status::Election(_) => 4,
+            Status::Layout(_, _) => 5,
             Status::ReadFault => 10,
             Status::WriteFault => 11,
             Status::NoMemory => 13,
@@ -52,6 +79,8 @@ impl fmt::Display for Status {
             Status::Usage => f.write_str("usage"),
             Status::NoInput(word) => write!(f, "no input {word}"),
             Status::TooLong(word, size) => write!(f, "too long {word} {size}"),
+            Status::Election(fault) => write!(f, "election {fault}"),
+            Status::Layout(card, fault) => write!(f, "layout {card} {fault}"),
             Status::ReadFault => f.write_str("read fault"),
             Status::WriteFault => f.write_str("write fault"),
             Status::NoMemory => f.write_str("no memory"),

@@ -1,22 +1,27 @@
-use crate::{Status, run};
+use crate::run;
 use std::alloc::AllocError;
 use std::test::Fail;
 use std::thread::Threads;
 use vx_io::{Calls, KeeperCalls, MemInputs, MemKeeper, MemSink, NamedBytes, Records, Words};
 
+/// The town's election, with one contest on one card.
+const TOWN: &str =
+    r#"{"title":"Town","date":"2024-11-05","districts":[{"id":"d","name":"Town"}],"precincts":[{"id":"p","name":"North"}],"contests":[{"id":"mayor","type":"candidate","districtId":"d","title":"Mayor","seats":1,"candidates":[{"id":"a","name":"Ada"},{"id":"b","name":"Bo"}]}],"ballotStyles":[{"id":"s","precincts":["p"],"districts":["d"]}]}"#;
+
 /// How many bytes both pages have.
 const WHOLE: u64 = 937_226;
 
-/// What a command answered, and what the sink had taken.
+/// What a command answered, as the program says it, and what the sink had taken.
 #[derive(Drop)]
 struct Answer {
-    status: Status,
+    status: String,
     text: Vec<u8>,
 }
 
-/// Runs a command over one file `e`, while the listed calls fail.
+/// Runs a command over the file `e`, while the listed calls fail.
 fn attempt<R: Threads + Sync + AllocGlobal>(
     rt: &R,
+    election: &str,
     line: &[&str],
     read_fails: &[u64],
     write_fails: &[u64],
@@ -30,22 +35,24 @@ fn attempt<R: Threads + Sync + AllocGlobal>(
         }
     }
     let mut files = NamedBytes::new(alloc);
-    files.push("e", vx_bits::Bytes::from_slice(alloc, b"{}")?)?;
+    files.push("e", vx_bits::Bytes::from_slice(alloc, election.as_bytes())?)?;
     let mut inputs = MemInputs::new(files, Calls::from_vec(Vec::from_slice(alloc, read_fails)?));
     let calls = Calls::from_vec(Vec::from_slice(alloc, write_fails)?);
     let mut out = MemSink::new(alloc, room, calls)?;
     let mut keeper = MemKeeper::new(Records::new(alloc), KeeperCalls::new(alloc));
     let status = run(rt, alloc, &words, &mut inputs, &mut out, &mut keeper);
-    let text = Vec::from_slice(alloc, out.held())?;
-    Ok(Answer { status, text })
+    Ok(Answer {
+        status: format!(in alloc; "{status}")?,
+        text: Vec::from_slice(alloc, out.held())?,
+    })
 }
 
 const PRINT: [&str; 4] = ["print", "e", "0", "precinct"];
 
 #[test]
 fn prints_with_ample_memory(rt: HostRuntime) -> Result<(), Fail> {
-    let answer = attempt(&rt, &PRINT, &[], &[], WHOLE)?;
-    assert_eq!(rt; answer.status, Status::Ok);
+    let answer = attempt(&rt, TOWN, &PRINT, &[], &[], WHOLE)?;
+    assert_eq!(rt; answer.status.as_str(), "ok");
     assert_eq!(rt; answer.text.len() as u64, WHOLE);
     assert!(rt; answer.text.as_slice().starts_with(b"P4\n1700 2200\n"));
     Ok(())
@@ -53,21 +60,21 @@ fn prints_with_ample_memory(rt: HostRuntime) -> Result<(), Fail> {
 
 #[test]
 fn a_failing_call_is_that_device_s_fault(rt: HostRuntime) -> Result<(), Fail> {
-    let whole = attempt(&rt, &PRINT, &[], &[], WHOLE)?;
+    let whole = attempt(&rt, TOWN, &PRINT, &[], &[], WHOLE)?;
     for call in [1, 2] {
-        let read = attempt(&rt, &PRINT, &[call], &[], WHOLE)?;
-        assert_eq!(rt; read.status, Status::ReadFault, "call {call}");
+        let read = attempt(&rt, TOWN, &PRINT, &[call], &[], WHOLE)?;
+        assert_eq!(rt; read.status.as_str(), "read fault", "call {call}");
         assert!(rt; read.text.is_empty(), "call {call}");
-        let written = attempt(&rt, &PRINT, &[], &[call], WHOLE)?;
-        assert_eq!(rt; written.status, Status::WriteFault, "call {call}");
+        let written = attempt(&rt, TOWN, &PRINT, &[], &[call], WHOLE)?;
+        assert_eq!(rt; written.status.as_str(), "write fault", "call {call}");
         assert!(rt;
             whole.text.as_slice().starts_with(written.text.as_slice()),
             "call {call}"
         );
         assert!(rt; written.text.len() < whole.text.len(), "call {call}");
     }
-    let full = attempt(&rt, &PRINT, &[], &[], 1000)?;
-    assert_eq!(rt; full.status, Status::WriteFault);
+    let full = attempt(&rt, TOWN, &PRINT, &[], &[], 1000)?;
+    assert_eq!(rt; full.status.as_str(), "write fault");
     assert_eq!(rt; full.text.len(), 1000);
     assert!(rt; whole.text.as_slice().starts_with(full.text.as_slice()));
     Ok(())
@@ -95,8 +102,8 @@ fn words_are_a_command_or_usage(rt: HostRuntime) -> Result<(), Fail> {
         &["help"],
     ];
     for line in usage {
-        let answer = attempt(&rt, line, &[], &[], WHOLE)?;
-        assert_eq!(rt; answer.status, Status::Usage, "{line:?}");
+        let answer = attempt(&rt, TOWN, line, &[], &[], WHOLE)?;
+        assert_eq!(rt; answer.status.as_str(), "usage", "{line:?}");
         assert!(rt; answer.text.is_empty(), "{line:?}");
     }
     let kinds = [
@@ -108,11 +115,40 @@ fn words_are_a_command_or_usage(rt: HostRuntime) -> Result<(), Fail> {
         "test-provisional",
     ];
     for kind in kinds {
-        let answer = attempt(&rt, &["print", "e", "1023", kind], &[], &[], WHOLE)?;
-        assert_eq!(rt; answer.status, Status::Ok, "{kind}");
+        let answer = attempt(&rt, TOWN, &["print", "e", "0", kind], &[], &[], WHOLE)?;
+        assert_eq!(rt; answer.status.as_str(), "ok", "{kind}");
     }
-    let absent = attempt(&rt, &["print", "f", "0", "precinct"], &[], &[], WHOLE)?;
-    assert_eq!(rt; absent.status, Status::NoInput(1));
+    let absent = attempt(&rt, TOWN, &["print", "f", "0", "precinct"], &[], &[], WHOLE)?;
+    assert_eq!(rt; absent.status.as_str(), "no input 1");
     assert!(rt; absent.text.is_empty());
+    for card in ["1", "1023"] {
+        let answer = attempt(
+            &rt,
+            TOWN,
+            &["print", "e", card, "precinct"],
+            &[],
+            &[],
+            WHOLE,
+        )?;
+        assert!(rt; answer.status.as_str().starts_with("layout"), "{card}");
+        assert!(rt; answer.status.as_str().ends_with(" 4 1"), "{card}");
+        assert!(rt; answer.text.is_empty(), "{card}");
+    }
+    Ok(())
+}
+
+#[test]
+fn a_bad_election_is_refused_with_its_cause(rt: HostRuntime) -> Result<(), Fail> {
+    let table = [
+        (r#"{"title":"T"}"#, "election 2 date"),
+        ("[]", "election 3 "),
+        ("{", "election 1"),
+        (r#"{"title":""}"#, "election 4 title"),
+    ];
+    for (election, refusal) in table {
+        let answer = attempt(&rt, election, &PRINT, &[], &[], WHOLE)?;
+        assert_eq!(rt; answer.status.as_str(), refusal, "{election}");
+        assert!(rt; answer.text.is_empty(), "{election}");
+    }
     Ok(())
 }

@@ -4,12 +4,13 @@ use Rattle.std.specs.Int.{bit_at}
 use Rattle.std.specs.List.{range_with_len}
 use Rattle.std.proofs.lemmas.Bool.{cases_eq, cases_lt}
 use Rattle.std.proofs.lemmas.Int.{ints}
-use Rattle.std.proofs.lemmas.List.{get_or-take, get_or-drop, get_or_past, length-take-le}
+use Rattle.std.proofs.lemmas.List.{get_or-take, get_or-drop, get_or_past, length-take-le, same_lists, get_or_default}
 use Rattle.std.proofs.lemmas.List.FromFn.{length-map-range_with_len, get_or-map-range_with_len, map-range_with_len_more, fill_by_all}
 use Rattle.std.proofs.lemmas.Nat.{same_from_place}
 use Rattle.std.proofs.lemmas.Nat.Bits.{bit_at-zero, bit_at-lt, bit_at_and, bit_at_mask_inside, bit_at_mask_below, and_high_mask, ones_shl}
 use Rattle.vx_plane.specs.Plane.{Page, page_of, dark_at, nowhere, with_pixel}
 use Rattle.vx_plane.specs.Count.{one_if}
+use Rattle.vx_plane.proofs.Counts.{one_if-below}
 use Rattle.vx_plane.proofs.Pages.{map-same, row_at, page_of-same, page_of-dark_at, dark_at-inside, dark_at-beside, dark_at-under, with_pixel-here, with_pixel-elsewhere}
 use Rattle.vx_bits.specs.Packed.{stride_of, packed_pixel, packed_pixels, packed_page, unpacked, packed_byte, packed_row}
 
@@ -209,3 +210,58 @@ packed_row-padded width pad bytes row e sized some l even small =
     ap (λ n. map (packed_byte row) (range_with_len 0 n)) size
     ∙ map-range_with_len_more (packed_byte row) 0 k k (omega arith)
     ∙ ap₂ (λ xs x. xs ++ x ∷ []) (sym front) last
+
+-- the bits of a number that is a sum of eight bits
+sum-bits : (a b c d e f g h i : ℕ) → a ≤ 1 → b ≤ 1 → c ≤ 1 → d ≤ 1 → e ≤ 1 → f ≤ 1 → g ≤ 1 → h ≤ 1 → i < 8 → bit_at (128 * a + 64 * b + 32 * c + 16 * d + 8 * e + 4 * f + 2 * g + h) (7 - i) ≡ get_or (a ∷ b ∷ c ∷ d ∷ e ∷ f ∷ g ∷ h ∷ []) i 0
+sum-bits a b c d e f g h zero la lb lc ld le lf lg lh li = omega arith
+sum-bits a b c d e f g h (suc zero) la lb lc ld le lf lg lh li = omega arith
+sum-bits a b c d e f g h (suc (suc zero)) la lb lc ld le lf lg lh li = omega arith
+sum-bits a b c d e f g h (suc (suc (suc zero))) la lb lc ld le lf lg lh li = omega arith
+sum-bits a b c d e f g h (suc (suc (suc (suc zero)))) la lb lc ld le lf lg lh li = omega arith
+sum-bits a b c d e f g h (suc (suc (suc (suc (suc zero))))) la lb lc ld le lf lg lh li = omega arith
+sum-bits a b c d e f g h (suc (suc (suc (suc (suc (suc zero)))))) la lb lc ld le lf lg lh li = omega arith
+sum-bits a b c d e f g h (suc (suc (suc (suc (suc (suc (suc zero))))))) la lb lc ld le lf lg lh li = omega arith
+sum-bits a b c d e f g h (suc (suc (suc (suc (suc (suc (suc (suc i)))))))) la lb lc ld le lf lg lh li = absurd (omega arith)
+
+one_of_eight : (row : List Bool) (k i : ℕ) → i < 8 → get_or (one_if (get_or row (8 * k) false) ∷ one_if (get_or row (8 * k + 1) false) ∷ one_if (get_or row (8 * k + 2) false) ∷ one_if (get_or row (8 * k + 3) false) ∷ one_if (get_or row (8 * k + 4) false) ∷ one_if (get_or row (8 * k + 5) false) ∷ one_if (get_or row (8 * k + 6) false) ∷ one_if (get_or row (8 * k + 7) false) ∷ []) i 0 ≡ one_if (get_or row (8 * k + i) false)
+one_of_eight row k zero h = ap (λ n. one_if (get_or row n false)) (omega arith)
+one_of_eight row k (suc zero) h = refl
+one_of_eight row k (suc (suc zero)) h = refl
+one_of_eight row k (suc (suc (suc zero))) h = refl
+one_of_eight row k (suc (suc (suc (suc zero)))) h = refl
+one_of_eight row k (suc (suc (suc (suc (suc zero))))) h = refl
+one_of_eight row k (suc (suc (suc (suc (suc (suc zero)))))) h = refl
+one_of_eight row k (suc (suc (suc (suc (suc (suc (suc zero))))))) h = refl
+one_of_eight row k (suc (suc (suc (suc (suc (suc (suc (suc i)))))))) h = absurd (omega arith)
+
+-- a bit of a packed byte is a pixel of the row
+pub packed_byte-bit : (row : List Bool) (k i : ℕ) → i < 8 → bit_at (packed_byte row k) (7 - i) ≡ one_if (get_or row (8 * k + i) false)
+packed_byte-bit row k i h =
+    sum-bits _ _ _ _ _ _ _ _ i (one_if-below _) (one_if-below _) (one_if-below _) (one_if-below _) (one_if-below _) (one_if-below _) (one_if-below _) (one_if-below _) h
+    ∙ one_of_eight row k i h
+
+is_one : (b : Bool) → (one_if b == 1) ≡ b
+is_one true = refl
+is_one false = refl
+
+-- a packed row has its stride's number of bytes, and holds the row
+pub length-packed_row : (row : List Bool) → length (packed_row row) ≡ stride_of (length row)
+unfolding packed_row
+length-packed_row row = length-map-range_with_len _ 0 (stride_of (length row))
+
+pub packed_row-pixel : (row : List Bool) (x : ℕ) → x < length row → packed_pixel (packed_row row) 0 x ≡ get_or row x false
+unfolding packed_row
+packed_row-pixel row x h =
+    let byte : get_or (map (packed_byte row) (range_with_len 0 (stride_of (length row)))) (0 + x / 8) 0 ≡ packed_byte row (x / 8) =
+    get_or-map-range_with_len _ 0 (stride_of (length row)) (0 + x / 8) (x / 8) 0 (omega arith) (omega arith) in
+    let place : 8 * (x / 8) + x % 8 ≡ x = omega arith in
+    ap (λ (n : ℕ). n == 1) (ap (λ b. bit_at b (7 - x % 8)) byte ∙ packed_byte-bit row (x / 8) (x % 8) (omega arith))
+    ∙ is_one (get_or row (8 * (x / 8) + x % 8) false)
+    ∙ ap (λ n. get_or row n false) place
+
+pub packed_row-unpacked : (row : List Bool) → unpacked (length row) (packed_row row) ≡ row
+packed_row-unpacked row =
+    same_lists _ _ (length-unpacked (length row) (packed_row row))
+    (λ k d h.
+    let within : k < length row = omega (arith, length-unpacked (length row) (packed_row row)) in
+    get_or_default _ k d false h ∙ get_or-unpacked (length row) k (packed_row row) within ∙ packed_row-pixel row k within ∙ get_or_default row k false d within)

@@ -34,6 +34,17 @@ mod tests {
         Ok(())
     }
 
+    fn crosses_threads<T: Send + Sync>(_value: &T) {}
+
+    #[test]
+    fn threads_may_share(rt: HostRuntime) -> Result<(), Fail> {
+        let page = BitPage::new(rt.alloc(), 1, 1)?;
+        crosses_threads(&page);
+        crosses_threads(&page.view());
+        crosses_threads(&Bytes::new(rt.alloc()));
+        Ok(())
+    }
+
     #[test]
     fn padding_is_not_seen(rt: HostRuntime) {
         let view = BitView::new(3, 1, &[0b0101_1111]);

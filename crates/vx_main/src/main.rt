@@ -59,8 +59,9 @@ fn answer<R: Env + Files + Print + AllocGlobal + Threads + Sync>(rt: &R) -> Stat
 
 fn main(rt: HostRuntime) -> ExitCode {
     let status = answer(&rt);
-    if status != Status::Ok {
+    let number = status.number();
+    if number != 0 {
         let _ = eprintln!(rt; "vx: {status}");
     }
-    ExitCode::from(status.number())
+    ExitCode::from(number)
 }

@@ -4,7 +4,7 @@ use Rattle.std.proofs.lemmas.Int.{ints, by_lt_z}
 use Rattle.vx_plane.specs.Plane.{Page}
 use Rattle.vx_grid.specs.declared.places.Point.{Point}
 use Rattle.vx_mark.specs.Mark.{IsAccepted}
-use Rattle.vx_mark.specs.Corner.{IsInCornerRegion, IsFirst, IsCorner, HasDiagonal, IsFirstOfDiagonal}
+use Rattle.vx_mark.specs.Corner.{IsInCornerRegion, ComesBefore, IsCorner, HasDiagonal, IsFirstOfDiagonal}
 use Rattle.vx_mark.proofs.Places.{same_place, accepted_there}
 
 -- no accepted place of the region with one sum stands in a row before v
@@ -72,7 +72,7 @@ pub corner-none : (page : Page) → NoneBefore page 221 → (q : Point) → IsAc
 corner-none page h q good region = h q good region (omega (arith, ints, region.right, region.bottom))
 
 -- of two different places one is first
-either-first : (p q : Point) → (IsFirst p q → ⊥) → (IsFirst q p → ⊥) → p ≡ q
+either-first : (p q : Point) → (ComesBefore p q → ⊥) → (ComesBefore q p → ⊥) → p ≡ q
 either-first p q a b =
     let sums : p.u +ℤ p.v ≡ q.u +ℤ q.v = by_lt_z (p.u +ℤ p.v) (q.u +ℤ q.v) (λ l. absurd (a (inl l))) (λ m. by_lt_z (q.u +ℤ q.v) (p.u +ℤ p.v) (λ l. absurd (b (inl l))) (λ n. omega (arith, ints))) in
     let rows : p.v ≡ q.v = by_lt_z p.v q.v (λ l. absurd (a (inr (sums, l)))) (λ m. by_lt_z q.v p.v (λ l. absurd (b (inr (sym sums, l)))) (λ n. omega (arith, ints))) in

@@ -12,14 +12,14 @@ pub record IsInCornerRegion (p : Point) : Type 0 where
   pub bottom : p.v ≤ℤ pos 104
 
 -- the order of corners: the least sum of column and row first, then the least row
-abbrev pub IsFirst : Point → Point → Type 0
-IsFirst p q = ((p.u +ℤ p.v) <ℤ (q.u +ℤ q.v)) ⊎ ((p.u +ℤ p.v ≡ q.u +ℤ q.v) × (p.v <ℤ q.v))
+abbrev pub ComesBefore : Point → Point → Type 0
+ComesBefore p q = ((p.u +ℤ p.v) <ℤ (q.u +ℤ q.v)) ⊎ ((p.u +ℤ p.v ≡ q.u +ℤ q.v) × (p.v <ℤ q.v))
 
 -- the corner: the first of the accepted places of the region
 pub record IsCorner (page : Page) (p : Point) : Type 0 where
   pub accepted : IsAccepted page p
   pub in_region : IsInCornerRegion p
-  pub first : (q : Point) → IsAccepted page q → IsInCornerRegion q → IsFirst q p → ⊥
+  pub first : (q : Point) → IsAccepted page q → IsInCornerRegion q → ComesBefore q p → ⊥
 
 -- a place whose column and row have a sum
 abbrev pub HasDiagonal : ℕ → Point → Type 0

@@ -1,13 +1,13 @@
 -- Laws of pages: what lies where, what makes one page, and what painting does.
-use Rattle.std.proofs.Common.{◌≡◌, ℕ, zero, suc, ◌+◌, ◌≤◌, ◌<◌, List, [], length, map, get_or, Bool, true, false, cond, ◌||◌, ◌&&◌, ◌⊎◌, ⊎_elim, inl, inr, ℤ, pos, negsuc, ◌+ℤ◌, ◌≤ℤ◌, ◌<ℤ◌, refl, ap, ap₂, sym, ◌∙◌, arith, add-one}
+use Rattle.std.proofs.Common.{◌≡◌, ℕ, zero, suc, ◌+◌, ◌≤◌, ◌<◌, List, [], ◌∷◌, ◌++◌, length, map, take, get_or, Bool, true, false, cond, ◌||◌, ◌&&◌, ◌⊎◌, ⊎_elim, inl, inr, ℤ, pos, negsuc, ◌+ℤ◌, ◌≤ℤ◌, ◌<ℤ◌, refl, ap, ap₂, sym, ◌∙◌, arith, add-one}
 use Rattle.std.specs.List.{range_with_len}
 use Rattle.std.specs.Ordering.{int_eq}
 use Rattle.std.proofs.lemmas.Int.{ints, by_lt_z}
-use Rattle.std.proofs.lemmas.List.{same_lists, get_or_past}
+use Rattle.std.proofs.lemmas.List.{same_lists, get_or_past, take_more}
 use Rattle.std.proofs.lemmas.List.FromFn.{length-map-range_with_len, get_or-map-range_with_len}
 use Rattle.std.proofs.lemmas.Bool.{cases_lt}
 use Rattle.std.proofs.lemmas.Bool.Decides.{Decides-int_eq}
-use Rattle.vx_plane.specs.Plane.{Pixels, Page, rows_of, page_of, dark_at, with_pixel, union, rectangle, painted, in_any}
+use Rattle.vx_plane.specs.Plane.{Pixels, Page, rows_of, page_of, dark_at, with_pixel, union, rectangle, painted, in_any, any_of}
 
 -- the same numbers, the same list
 pub map-same : {X : Type 0} (f g : ℕ → X) (n : ℕ) → ((k : ℕ) → k < n → f k ≡ g k) → map f (range_with_len 0 n) ≡ map g (range_with_len 0 n)
@@ -228,3 +228,44 @@ with_pixel-here set x y dark =
 
 pub with_pixel-elsewhere : (set : Pixels) (x y u v : ℕ) (dark : Bool) → (u ≡ x → v ≡ y → ⊥) → with_pixel set (pos x) (pos y) dark (pos u) (pos v) ≡ set (pos u) (pos v)
 with_pixel-elsewhere set x y u v dark apart = elsewhere (int_eq (pos u) (pos x)) (int_eq (pos v) (pos y)) dark (set (pos u) (pos v)) (λ a b. apart (at u x a) (at v y b))
+
+-- no element has no place
+pub any_of-none : {A : Type 0} (set : A → Pixels) (u v : ℤ) → any_of [] set u v ≡ false
+any_of-none set u v = refl
+
+-- the places of two lists, one after the other
+pub any_of-append : {A : Type 0} (xs ys : List A) (set : A → Pixels) (u v : ℤ) → any_of (xs ++ ys) set u v ≡ any_of xs set u v || any_of ys set u v
+any_of-append [] ys set u v = refl
+any_of-append (x ∷ xs) ys set u v =
+    ap (λ (t : Bool). set x u v || t) (any_of-append xs ys set u v)
+    ∙ sym (or_assoc (set x u v) (any_of xs set u v) (any_of ys set u v))
+
+-- the places of a list with one element more at its end
+pub any_of-push : {A : Type 0} (xs : List A) (x : A) (set : A → Pixels) (u v : ℤ) → any_of (xs ++ x ∷ []) set u v ≡ any_of xs set u v || set x u v
+any_of-push xs x set u v =
+    any_of-append xs (x ∷ []) set u v ∙ ap (λ (t : Bool). any_of xs set u v || t) (or_false (set x u v))
+
+-- the places of one element more of a list
+pub any_of-take_more : {A : Type 0} (xs : List A) (i : ℕ) (d : A) (set : A → Pixels) (u v : ℤ) → i < length xs → any_of (take (i + 1) xs) set u v ≡ any_of (take i xs) set u v || set (get_or xs i d) u v
+any_of-take_more {A = A} xs i d set u v h =
+    ap (λ (ys : List A). any_of ys set u v) (take_more xs i d h) ∙ any_of-push (take i xs) (get_or xs i d) set u v
+
+-- a place of a list's sets lies in the set of one of its elements
+pub any_of-some : {A : Type 0} (xs : List A) (d : A) (set : A → Pixels) (u v : ℤ) → any_of xs set u v ≡ true → (k : ℕ) × (k < length xs) × (set (get_or xs k d) u v ≡ true)
+any_of-some [] d set u v h = absurd (cc)
+any_of-some (x ∷ xs) d set u v h =
+    or_cases (set x u v) (any_of xs set u v) h
+    (λ here. (0, omega arith, here))
+    (λ after. let some : (k : ℕ) × (k < length xs) × (set (get_or xs k d) u v ≡ true) = any_of-some xs d set u v after in (suc some.0, omega (arith, some.1), some.2))
+
+-- a place of the set of one of a list's elements is among them
+pub any_of-one : {A : Type 0} (xs : List A) (k : ℕ) (d : A) (set : A → Pixels) (u v : ℤ) → k < length xs → set (get_or xs k d) u v ≡ true → any_of xs set u v ≡ true
+any_of-one [] k d set u v l h = absurd (omega arith)
+any_of-one (x ∷ xs) zero d set u v l h = or_left (set x u v) (any_of xs set u v) h
+any_of-one (x ∷ xs) (suc k) d set u v l h = or_right (set x u v) (any_of xs set u v) (any_of-one xs k d set u v (omega arith) h)
+
+-- painting the set of one element more of a list
+pub painted-any_of_more : {A : Type 0} (page : Page) (xs : List A) (i : ℕ) (d : A) (set : A → Pixels) → i < length xs → painted page (any_of (take (i + 1) xs) set) ≡ painted (painted page (any_of (take i xs) set)) (set (get_or xs i d))
+painted-any_of_more page xs i d set h =
+    painted-same page _ (union (any_of (take i xs) set) (set (get_or xs i d))) (λ x y l m. any_of-take_more xs i d set (pos x) (pos y) h)
+    ∙ painted-union page (any_of (take i xs) set) (set (get_or xs i d))

@@ -1,5 +1,5 @@
 -- Sets of places in the whole-number plane, and pages.
-use Rattle.std.specs.Prelude.{ℕ, suc, zero, List, [], map, Bool, false, cond, ◌&&◌, ◌||◌, ℤ, pos, negsuc, ◌+ℤ◌, int_lt, int_le, slice_index_or}
+use Rattle.std.specs.Prelude.{ℕ, suc, zero, List, [], ◌∷◌, map, Bool, false, cond, ◌&&◌, ◌||◌, ℤ, pos, negsuc, ◌+ℤ◌, ◌-ℤ◌, int_lt, int_le, slice_index_or}
 use Rattle.std.specs.Ordering.{int_eq}
 use Rattle.std.specs.List.{range_with_len}
 
@@ -52,3 +52,12 @@ painted page shape = page_of page.width page.height (union (dark_at page) shape)
 abbrev pub in_any : ℕ → (ℕ → Pixels) → Pixels
 in_any zero family u v = false
 in_any (suc n) family u v = in_any n family u v || family n u v
+
+-- the places of the sets that the elements of a list stand for
+abbrev pub any_of : {A : Type 0} → List A → (A → Pixels) → Pixels
+any_of [] set u v = false
+any_of (x ∷ xs) set u v = set x u v || any_of xs set u v
+
+-- a shape that is given by offsets, put at a place
+abbrev pub placed : ℤ → ℤ → Pixels → Pixels
+placed x y shape u v = shape (u -ℤ x) (v -ℤ y)

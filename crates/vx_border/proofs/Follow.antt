@@ -1,0 +1,97 @@
+-- Laws of followed lists of places.
+use Rattle.std.proofs.Common.{Bool, true, false, ◌≡◌, ◌≢◌, ◌+◌, ◌-◌, ◌<◌, ◌≤◌, ◌⊎◌, inl, inr, ℕ, zero, suc, List, length, get_or, set, arith, ap, sym, subst, ◌∙◌, refl, ℤ, pos, ◌+ℤ◌, ◌≤ℤ◌, ◌<ℤ◌, get_or-set_same, get_or-set_other}
+use Rattle.std.specs.Prelude.{if◌then◌else◌}
+use Rattle.std.proofs.lemmas.Int.{ints}
+use Rattle.std.proofs.lemmas.Bool.{cases_lt}
+use Rattle.std.proofs.lemmas.Bool.Decides.{nat_tests}
+use Rattle.std.proofs.lemmas.List.{get_or_default}
+use Rattle.vx_plane.specs.Plane.{Page}
+use Rattle.vx_grid.specs.declared.places.Point.{Point}
+use Rattle.vx_grid.specs.Places.{IsWithin, IsPointWithin, point_at}
+use Rattle.vx_mark.specs.Mark.{IsAccepted}
+use Rattle.vx_mark.specs.Corner.{IsCorner}
+use Rattle.vx_mark.specs.Best.{IsBest}
+use Rattle.vx_border.specs.Border.{IsFollowed, leader_of, prediction_of, expected_from, is_in_row, right_of, below}
+
+-- an accepted place lies in the frame
+pub accepted_within : (page : Page) (p : Point) → page.width ≤ 4096 → page.height ≤ 4096 → IsAccepted page p → IsPointWithin 4096 p
+accepted_within page p w h a = record {
+  u = record { low = omega (arith, ints, a.in_frame.left); high = omega (arith, ints, a.in_frame.right) };
+  v = record { low = omega (arith, ints, a.in_frame.top); high = omega (arith, ints, a.in_frame.bottom) };
+}
+
+-- each place of a followed list lies in the frame
+pub followed_within : (page : Page) (n k : ℕ) (places : List Point) → page.width ≤ 4096 → page.height ≤ 4096 → IsFollowed page n places → k < n → IsPointWithin 4096 (point_at places k)
+followed_within page n zero places w h f l = accepted_within page _ w h f.corner.accepted
+followed_within page n (suc k) places w h f l = accepted_within page _ w h (f.next (suc k) (omega arith) l).accepted
+
+-- the mark that leads to another comes before it
+pub leader_before : (k : ℕ) → 0 < k → leader_of k < k
+leader_before k h = grind (arith, nat_tests)
+
+-- the corner alone is followed
+pub followed_one : (page : Page) (places : List Point) → IsCorner page (point_at places 0) → IsFollowed page 1 places
+followed_one page places corner = record { corner = corner; next = λ k l h. absurd (omega arith) }
+
+-- a place that is written leaves the places before it
+point_at_before : (places : List Point) (k j : ℕ) (p : Point) → j < k → point_at (set places k p) j ≡ point_at places j
+point_at_before places k j p before = let apart : j ≢ k = λ e. absurd (omega arith) in get_or-set_other places k j p (record { u = pos 0; v = pos 0 }) apart
+
+-- and stands at its own index
+point_at_own : (places : List Point) (k : ℕ) (p : Point) → k < length places → point_at (set places k p) k ≡ p
+point_at_own places k p inside = get_or-set_same places k p (record { u = pos 0; v = pos 0 }) inside
+
+-- where a mark is expected doesn't change
+prediction_before : (places : List Point) (k j : ℕ) (p : Point) → 0 < j → j ≤ k → prediction_of (set places k p) j ≡ prediction_of places j
+prediction_before places k j p some most = ap (expected_from j) (point_at_before places k (leader_of j) p (omega (arith, leader_before j some)))
+
+-- a followed list with one place more
+pub followed_more : (page : Page) (k : ℕ) (places : List Point) (p : Point) → 0 < k → k < length places → IsFollowed page k places → IsBest page (prediction_of places k) p → IsFollowed page (k + 1) (set places k p)
+followed_more page k places p some inside f best =
+    let Corner : Point → Type 0 = λ x. IsCorner page x in
+    let Own : Point → Type 0 = λ x. IsBest page (prediction_of places k) x in
+    let own : IsBest page (prediction_of places k) (point_at (set places k p) k) = subst Own (sym (point_at_own places k p inside)) best in
+    record {
+      corner = subst Corner (sym (point_at_before places k 0 p some)) f.corner;
+      next = λ j low high.
+          elim (cases_lt j k) [
+            | inl before ↦
+                let Here : Point → Type 0 = λ x. IsBest page (prediction_of places j) x in
+                let here : IsBest page (prediction_of places j) (point_at (set places k p) j) = subst Here (sym (point_at_before places k j p before)) (f.next j low before) in
+                let Expected : Point → Type 0 = λ q. IsBest page q (point_at (set places k p) j) in
+                subst Expected (sym (prediction_before places k j p low (omega arith))) here
+            | inr not_before ↦
+                let last : k ≡ j = omega arith in
+                let Expected : Point → Type 0 = λ q. IsBest page q (point_at (set places k p) k) in
+                let expected : IsBest page (prediction_of (set places k p) k) (point_at (set places k p) k) = subst Expected (sym (prediction_before places k k p some (omega arith))) own in
+                let At : ℕ → Type 0 = λ m. IsBest page (prediction_of (set places k p) m) (point_at (set places k p) m) in
+                subst At last expected
+          ];
+    }
+
+-- the element at an index, whatever stands for one past the end
+pub point_at_is : (places : List Point) (i : ℕ) (p : Point) → i < length places → p ≡ get_or places i p → point_at places i ≡ p
+point_at_is places i p inside is = get_or_default places i (record { u = pos 0; v = pos 0 }) p inside ∙ sym is
+
+-- a point that lies within a bound lies within a larger one
+pub within_more : (m n : ℕ) (p : Point) → m ≤ n → IsPointWithin m p → IsPointWithin n p
+within_more m n p le w = record {
+  u = record { low = omega (arith, ints, w.u.low); high = omega (arith, ints, w.u.high) };
+  v = record { low = omega (arith, ints, w.v.low); high = omega (arith, ints, w.v.high) };
+}
+
+one_of_two : (test : Bool) (p q : Point) → IsPointWithin 9000 p → IsPointWithin 9000 q → IsPointWithin 9000 (if test then p else q)
+one_of_two true p q a b = a
+one_of_two false p q a b = b
+
+-- where the next mark is expected lies a step further at most
+pub expected_within : (k : ℕ) (p : Point) → IsPointWithin 4096 p → IsPointWithin 9000 (expected_from k p)
+expected_within k p w = one_of_two (is_in_row k) (right_of p) (below p)
+    (record {
+      u = record { low = omega (arith, ints, w.u.low); high = omega (arith, ints, w.u.high) };
+      v = record { low = omega (arith, ints, w.v.low); high = omega (arith, ints, w.v.high) };
+    })
+    (record {
+      u = record { low = omega (arith, ints, w.u.low); high = omega (arith, ints, w.u.high) };
+      v = record { low = omega (arith, ints, w.v.low); high = omega (arith, ints, w.v.high) };
+    })
