@@ -1,0 +1,15 @@
+//! The layout of a card: where each contest's text and bubbles stand on its pages, or why the card
+//! can't be printed.
+#![tactic(auto)]
+
+mod bubbles;
+mod fault;
+mod lines;
+mod pages;
+mod plan;
+
+pub use bubbles::{Bubble, Bubbles};
+pub use fault::LayoutFault;
+pub use lines::{TextLine, TextLines};
+pub use pages::{PagePlan, PagePlans};
+pub use plan::{CardPlan, CardPlans};
