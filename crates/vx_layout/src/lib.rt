@@ -4,12 +4,14 @@
 
 mod bubbles;
 mod fault;
+mod flow;
 mod lines;
 mod pages;
 mod plan;
 
 pub use bubbles::{Bubble, Bubbles};
 pub use fault::LayoutFault;
+pub use flow::{Block, Spot};
 pub use lines::{TextLine, TextLines};
 pub use pages::{PagePlan, PagePlans};
 pub use plan::{CardPlan, CardPlans};
