@@ -1,0 +1,11 @@
+use Rattle.std.proofs.Common.{rules}
+use Rattle.vx_election.proofs.Bytes.{value_of-read, value_of-no_text}
+use Rattle.vx_election.proofs.reading.value_of.Goals as goal
+
+pub returns-in_default : goal.returns-in_default
+returns-in_default c = value_of-no_text c.args.bytes.now c.in_default.ensures.cases.0
+
+pub returns-in-Ok-from_str : goal.returns-in-Ok-from_str
+returns-in-Ok-from_str c =
+    let same = c.in-Ok.ensures.cases.0 in
+    value_of-read c.args.bytes.now _ c.in-Ok.ensures.cases.1 (rw same at c.in-Ok-from_str.ensures.ok)

@@ -1,0 +1,12 @@
+pub mod Options
+pub mod Reasons
+pub mod Faults
+pub mod Names
+pub mod Ids
+pub mod Members
+pub mod Dates
+pub mod Parts
+pub mod Contests
+pub mod Styles
+pub mod Settings
+pub mod Reading

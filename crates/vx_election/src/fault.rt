@@ -1,0 +1,63 @@
+//! Why an election definition is refused.
+
+ghost use Rattle.std.specs.Prelude.{◌≡◌};
+ghost use Rattle.vx_election.specs.declared.fault.ElectionFault.TheVariants.{OutOfMemory};
+ghost use Rattle.vx_election.specs.Faults.{fault_of};
+
+use std::alloc::AllocFailed;
+use vx_bits::OutOfMemory as AllocError;
+use vx_json::{JsonFault, Path, Text};
+
+/// The first fault of an election definition. A path names a member, as `contests[2].id`.
+#[derive(Debug, Drop)]
+pub enum ElectionFault {
+    /// The bytes aren't JSON in UTF-8.
+    NotJson,
+    /// A member that is needed isn't there.
+    Missing(Path),
+    /// A member is of another kind.
+    WrongKind(Path),
+    /// A text or a number is outside its range, or a text isn't of its form.
+    OutOfRange(Path),
+    /// An id that stands earlier in the same list.
+    RepeatedId(Path, Text),
+    /// A reference to an id that the list has not.
+    UnknownId(Path, Text),
+    /// The thresholds, in pixels, aren't in their order and range.
+    BadThresholds(u32, u32),
+    /// A list with more elements than it may have, and how many it has.
+    TooMany(Path, u64),
+    /// More cards than there may be, and how many there are.
+    TooManyCards(u64),
+    /// Memory ran out.
+    OutOfMemory,
+}
+
+impl From<JsonFault> for ElectionFault {
+    ghost from_gives = { λ fault result. result ≡ fault_of fault };
+
+    fn from(fault: JsonFault) -> ElectionFault {
+        match fault {
+            JsonFault::Missing(path) => ElectionFault::Missing(path),
+            JsonFault::WrongKind(path) => ElectionFault::WrongKind(path),
+            JsonFault::OutOfRange(path) => ElectionFault::OutOfRange(path),
+            JsonFault::OutOfMemory => ElectionFault::OutOfMemory,
+        }
+    }
+}
+
+impl From<AllocError> for ElectionFault {
+    ghost from_gives = { λ _ result. result ≡ OutOfMemory };
+
+    fn from(_e: AllocError) -> ElectionFault {
+        ElectionFault::OutOfMemory
+    }
+}
+
+impl<T: Drop> From<AllocFailed<T>> for ElectionFault {
+    ghost from_gives = { λ _ result. result ≡ OutOfMemory };
+
+    fn from(_e: AllocFailed<T>) -> ElectionFault {
+        ElectionFault::OutOfMemory
+    }
+}

@@ -1,0 +1,154 @@
+//! The election that a definition's bytes give.
+
+ghost use Rattle.std.specs.Prelude.{◌≡◌};
+ghost use Rattle.serde_json.specs.View.{view};
+ghost use Rattle.sha2.specs.Sha256.{sha256};
+ghost use Rattle.vx_election.specs.Faults.{Answers};
+ghost use Rattle.vx_election.specs.Reading.{date_member, parties_in, named_member, contests_member, styles_member, election_in, value_of, election_of};
+
+use crate::contest::Contests;
+use crate::contests::contests_of;
+use crate::date::date_of;
+use crate::directory::{Directory, directory_of};
+use crate::election::Election;
+use crate::fault::ElectionFault;
+use crate::members::{list_member, optional_list, optional_text, text_member};
+use crate::names;
+use crate::settings::{reasons_of, thresholds_of};
+use crate::style::Styles;
+use crate::styles::{card_count, styles_of};
+use serde_json::Value;
+use sha2::{Digest, Sha256};
+use std::alloc::Global;
+use vx_json::{Path, Text, need};
+
+/// How many cards an election may have.
+const CARD_LIMIT: u64 = 1024;
+
+#[tactic(auto, unfolding(crate::specs::Reading::date_member))]
+fn date_member(alloc: Global, value: &Value) -> Result<Text, ElectionFault>
+    ensures { Answers (λ text. text) result (date_member (view value.now)) }
+{
+    let top = Path::root(alloc);
+    let member = need(alloc, value, &top, "date")?;
+    let at = top.member(alloc, "date")?;
+    date_of(alloc, member, &at)
+}
+
+#[tactic(auto, unfolding(crate::specs::Reading::parties_in))]
+fn parties_of(alloc: Global, value: &Value) -> Result<Directory, ElectionFault>
+    ensures { Answers (λ list. list) result (parties_in (view value.now)) }
+{
+    let top = Path::root(alloc);
+    let list = optional_list(alloc, value, &top, "parties", 200)?;
+    let at = top.member(alloc, "parties")?;
+    directory_of(alloc, list, &at)
+}
+
+/// The districts or the precincts.
+#[tactic(auto, unfolding(crate::specs::Reading::named_member))]
+fn directory_member(alloc: Global, value: &Value, name: &str) -> Result<Directory, ElectionFault>
+    ensures { Answers (λ list. list) result (named_member (view value.now) name.now) }
+{
+    let top = Path::root(alloc);
+    let list = list_member(alloc, value, &top, name, 2000)?;
+    let at = top.member(alloc, name)?;
+    directory_of(alloc, list, &at)
+}
+
+#[tactic(auto, unfolding(crate::specs::Reading::contests_member))]
+fn contests_member(
+    alloc: Global,
+    parties: &Directory,
+    districts: &Directory,
+    value: &Value,
+) -> Result<Contests, ElectionFault>
+    ensures { Answers (λ contests. contests) result (contests_member parties.now districts.now (view value.now)) }
+{
+    let top = Path::root(alloc);
+    let list = list_member(alloc, value, &top, "contests", 500)?;
+    let at = top.member(alloc, "contests")?;
+    contests_of(alloc, parties, districts, list, &at)
+}
+
+/// The ballot styles, which make few enough cards.
+#[tactic(auto, unfolding(crate::specs::Reading::styles_member))]
+fn styles_member(
+    alloc: Global,
+    parties: &Directory,
+    districts: &Directory,
+    precincts: &Directory,
+    value: &Value,
+) -> Result<Styles, ElectionFault>
+    ensures { Answers (λ styles. styles) result (styles_member parties.now districts.now precincts.now (view value.now)) }
+{
+    let top = Path::root(alloc);
+    let list = list_member(alloc, value, &top, names::ballot_styles(), 1000)?;
+    let at = top.member(alloc, names::ballot_styles())?;
+    let styles = styles_of(alloc, parties, districts, precincts, list, &at)?;
+    let count = card_count(styles.as_slice());
+    if CARD_LIMIT < count {
+        return Err(ElectionFault::TooManyCards(count));
+    }
+    Ok(styles)
+}
+
+/// The members of the definition in their order.
+#[tactic(auto, unfolding(crate::specs::Reading::election_in))]
+fn election_in(alloc: Global, digest: [u8; 32], value: &Value) -> Result<Election, ElectionFault>
+    ensures { Answers (λ election. election) result (election_in digest (view value.now)) }
+{
+    let top = Path::root(alloc);
+    let title = text_member(alloc, value, &top, "title", 1, 256)?;
+    let date = date_member(alloc, value)?;
+    let _state = optional_text(alloc, value, &top, "state", 0, 256, "")?;
+    let parties = parties_of(alloc, value)?;
+    let districts = directory_member(alloc, value, "districts")?;
+    let precincts = directory_member(alloc, value, "precincts")?;
+    let contests = contests_member(alloc, &parties, &districts, value)?;
+    let styles = styles_member(alloc, &parties, &districts, &precincts, value)?;
+    let thresholds = thresholds_of(alloc, value)?;
+    let reasons = reasons_of(alloc, value)?;
+    Ok(Election {
+        title,
+        date,
+        parties: parties.into_list(),
+        districts: districts.into_list(),
+        precincts: precincts.into_list(),
+        contests,
+        styles,
+        thresholds,
+        reasons,
+        digest,
+    })
+}
+
+fn digest_of(bytes: &[u8]) -> [u8; 32]
+    ensures { result ≡ sha256 bytes.now }
+{
+    Sha256::digest(bytes)
+}
+
+/// The value that the bytes are.
+#[tactic(auto, unfolding(crate::specs::Reading::value_of))]
+fn value_of(alloc: Global, bytes: &[u8]) -> Result<Value, ElectionFault>
+    ensures { Answers (λ value. view value) result (value_of bytes.now) }
+{
+    let Ok(text) = str::from_utf8(bytes) else {
+        return Err(ElectionFault::NotJson);
+    };
+    match Value::from_str(alloc, text) {
+        Ok(value) => Ok(value),
+        Err(error) if error.is_memory() => Err(ElectionFault::OutOfMemory),
+        Err(_) => Err(ElectionFault::NotJson),
+    }
+}
+
+/// The election that the bytes define, or their first fault.
+#[tactic(auto, unfolding(crate::specs::Reading::election_of))]
+pub fn read_election(alloc: Global, bytes: &[u8]) -> Result<Election, ElectionFault>
+    ensures { Answers (λ election. election) result (election_of bytes.now) }
+{
+    let value = value_of(alloc, bytes)?;
+    election_in(alloc, digest_of(bytes), &value)
+}
