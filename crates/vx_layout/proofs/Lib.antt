@@ -1,1 +1,3 @@
+pub mod Breaking
+pub mod Cutting
 pub mod Ellipses

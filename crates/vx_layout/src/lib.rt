@@ -8,6 +8,7 @@ mod flow;
 mod lines;
 mod pages;
 mod plan;
+mod typing;
 
 pub use bubbles::{Bubble, Bubbles};
 pub use fault::LayoutFault;
