@@ -1,3 +1,5 @@
 pub mod Breaking
 pub mod Cutting
 pub mod Ellipses
+pub mod Labels
+pub mod Ranges

@@ -1,5 +1,5 @@
 -- A contest's block: title, description, how many to vote for, and a row for each option.
-use Rattle.std.specs.Prelude.{◌≡◌, ◌≤◌, ℕ, ◌+◌, ◌++◌, List, [], All, map, length, nat_lt, slice_get, if◌then◌else◌, Option, None, Some, codes}
+use Rattle.std.specs.Prelude.{◌≡◌, ◌≤◌, ◌⊎◌, ℕ, ◌+◌, ◌++◌, List, [], All, map, length, slice_get, if◌then◌else◌, codes}
 use Rattle.std.specs.Fmt.{decimal}
 use Rattle.std.specs.List.{flat_map, range_with_len}
 use Rattle.std.specs.Option.{option_map_or}
@@ -8,7 +8,7 @@ use Rattle.vx_election.specs.declared.contest.Contest.{Contest}
 use Rattle.vx_election.specs.Options.{options_of}
 use Rattle.vx_layout.specs.declared.bubbles.Bubble.{Bubble}
 use Rattle.vx_layout.specs.declared.lines.TextLine.{TextLine}
-use Rattle.vx_layout.specs.Lines.{rows_of, lines_at}
+use Rattle.vx_layout.specs.Lines.{size_of, rows_of, lines_at}
 
 -- what stands between the title and the line with the seats: only a yes/no contest has it
 abbrev pub description_of : Contest → List ℕ
@@ -54,3 +54,17 @@ option_bubble number contest col row option =
 -- the bubbles of a block, one for each option, in their order
 unfoldable pub block_bubbles : ℕ → Contest → ℕ → ℕ → List Bubble
 block_bubbles number contest col row = map (option_bubble number contest col row) (range_with_len 0 (options_of contest))
+
+-- the sizes that a valid contest keeps to
+pub record HasSizes (contest : Contest) : Type 0 where
+  pub title : size_of contest.title ≤ 256
+  pub description : size_of contest.description ≤ 10000
+  pub seats : contest.seats ≤ 50
+  pub choices : length contest.choices ≤ 100
+  pub names : All (λ (choice : Choice). size_of choice.name ≤ 256) contest.choices
+  pub labels : All (λ (choice : Choice). (size_of choice.label ≤ 58) ⊎ (choice.label ≡ choice.name)) contest.choices
+
+-- a contest that can be printed: its labels fit a row each, and its block a column
+pub record Fits (contest : Contest) : Type 0 where
+  pub height : height_of contest ≤ 28
+  pub labels : All (λ (choice : Choice). size_of choice.label ≤ 58) contest.choices

@@ -2,6 +2,7 @@
 //! can't be printed.
 #![tactic(auto)]
 
+mod block;
 mod bubbles;
 mod fault;
 mod flow;

@@ -31,9 +31,9 @@ loop-rest-preserved c = record {
   left = left-is c;
   room = room-after c.args.text.now c.loop-rest.rest.now c.loop-rest.k (some-left c) c.loop-rest.invariant.left;
   laid =
-    c.in_ok-put_line.ensures
-    ∙ lines-more c.args.texts.now c.loop-rest.texts c.args.col c.args.row c.loop-rest.k c.args.text.now c.in_ok-line.line c.loop-rest.rest.now
-    c.in_ok-line.ensures c.loop-rest.invariant.left c.loop-rest.invariant.laid;
+      c.in_ok-put_line.ensures
+      ∙ lines-more c.args.texts.now c.loop-rest.texts c.args.col c.args.row c.loop-rest.k c.args.text.now c.in_ok-line.line c.loop-rest.rest.now
+      c.in_ok-line.ensures c.loop-rest.invariant.left c.loop-rest.invariant.laid;
 }
 
 pub returns : goal.returns
