@@ -1,9 +1,9 @@
 -- Where blocks stand: they flow through text columns of 28 rows, three on each page.
-use Rattle.std.specs.Prelude.{ℕ, ◌+◌, ◌*◌, ◌/◌, ◌%◌, List, [], ◌∷◌, Bool, false, None, nat_le, if◌then◌else◌, slice_index_or}
+use Rattle.std.specs.Prelude.{◌<◌, ◌≤◌, ℕ, ◌+◌, ◌*◌, ◌/◌, ◌%◌, List, [], ◌∷◌, length, false, None, nat_le, if◌then◌else◌, slice_index_or}
 use Rattle.vx_election.specs.declared.contest.Contest.{Contest}
 use Rattle.vx_layout.specs.declared.flow.Spot.{Spot}
 use Rattle.vx_layout.specs.declared.flow.Block.{Block}
-use Rattle.vx_layout.specs.Blocks.{height_of}
+use Rattle.vx_layout.specs.Blocks.{height_of, Fits}
 
 -- the rows of a text column
 abbrev pub column_rows : ℕ
@@ -76,3 +76,14 @@ row_of spot = 6 + spot.row
 -- an even number of pages, the last one without contests if need be
 abbrev pub even_up : ℕ → ℕ
 even_up pages = pages + pages % 2
+
+-- a block of a contest that can be printed, which stands within its column
+pub record IsPlaced (contests : List Contest) (block : Block) : Type 0 where
+  pub there : block.contest < length contests
+  pub fits : Fits (contest_at contests block.contest)
+  pub room : block.spot.row + height_of (contest_at contests block.contest) ≤ column_rows
+
+-- a contest with a number is there and can be printed
+pub record CanStand (contests : List Contest) (number : ℕ) : Type 0 where
+  pub there : number < length contests
+  pub fits : Fits (contest_at contests number)

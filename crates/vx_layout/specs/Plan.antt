@@ -68,9 +68,9 @@ hollow_in line = count_by (λ c. nat_lt 127 c) (chars line.text)
 abbrev pub hollow_on : List PagePlan → ℕ
 hollow_on pages = sum_by (λ (page : PagePlan). sum_by hollow_in page.texts) pages
 
--- the size of the first option's name that has more than 58 characters
-abbrev pub long_name : Contest → Option ℕ
-long_name contest = find (λ size. nat_lt 58 size) (map (λ (choice : Choice). size_of choice.name) contest.choices)
+-- the size of the first name of more than 58 characters
+abbrev pub long_in : List Choice → Option ℕ
+long_in choices = find (λ size. nat_lt 58 size) (map (λ (choice : Choice). size_of choice.name) choices)
 
 -- a block that is taller than a column
 abbrev pub tall_fault : Contest → Option LayoutFault
@@ -83,7 +83,7 @@ fault_unless contest (Some size) = Some (TextTooLong contest.id size)
 
 -- why a contest can't be printed, if so
 unfoldable pub contest_fault : Contest → Option LayoutFault
-contest_fault contest = fault_unless contest (long_name contest)
+contest_fault contest = fault_unless contest (long_in contest.choices)
 
 -- one fault, or else another
 abbrev pub or_fault : Option LayoutFault → Option LayoutFault → Option LayoutFault
@@ -136,3 +136,12 @@ Answers (Err (TextTooLong id size)) answer = answer ≡ Err (TextTooLong id size
 Answers (Err (TooManyPages pages)) answer = answer ≡ Err (TooManyPages pages)
 Answers (Err (NoCard cards)) answer = answer ≡ Err (NoCard cards)
 Answers (Ok x) answer = answer ≡ Ok x
+
+-- a test of contests found what the definition finds, or memory ran out
+abbrev pub Finds : Result (Unit {0}) LayoutFault → Option LayoutFault → Type 0
+Finds (Err OutOfMemory) fault = Unit {0}
+Finds (Err (ContestTooTall id rows)) fault = fault ≡ Some (ContestTooTall id rows)
+Finds (Err (TextTooLong id size)) fault = fault ≡ Some (TextTooLong id size)
+Finds (Err (TooManyPages pages)) fault = fault ≡ Some (TooManyPages pages)
+Finds (Err (NoCard cards)) fault = fault ≡ Some (NoCard cards)
+Finds (Ok x) fault = fault ≡ None

@@ -1,7 +1,6 @@
-ghost use Rattle.std.specs.Prelude.{◌≡◌, ◌+◌, ◌≤◌, ◌<◌, ◌*◌, All, IfOk, length};
-ghost use Rattle.vx_layout.specs.Blocks.{HasSizes, Fits};
-ghost use Rattle.vx_layout.specs.Flow as flow;
-ghost use Rattle.vx_layout.specs.Flow.{contest_at, end_of_block, blocks_from, end_from, IsPlaced};
+ghost use Rattle.std.specs.Prelude.{◌≡◌, ◌≤◌, ◌<◌, All, IfOk, length};
+ghost use Rattle.vx_layout.specs.Blocks.{HasSizes};
+ghost use Rattle.vx_layout.specs.Flow.{top, blocks_from, end_from, CanStand, IsPlaced};
 
 use crate::block::height_of;
 use std::alloc::Global;
@@ -73,4 +72,38 @@ impl Spot {
     {
         4 + 9 * (self.column % 3)
     }
+}
+
+/// The blocks of a card's contests, and where the last one ends.
+#[derive(Drop)]
+pub(crate) struct Flow {
+    pub(crate) blocks: Vec<Block>,
+    pub(crate) end: Spot,
+}
+
+/// Lets the blocks of contests flow through the columns. Each of them fits a column.
+pub(crate) fn flow_of(
+    alloc: Global,
+    contests: &[Contest],
+    numbers: &[u32],
+) -> Result<Flow, OutOfMemory>
+    requires sizes { All HasSizes contests.now }
+    requires stand { All (CanStand contests.now) numbers.now }
+    requires few { length numbers.now ≤ 500 }
+    ensures blocks { IfOk result (λ flow. flow.blocks.items ≡ blocks_from contests.now top numbers.now) }
+    ensures end { IfOk result (λ flow. flow.end ≡ end_from contests.now top numbers.now) }
+    ensures few { IfOk result (λ flow. flow.end.column ≤ 500) }
+{
+    let mut blocks = Vec::with_capacity(alloc, numbers.len())?;
+    let mut spot = Spot { column: 0, row: 0 };
+    for number in numbers {
+        let rows = height_of(&contests[*number as usize]);
+        spot = spot.start(rows);
+        blocks.push(Block {
+            contest: *number,
+            spot,
+        })?;
+        spot = spot.below(rows);
+    }
+    Ok(Flow { blocks, end: spot })
 }

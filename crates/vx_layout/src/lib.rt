@@ -4,10 +4,12 @@
 
 mod block;
 mod bubbles;
+mod checking;
 mod fault;
 mod flow;
 mod lines;
 mod pages;
+mod paging;
 mod plan;
 mod typing;
 
