@@ -1,6 +1,6 @@
 -- Lists over the first numbers.
 use Rattle.std.proofs.Common.{◌≡◌, ℕ, ◌+◌, List, [], ◌∷◌, ◌++◌, map, refl, ap, sym, ◌∙◌, arith, map-id, append-nil, append_assoc}
-use Rattle.std.specs.Prelude.{Result, Ok, Err, OnOk}
+use Rattle.std.specs.Prelude.{Result, Ok, Err, OnOk, IfOk}
 use Rattle.std.specs.List.{flat_map, range_with_len}
 use Rattle.std.proofs.lemmas.List.Concat.{flat_map-append}
 use Rattle.std.proofs.lemmas.List.FromFn.{map-range_with_len_more}
@@ -48,3 +48,8 @@ four-laid {X = X} old one two three four a b c d first second third last =
 pub OnOk-weaker : {T F P Q : Type 0} (r : Result T F) → (P → Q) → OnOk r P → OnOk r Q
 OnOk-weaker (Ok x) f h = f h
 OnOk-weaker (Err e) f h = h
+
+-- what follows from a fact on what was made
+pub IfOk-weaker : {T F : Type 0} (P Q : T → Type 0) (r : Result T F) → ((x : T) → P x → Q x) → IfOk r P → IfOk r Q
+IfOk-weaker P Q (Ok x) f h = f x h
+IfOk-weaker P Q (Err e) f h = h

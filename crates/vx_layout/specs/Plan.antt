@@ -1,5 +1,5 @@
 -- The plan of a card: its pages with their bubbles and texts, or why it can't be printed.
-use Rattle.std.specs.Prelude.{◌≡◌, ℕ, ◌+◌, ◌==◌, ◌++◌, List, [], ◌∷◌, Bool, map, filter, find, length, take, nat_lt, chars, codes, encode_utf8_all, count_by, sum_by, slice_index_or, if◌then◌else◌, Option, None, Some, Result, Ok, Err}
+use Rattle.std.specs.Prelude.{◌≡◌, ◌≤◌, All, ℕ, ◌+◌, ◌==◌, ◌++◌, List, [], ◌∷◌, Bool, map, filter, find, length, take, nat_lt, chars, codes, encode_utf8_all, count_by, sum_by, slice_index_or, if◌then◌else◌, Option, None, Some, Result, Ok, Err}
 use Rattle.std.specs.Fmt.{decimal}
 use Rattle.std.specs.List.{flat_map, range_with_len}
 use Rattle.vx_election.specs.declared.named.Named.{Named}
@@ -145,3 +145,8 @@ Finds (Err (TextTooLong id size)) fault = fault ≡ Some (TextTooLong id size)
 Finds (Err (TooManyPages pages)) fault = fault ≡ Some (TooManyPages pages)
 Finds (Err (NoCard cards)) fault = fault ≡ Some (NoCard cards)
 Finds (Ok x) fault = fault ≡ None
+
+-- a page with a number of lines of at most 100 characters that its count of hollow boxes can't pass
+pub record IsModest (page : PagePlan) : Type 0 where
+  pub few : length page.texts ≤ 400000
+  pub short : All (λ (line : TextLine). size_of line.text ≤ 100) page.texts

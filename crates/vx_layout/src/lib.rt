@@ -5,6 +5,7 @@
 mod block;
 mod bubbles;
 mod checking;
+mod counting;
 mod fault;
 mod flow;
 mod lines;

@@ -1,4 +1,4 @@
-ghost use Rattle.std.specs.Prelude.{◌≡◌, ◌<◌, ◌≤◌, ◌++◌, ◌∷◌, ◌^◌, [], All, IfOk, length};
+ghost use Rattle.std.specs.Prelude.{◌≡◌, ◌<◌, ◌≤◌, ◌++◌, ◌∷◌, ◌^◌, [], All, IfOk, length, string_bytes};
 ghost use Rattle.std.specs.List.{flat_map};
 ghost use Rattle.vx_layout.specs.Blocks.{HasSizes};
 ghost use Rattle.vx_layout.specs.Flow.{IsPlaced};
@@ -79,6 +79,24 @@ fn texts_on(
 }
 
 /// What a page says of itself: the election, the precinct, and which of the card's pages it is.
+fn foot_text(
+    alloc: Global,
+    election: &Election,
+    card: Card,
+    page: u32,
+    of: u32,
+) -> Result<String, OutOfMemory>
+    requires { card.precinct < length election.now.precincts }
+    ensures { IfOk result (λ text. string_bytes text ≡ plan.foot_text election.now card page of) }
+{
+    let title = election.title.as_str();
+    let date = election.date.as_str();
+    let precinct = &election.precincts.as_slice()[card.precinct as usize];
+    let name = precinct.name.as_str();
+    format!(in alloc; "{title} - {date} - {name} - page {page} of {of}")
+}
+
+/// The foot line of a page: the first characters of what it says.
 fn foot_line(
     alloc: Global,
     election: &Election,
@@ -89,11 +107,7 @@ fn foot_line(
     requires { card.precinct < length election.now.precincts }
     ensures { IfOk result (λ line. line ≡ plan.foot_line election.now card page of) }
 {
-    let title = election.title.as_str();
-    let date = election.date.as_str();
-    let precinct = &election.precincts.as_slice()[card.precinct as usize];
-    let name = precinct.name.as_str();
-    let text = format!(in alloc; "{title} - {date} - {name} - page {page} of {of}")?;
+    let text = foot_text(alloc, election, card, page, of)?;
     Ok(TextLine {
         x: 290,
         y: 1810,
