@@ -1,3 +1,5 @@
 pub mod Places
 pub mod Each
 pub mod Bytes
+pub mod Readings
+pub mod Validity

@@ -1,5 +1,5 @@
 -- Ids: their form, and the place of an id in a list.
-use Rattle.std.specs.Prelude.{ℕ, suc, ◌&&◌, ◌||◌, ◌==◌, Bool, List, [], ◌∷◌, length, map, nat_le, bytes_eq, if◌then◌else◌, Option, Some, None, Result, Ok, Err, is_some, ok_or, option_map}
+use Rattle.std.specs.Prelude.{ℕ, suc, ◌&&◌, ◌||◌, ◌==◌, Bool, List, [], ◌∷◌, length, bytes_eq, if◌then◌else◌, Option, Some, None, Result, Ok, Err, is_some, ok_or, option_map}
 use Rattle.std.specs.List.{list_all, list_any}
 use Rattle.serde_json.specs.Data.{Data}
 use Rattle.vx_json.specs.Reading.{◌>>=◌, string_in, is_within}

@@ -10,3 +10,4 @@ pub mod Contests
 pub mod Styles
 pub mod Settings
 pub mod Reading
+pub mod Valid

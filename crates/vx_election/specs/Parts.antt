@@ -6,7 +6,7 @@ use Rattle.vx_json.specs.Reading.{◌>>=◌}
 use Rattle.vx_election.specs.declared.fault.ElectionFault.{ElectionFault}
 use Rattle.vx_election.specs.declared.named.Named.{Named}
 use Rattle.vx_election.specs.Ids.{reference_in, new_reference_in}
-use Rattle.vx_election.specs.Members.{id_member, text_member, list_member, each_of}
+use Rattle.vx_election.specs.Members.{id_member, text_member, each_of}
 
 -- the ids of a list
 abbrev pub named_ids : List Named → List (List ℕ)

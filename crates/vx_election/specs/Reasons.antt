@@ -1,5 +1,5 @@
 -- Reasons and sets of them.
-use Rattle.std.specs.Prelude.{ℕ, Bool, false, List, get_or}
+use Rattle.std.specs.Prelude.{ℕ, Bool, false, get_or}
 use Rattle.vx_election.specs.declared.reason.Reason.{Reason}
 use Rattle.vx_election.specs.declared.reason.Reason.TheVariants.{Overvote, Undervote, MarginalMark, BlankBallot, WriteIn}
 use Rattle.vx_election.specs.declared.reason.ReasonSet.{ReasonSet}

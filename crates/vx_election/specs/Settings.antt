@@ -1,5 +1,5 @@
 -- The thresholds and the reasons of an election.
-use Rattle.std.specs.Prelude.{ℕ, ◌+◌, ◌*◌, ◌/◌, ◌&&◌, ◌||◌, ◌==◌, Bool, true, List, [], ◌∷◌, length, nat_le, nat_lt, bytes_eq, if◌then◌else◌, Option, Some, None, Result, Ok, Err, codes, ok_or}
+use Rattle.std.specs.Prelude.{ℕ, ◌+◌, ◌*◌, ◌/◌, ◌&&◌, ◌==◌, Bool, true, List, [], ◌∷◌, length, nat_le, nat_lt, bytes_eq, if◌then◌else◌, Option, Some, None, Result, Ok, Err, codes, ok_or}
 use Rattle.std.specs.List.{list_any}
 use Rattle.serde_json.specs.Data.{Data}
 use Rattle.serde_json.specs.Find.{get}

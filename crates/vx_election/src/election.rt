@@ -23,3 +23,10 @@ pub struct Election {
     /// The SHA-256 of the bytes of the definition.
     pub digest: [u8; 32],
 }
+
+fn shared<T: Send + Sync>() {}
+
+/// Threads may share an election and hand it over.
+pub fn election_is_shared() {
+    shared::<Election>()
+}

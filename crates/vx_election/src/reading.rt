@@ -1,9 +1,10 @@
 //! The election that a definition's bytes give.
 
-ghost use Rattle.std.specs.Prelude.{◌≡◌};
+ghost use Rattle.std.specs.Prelude.{◌≡◌, IfOk};
 ghost use Rattle.serde_json.specs.View.{view};
 ghost use Rattle.sha2.specs.Sha256.{sha256};
 ghost use Rattle.vx_election.specs.Faults.{Answers};
+ghost use Rattle.vx_election.specs.Valid.{IsValid};
 ghost use Rattle.vx_election.specs.Reading.{date_member, parties_in, named_member, contests_member, styles_member, election_in, value_of, election_of};
 
 use crate::contest::Contests;
@@ -147,7 +148,8 @@ fn value_of(alloc: Global, bytes: &[u8]) -> Result<Value, ElectionFault>
 /// The election that the bytes define, or their first fault.
 #[tactic(auto, unfolding(crate::specs::Reading::election_of))]
 pub fn read_election(alloc: Global, bytes: &[u8]) -> Result<Election, ElectionFault>
-    ensures { Answers (λ election. election) result (election_of bytes.now) }
+    ensures answers { Answers (λ election. election) result (election_of bytes.now) }
+    ensures valid { IfOk result (λ election. IsValid election) }
 {
     let value = value_of(alloc, bytes)?;
     election_in(alloc, digest_of(bytes), &value)

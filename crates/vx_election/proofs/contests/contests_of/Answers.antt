@@ -1,7 +1,7 @@
-use Rattle.std.proofs.Common.{◌≡◌, ◌++◌, ◌∷◌, [], length, map, Ok, rules, arith}
+use Rattle.std.proofs.Common.{◌≡◌, ◌++◌, ◌∷◌, [], Ok, rules, arith}
 use Rattle.std.proofs.lemmas.Grind.{common_steps}
 use Rattle.serde_json.specs.View.{view}
-use Rattle.vx_election.specs.Contests.{contest_in, contest_ids}
+use Rattle.vx_election.specs.Contests.{contest_in}
 use Rattle.vx_election.proofs.Each.{each-turn}
 use Rattle.vx_election.proofs.contests.contests_of.Goals as goal
 

@@ -1,4 +1,3 @@
-use Rattle.std.proofs.Common.{rules}
 use Rattle.vx_election.proofs.Bytes.{value_of-read, value_of-no_text}
 use Rattle.vx_election.proofs.reading.value_of.Goals as goal
 

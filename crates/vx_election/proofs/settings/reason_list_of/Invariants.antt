@@ -1,4 +1,4 @@
-use Rattle.std.proofs.Common.{◌≡◌, [], length, map, drop}
+use Rattle.std.proofs.Common.{◌≡◌, [], map, drop}
 use Rattle.serde_json.specs.View.{view}
 use Rattle.vx_election.specs.Members.{each_of}
 use Rattle.vx_election.specs.Settings.{next_reason_in}
