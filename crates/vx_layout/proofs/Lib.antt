@@ -1,6 +1,11 @@
 pub mod Breaking
+pub mod Bytes
+pub mod Cards
 pub mod Cutting
 pub mod Ellipses
 pub mod Faults
 pub mod Labels
+pub mod LineSizes
+pub mod Placing
 pub mod Ranges
+pub mod Sizes

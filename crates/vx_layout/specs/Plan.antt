@@ -7,7 +7,7 @@ use Rattle.vx_election.specs.declared.choice.Choice.{Choice}
 use Rattle.vx_election.specs.declared.contest.Contest.{Contest}
 use Rattle.vx_election.specs.declared.election.Election.{Election}
 use Rattle.vx_styles.specs.declared.card.Card.{Card}
-use Rattle.vx_styles.specs.Cards.{cards_of, contests_on}
+use Rattle.vx_styles.specs.Cards.{cards_of, card_at, contests_of_card}
 use Rattle.vx_layout.specs.declared.bubbles.Bubble.{Bubble}
 use Rattle.vx_layout.specs.declared.lines.TextLine.{TextLine}
 use Rattle.vx_layout.specs.declared.pages.PagePlan.{PagePlan}
@@ -114,14 +114,10 @@ abbrev pub plan_unless : Option LayoutFault → Election → ℕ → Card → Li
 plan_unless (Some fault) election number card numbers = Err fault
 plan_unless None election number card numbers = plan_with election number card numbers (pages_of election.contests numbers)
 
--- the card with a number
-abbrev pub card_at : Election → ℕ → Card
-card_at election number = slice_index_or (cards_of election) number (record { style = 0; precinct = 0 })
-
 -- a card with its contests
 abbrev pub plan_of_card : Election → ℕ → Result CardPlan LayoutFault
 plan_of_card election number =
-    plan_unless (first_fault election.contests (contests_on election number)) election number (card_at election number) (contests_on election number)
+    plan_unless (first_fault election.contests (contests_of_card election number)) election number (card_at election number) (contests_of_card election number)
 
 -- the plan of the card with a number, or the first cause why it can't be printed
 unfoldable pub plan_of : Election → ℕ → Result CardPlan LayoutFault

@@ -12,6 +12,7 @@ mod lines;
 mod pages;
 mod paging;
 mod plan;
+mod planning;
 mod typing;
 
 pub use bubbles::{Bubble, Bubbles};
@@ -20,3 +21,4 @@ pub use flow::{Block, Spot};
 pub use lines::{TextLine, TextLines};
 pub use pages::{PagePlan, PagePlans};
 pub use plan::{CardPlan, CardPlans};
+pub use planning::plan_card;

@@ -34,8 +34,8 @@ returns c =
     let number = c.args.card.precinct in
     let there : number < length c.as_slice.result.now = omega (arith, ap length c.as_slice.ensures, c.requires) in
     let precinct : c.index-as_slice-card.result ≡ get_or election.precincts number no_name =
-        get_or_read c.as_slice.result.now number c.index-as_slice-card.result there c.index-as_slice-card.is no_name
-        ∙ ap (λ (list : List Named). get_or list number no_name) c.as_slice.ensures in
+    get_or_read c.as_slice.result.now number c.index-as_slice-card.result there c.index-as_slice-card.is no_name
+    ∙ ap (λ (list : List Named). get_or list number no_name) c.as_slice.ensures in
     IfOk-weaker (λ (s : String Global). string_bytes s ≡ written c.as_str-title.result.now c.as_str-date.result.now c.as_str-name.result.now c.args.page c.args.of)
     (λ (s : String Global). string_bytes s ≡ foot_text election c.args.card c.args.page c.args.of)
     c.format.result
