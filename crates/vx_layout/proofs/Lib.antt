@@ -6,6 +6,8 @@ pub mod Ellipses
 pub mod Faults
 pub mod Labels
 pub mod LineSizes
+pub mod Paged
+pub mod Laws
 pub mod Placing
 pub mod Ranges
 pub mod Sizes

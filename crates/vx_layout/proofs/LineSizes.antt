@@ -129,24 +129,39 @@ length-block contest col row sizes fits =
     let seats = lines_at col (row + rows_of contest.title + rows_of (description_of contest)) (seats_line contest) in
     let options = flat_map (option_lines contest col row) (range_with_len 0 (options_of contest)) in
     let each = length-flat_map_le (option_lines contest col row) 2 (range_with_len 0 (options_of contest))
-        (All-always (λ option. length (option_lines contest col row option) ≤ 2) (range_with_len 0 (options_of contest)) (λ option. few-label_lines contest col row option fits)) in
-    omega (arith, length-append (title ++ asked ++ seats) options, length-append (title ++ asked) seats, length-append title asked,
-        length-lines col row contest.title, length-lines col (row + rows_of contest.title) (description_of contest),
-        length-lines col (row + rows_of contest.title + rows_of (description_of contest)) (seats_line contest),
-        each, length-range_with_len 0 (options_of contest), few-options contest sizes, size-description contest sizes, sizes.title, size-seats contest sizes.seats)
+    (All-always (λ option. length (option_lines contest col row option) ≤ 2) (range_with_len 0 (options_of contest)) (λ option. few-label_lines contest col row option fits)) in
+    omega (
+      arith,
+      length-append (title ++ asked ++ seats) options,
+      length-append (title ++ asked) seats,
+      length-append title asked,
+      length-lines col row contest.title,
+      length-lines col (row + rows_of contest.title) (description_of contest),
+      length-lines col (row + rows_of contest.title + rows_of (description_of contest)) (seats_line contest),
+      each,
+      length-range_with_len 0 (options_of contest),
+      few-options contest sizes,
+      size-description contest sizes,
+      sizes.title,
+      size-seats contest sizes.seats,
+    )
 
 -- a page of at most 500 blocks is modest
 pub modest-page : (election : Election) (card : Card) (blocks : List Block) (pages page : ℕ) → All HasSizes election.contests → All (IsPlaced election.contests) blocks → length blocks ≤ 500 → IsModest (page_plan election card blocks pages page)
 modest-page election card blocks pages page sizes placed few =
     let here = on_page page blocks in
     let each = All-weaker (IsPlaced election.contests) (λ (block : Block). length (texts_of election.contests block) ≤ 656)
-        (λ block is. length-block (contest_at election.contests block.contest) (column_of block.spot) (row_of block.spot)
-        (All-get_or HasSizes election.contests block.contest no_contest is.there sizes) is.fits)
-        here (All-filter _ (IsPlaced election.contests) blocks placed) in
+    (λ block is. length-block (contest_at election.contests block.contest) (column_of block.spot) (row_of block.spot)
+    (All-get_or HasSizes election.contests block.contest no_contest is.there sizes) is.fits)
+    here (All-filter _ (IsPlaced election.contests) blocks placed) in
     record {
-      few = omega (arith, length-append (flat_map (texts_of election.contests) here) (foot_line election card page pages ∷ []),
-          length-flat_map_le (texts_of election.contests) 656 here each,
-          length-filter (λ (block : Block). page_of block.spot == page) blocks, count_by-le-length (λ (block : Block). page_of block.spot == page) blocks);
+      few = omega (
+        arith,
+        length-append (flat_map (texts_of election.contests) here) (foot_line election card page pages ∷ []),
+        length-flat_map_le (texts_of election.contests) 656 here each,
+        length-filter (λ (block : Block). page_of block.spot == page) blocks,
+        count_by-le-length (λ (block : Block). page_of block.spot == page) blocks,
+      );
       short = short-page election card blocks pages page;
     }
 

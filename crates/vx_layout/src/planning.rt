@@ -1,8 +1,9 @@
-ghost use Rattle.std.specs.Prelude.{◌≡◌, ◌<◌, ◌≤◌, All, length};
+ghost use Rattle.std.specs.Prelude.{◌≡◌, ◌<◌, ◌≤◌, All, IfOk, length};
 ghost use Rattle.vx_election.specs.Valid.{IsValid};
 ghost use Rattle.vx_layout.specs.Blocks.{HasSizes};
 ghost use Rattle.vx_layout.specs.Flow as flow;
 ghost use Rattle.vx_layout.specs.Flow.{CanStand};
+ghost use Rattle.vx_layout.specs.Options.{ShowsEachOption};
 ghost use Rattle.vx_layout.specs.Plan.{first_fault, pages_of, plan_with, plan_unless, plan_of, Answers};
 
 use crate::checking::check_contests;
@@ -72,13 +73,8 @@ fn plan_contests(
     plan_flow(alloc, election, number, card, numbers)
 }
 
-/// The plan of the card with a number, or why it can't be printed.
-///
-/// `NoCard` where the election has no such card. Then the card's contests are tested in order, each
-/// for an option's name of more than 58 characters (`TextTooLong`) and next for a block of more than
-/// 28 rows (`ContestTooTall`). Last, the even number of pages may be above 63 (`TooManyPages`).
-/// Time and memory are in proportion to the text that is laid out.
-pub fn plan_card(alloc: Global, election: &Election, card: u32) -> Result<CardPlan, LayoutFault>
+/// What `plan_card` answers.
+fn planned(alloc: Global, election: &Election, card: u32) -> Result<CardPlan, LayoutFault>
     requires { IsValid election.now }
     ensures { Answers result (plan_of election.now card) }
 {
@@ -89,4 +85,19 @@ pub fn plan_card(alloc: Global, election: &Election, card: u32) -> Result<CardPl
     let numbers = contests_of(alloc, election, card)?;
     let listed = cards.as_slice()[card as usize];
     plan_contests(alloc, election, card, listed, numbers.as_slice())
+}
+
+/// The plan of the card with a number, or why it can't be printed.
+///
+/// `NoCard` where the election has no such card. Then the card's contests are tested in order, each
+/// for an option's name of more than 58 characters (`TextTooLong`) and next for a block of more than
+/// 28 rows (`ContestTooTall`). Last, the even number of pages may be above 63 (`TooManyPages`).
+/// Time and memory are in proportion to the text that is laid out.
+pub fn plan_card(alloc: Global, election: &Election, card: u32) -> Result<CardPlan, LayoutFault>
+    requires { IsValid election.now }
+    ensures exact { Answers result (plan_of election.now card) }
+    // Every option of each of the card's contests has its one bubble, in order, and no other has.
+    ensures options { IfOk result (ShowsEachOption election.now card) }
+{
+    planned(alloc, election, card)
 }
