@@ -13,6 +13,8 @@ mod pages;
 mod paging;
 mod plan;
 mod planning;
+#[cfg(test)]
+mod tests;
 mod typing;
 
 pub use bubbles::{Bubble, Bubbles};
