@@ -1,0 +1,13 @@
+pub mod Breaking
+pub mod Bytes
+pub mod Cards
+pub mod Cutting
+pub mod Ellipses
+pub mod Faults
+pub mod Labels
+pub mod LineSizes
+pub mod Paged
+pub mod Laws
+pub mod Placing
+pub mod Ranges
+pub mod Sizes

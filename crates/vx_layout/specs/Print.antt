@@ -1,0 +1,69 @@
+-- What is printed on a page, as a set of pixels: this project's own geometry.
+use Rattle.std.specs.Prelude.{ℕ, ◌+◌, ◌-◌, ◌*◌, List, length, chars, slice_index, slice_index_or, Bool, false, ◌&&◌, not, if◌then◌else◌, pos, negsuc, ◌+ℤ◌, ◌*ℤ◌, int_le}
+use Rattle.vx_plane.specs.Plane.{Pixels, nowhere, union, rectangle, in_any, any_of, placed}
+use Rattle.vx_grid.specs.Grid.{x_of, y_of}
+use Rattle.vx_grid.specs.Marks.{timing_marks}
+use Rattle.vx_code.specs.Code.{place_of_box}
+use Rattle.vx_font.specs.Font.{dot_of}
+use Rattle.vx_layout.specs.declared.bubbles.Bubble.{Bubble}
+use Rattle.vx_layout.specs.declared.lines.TextLine.{TextLine}
+use Rattle.vx_layout.specs.declared.pages.PagePlan.{PagePlan}
+
+-- box n of the page code: 28 by 20 pixels round its grid point
+unfoldable pub box_pixels : ℕ → Pixels
+box_pixels n = rectangle (pos (x_of (place_of_box n).0 - 14)) (pos (y_of (place_of_box n).1 - 10)) 28 20
+
+-- box n, where it is one of those that are printed
+abbrev pub printed_box : List Bool → ℕ → Pixels
+printed_box boxes n = if slice_index_or boxes n false then box_pixels n else nowhere
+
+-- the printed boxes of the page code
+unfoldable pub code_pixels : List Bool → Pixels
+code_pixels boxes = in_any 84 (printed_box boxes)
+
+-- the offsets in an ellipse whose two half axes are a and b half pixels: the centre of a pixel at
+-- offset i stands 2 i + 1 half pixels off the middle
+abbrev pub ellipse : ℕ → ℕ → Pixels
+ellipse a b i j =
+    let p = pos 2 *ℤ i +ℤ pos 1 in
+    let q = pos 2 *ℤ j +ℤ pos 1 in
+    int_le (pos (b * b) *ℤ (p *ℤ p) +ℤ pos (a * a) *ℤ (q *ℤ q)) (pos (a * a * (b * b)))
+
+-- the box of a bubble, as offsets
+abbrev pub bubble_box : Pixels
+bubble_box = rectangle (negsuc 19) (negsuc 12) 40 26
+
+-- the outline of a bubble, as offsets: what lies between the ellipses of 40 by 26 and 36 by 22
+-- half pixels
+unfoldable pub outline : Pixels
+outline i j = bubble_box i j && (ellipse 40 26 i j && not (ellipse 36 22 i j))
+
+-- the outline of a bubble on its page
+unfoldable pub bubble_pixels : Bubble → Pixels
+bubble_pixels bubble = placed (pos (x_of bubble.col)) (pos (y_of bubble.row)) outline
+
+-- a dot of a character's glyph, 2 by 2 pixels, where it is dark
+abbrev pub dot_pixels : ℕ → ℕ → ℕ → ℕ → ℕ → Pixels
+dot_pixels c x y column row =
+    if dot_of c column row then rectangle (pos (x + 2 * column)) (pos (y + 2 * row)) 2 2 else nowhere
+
+-- a column of dots
+unfoldable pub column_pixels : ℕ → ℕ → ℕ → ℕ → Pixels
+column_pixels c x y column = in_any 7 (dot_pixels c x y column)
+
+-- a character in the cell at a place
+unfoldable pub glyph_pixels : ℕ → ℕ → ℕ → Pixels
+glyph_pixels c x y = in_any 5 (column_pixels c x y)
+
+-- character i of a line
+abbrev pub character_pixels : TextLine → ℕ → Pixels
+character_pixels line i = glyph_pixels (slice_index (chars line.text) i) (line.x + 12 * i) line.y
+
+-- the dark dots of a line
+unfoldable pub line_pixels : TextLine → Pixels
+line_pixels line = in_any (length (chars line.text)) (character_pixels line)
+
+-- the print of a planned page with the boxes of its code: timing marks, code boxes, outlines, dots
+unfoldable pub print_of : PagePlan → List Bool → Pixels
+print_of plan boxes =
+    union (union timing_marks (code_pixels boxes)) (union (any_of plan.bubbles bubble_pixels) (any_of plan.texts line_pixels))

@@ -1,0 +1,77 @@
+ghost use Rattle.std.specs.Prelude.{◌≡◌, ◌++◌, ◌∷◌, ◌≤◌, ◌<◌, ◌+◌, ◌-◌, ◌*◌, ◌/◌, ◌%◌, ◌^◌, [], chars, take, encode_utf8_all, IfOk, OnOk};
+ghost use Rattle.vx_layout.specs.Lines as text_lines;
+ghost use Rattle.vx_grid.specs.Grid as grid;
+ghost use Rattle.vx_layout.specs.Lines.{size_of, lines_at};
+
+use crate::lines::{TextLine, TextLines};
+use std::alloc::Global;
+use vx_bits::OutOfMemory;
+use vx_grid::{x_of, y_of};
+use vx_json::{Text, characters_of};
+
+/// How many characters a line of a block has.
+const LINE: usize = 29;
+
+/// How many characters a row of a block has.
+const ROW: usize = 58;
+
+/// How many rows a text takes.
+pub(crate) fn rows_of(text: &str) -> u32
+    requires { size_of text.now < 2 ^ 32 }
+    ensures { result ≡ text_lines.rows_of text.now }
+{
+    ((characters_of(text) + ROW - 1) / ROW) as u32
+}
+
+/// The first characters of a text, so many of them.
+pub(crate) fn front_of(alloc: Global, text: &str, count: usize) -> Result<Text, OutOfMemory>
+    ensures { IfOk result (λ front. front ≡ encode_utf8_all (take count (chars text.now))) }
+{
+    Ok(Text::from_string(text.chars().take(count).collect(alloc)?))
+}
+
+/// Adds line `k` of a text whose first row is `row`, right of the bubbles of grid column `col`.
+fn put_line(
+    texts: &mut TextLines,
+    col: u32,
+    row: u32,
+    k: u32,
+    text: Text,
+) -> Result<(), OutOfMemory>
+    requires col { col ≤ 33 }
+    requires row { row + k / 2 ≤ 40 }
+    ensures { OnOk result (texts.new ≡ texts.old ++ record {
+      x = grid.x_of col + 40;
+      y = grid.y_of (row + k / 2) - 18 + 20 * (k % 2);
+      text = text;
+    } ∷ []) }
+{
+    texts.push(TextLine {
+        x: x_of(col) as u32 + 40,
+        y: y_of(row + k / 2) as u32 - 18 + 20 * (k % 2),
+        text,
+    })
+}
+
+/// Lays a text in rows of the grid from `row` on, right of the bubbles of grid column `col`.
+pub(crate) fn lay_text(
+    alloc: Global,
+    texts: &mut TextLines,
+    col: u32,
+    row: u32,
+    text: &str,
+) -> Result<(), OutOfMemory>
+    requires col { col ≤ 33 }
+    requires rows { row + text_lines.rows_of text.now ≤ 40 }
+    ensures { OnOk result (texts.new ≡ texts.old ++ lines_at col row text.now) }
+{
+    let mut rest = text;
+    let mut k = 0;
+    while !rest.is_empty() {
+        let line = front_of(alloc, rest, LINE)?;
+        rest = &rest[line.as_str().len()..];
+        put_line(texts, col, row, k, line)?;
+        k += 1;
+    }
+    Ok(())
+}
