@@ -1,7 +1,7 @@
-use Rattle.std.proofs.Common.{◌≤◌, ℤ, pos, ◌-ℤ◌, ◌+ℤ◌, ◌≤ℤ◌, subst, sym, arith, rules, ap, ◌∙◌, ◌≡◌, to_z, of_z, w32}
+use Rattle.std.proofs.Common.{ℤ, ◌-ℤ◌, ◌+ℤ◌, subst, sym, arith, ap, ◌∙◌, ◌≡◌, to_z, of_z, w32}
 use Rattle.std.proofs.lemmas.Int.{ints}
 use Rattle.vx_grid.specs.Places.{IsWithin}
-use Rattle.vx_fit.specs.Fit.{part_of, between}
+use Rattle.vx_fit.specs.Fit.{part_of}
 use Rattle.vx_fit.proofs.Parts.{between_within}
 use Rattle.vx_fit.proofs.fit.between.Goals as goal
 

@@ -1,4 +1,4 @@
-use Rattle.std.proofs.Common.{ℤ, pos, ◌-ℤ◌, ◌+ℤ◌, ◌≤ℤ◌, subst, sym, arith, rules, ap, ◌∙◌, ◌≡◌, to_z, of_z, w32, ◌+◌}
+use Rattle.std.proofs.Common.{ℤ, pos, subst, sym, arith, ap, ◌∙◌, ◌≡◌, to_z, of_z, w32, ◌+◌}
 use Rattle.std.proofs.lemmas.Int.{ints}
 use Rattle.std.proofs.lemmas.Option.{get_or_from_slice_get}
 use Rattle.vx_grid.specs.declared.places.Point.{Point}
