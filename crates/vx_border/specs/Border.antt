@@ -1,11 +1,11 @@
 -- The border of a scan: its timing marks, each found from one before it. This project's own rule.
-use Rattle.std.specs.Prelude.{◌≡◌, ◌<◌, ℕ, ◌+◌, ◌-◌, ◌==◌, ◌||◌, Bool, nat_lt, nat_le, if◌then◌else◌, List, length, pos, ◌+ℤ◌, Result, Ok, Err}
+use Rattle.std.specs.Prelude.{◌≡◌, ◌<◌, ℕ, ◌-◌, ◌==◌, ◌||◌, Bool, nat_lt, nat_le, if◌then◌else◌, List, length, pos, ◌+ℤ◌, Result, Ok, Err}
 use Rattle.vx_plane.specs.Plane.{Page}
 use Rattle.vx_grid.specs.declared.places.Point.{Point}
 use Rattle.vx_grid.specs.declared.marks.Side.{Side}
 use Rattle.vx_grid.specs.declared.marks.Side.TheVariants.{Top, Right, Left, Bottom}
 use Rattle.vx_grid.specs.Grid.{x_of, y_of, mark_of}
-use Rattle.vx_grid.specs.Places.{point_at, AreWithin}
+use Rattle.vx_grid.specs.Places.{point_at}
 use Rattle.vx_mark.specs.Corner.{IsCorner}
 use Rattle.vx_mark.specs.Best.{IsNear, IsBest}
 use Rattle.vx_border.specs.declared.following.BorderFault.{BorderFault}
