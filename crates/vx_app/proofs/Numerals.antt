@@ -1,10 +1,9 @@
 -- What `parse` reads, for texts in their one spelling.
-use Rattle.std.proofs.Common.{◌≡◌, ◌≢◌, ◌+◌, ◌*◌, ◌^◌, ◌<◌, ◌≤◌, ℕ, zero, suc, List, length, get_or, Result, Ok, Err, arith, sym, subst, rules, ap, ◌∙◌, lit<}
+use Rattle.std.proofs.Common.{◌≡◌, ◌^◌, ◌<◌, ℕ, zero, suc, List, length, get_or, Result, Ok, arith, sym, subst, rules, ap, ◌∙◌, lit<}
 use Rattle.std.specs.Fmt.{decimal}
 use Rattle.std.specs.Str.Parse.{AllDigits, digits_value, ParsesUnsigned}
-use Rattle.std.specs.Result.{OkIff}
 use Rattle.std.proofs.lemmas.Str.Parse.{IsNumeralModel, numerals_by_value, tells_digits, parse_plain, digit_at}
-use Rattle.std.proofs.lemmas.Fmt.{parse-decimal, decimal_nonempty, first_decimal, decimal-digits_value, digits_decimal, decimal_digit}
+use Rattle.std.proofs.lemmas.Fmt.{decimal_nonempty, first_decimal, decimal-digits_value, digits_decimal, decimal_digit}
 use Rattle.vx_app.specs.Numeral.{StartsNumeral}
 
 -- std's own words for digits and their value

@@ -1,6 +1,6 @@
 -- Laws of the page of timing marks.
 use Rattle.std.proofs.Common.{◌≡◌, ℕ, ◌+◌, ◌||◌, Bool, ap, sym, ◌∙◌, pos}
-use Rattle.vx_plane.specs.Plane.{Pixels, Page, page_of, dark_at, union, painted, in_any}
+use Rattle.vx_plane.specs.Plane.{Pixels, Page, page_of, painted, in_any}
 use Rattle.vx_plane.proofs.Pages.{page_of-same, dark_at-inside, in_any-more}
 
 -- a page of the first shapes of a family, with the next one painted

@@ -1,5 +1,5 @@
 -- What a command does to the outside, as a whole: its acts in order, and its status.
-use Rattle.std.specs.Prelude.{◌≡◌, ◌≤◌, ◌<◌, ◌⊎◌, ◌+◌, ℕ, Bool, true, false, nat_lt, if◌then◌else◌, List, [], ◌∷◌, ◌++◌, length, take, drop, Option, None, Some, Result, Ok, Err, MatchOption, slice_index_or}
+use Rattle.std.specs.Prelude.{◌≡◌, ◌≤◌, ◌⊎◌, ◌+◌, ℕ, Bool, true, false, nat_lt, if◌then◌else◌, List, [], ◌∷◌, ◌++◌, length, take, drop, Option, None, Some, Result, Ok, Err, MatchOption, slice_index_or}
 use Rattle.std.specs.List.{flat_map}
 use Rattle.vx_plane.specs.Plane.{Page, page_of}
 use Rattle.vx_grid.specs.Marks.{timing_marks}

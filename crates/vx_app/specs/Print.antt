@@ -1,5 +1,5 @@
 -- What `print` leaves of its outcome in the sink.
-use Rattle.std.specs.Prelude.{◌≡◌, ℕ, Bool, false, List, Option}
+use Rattle.std.specs.Prelude.{◌≡◌, ℕ, false, List, Option}
 use Rattle.std.specs.List.{flat_map}
 use Rattle.vx_io.specs.Outside.{Took, TookFront}
 use Rattle.vx_app.specs.declared.status.Status.{Status}

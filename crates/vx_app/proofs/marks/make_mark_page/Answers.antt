@@ -1,5 +1,5 @@
-use Rattle.std.proofs.Common.{◌≡◌, ℕ, ap, ◌∙◌, arith}
-use Rattle.vx_plane.specs.Plane.{Page, page_of, in_any}
+use Rattle.std.proofs.Common.{◌≡◌, ap, ◌∙◌, arith}
+use Rattle.vx_plane.specs.Plane.{page_of, in_any}
 use Rattle.vx_grid.specs.Marks.{mark_pixels, timing_marks}
 use Rattle.vx_app.specs.Outcome.{mark_page}
 use Rattle.vx_app.proofs.Shapes.{shape_more}

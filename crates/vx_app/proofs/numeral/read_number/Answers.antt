@@ -1,5 +1,4 @@
-use Rattle.std.proofs.Common.{◌≡◌, ◌≤◌, ◌<◌, ◌^◌, ℕ, Ok, arith, sym, subst, ◌∙◌}
-use Rattle.std.specs.Fmt.{decimal}
+use Rattle.std.proofs.Common.{◌≡◌, Ok, arith, sym, subst, ◌∙◌}
 use Rattle.std.proofs.lemmas.Fmt.{parse-decimal}
 use Rattle.vx_app.specs.Numeral.{StartsNumeral}
 use Rattle.vx_app.proofs.Numerals.{decimal_starts, parsed_spells}

@@ -1,6 +1,6 @@
-use Rattle.std.proofs.Common.{◌≡◌, List, [], ℕ, Option, Some, IfSome, subst}
+use Rattle.std.proofs.Common.{◌≡◌, [], Option, IfSome, subst}
 use Rattle.vx_io.specs.Outside.{Files}
-use Rattle.vx_app.specs.Outcome.{Outcome, outcome_of, IsDone}
+use Rattle.vx_app.specs.Outcome.{Outcome, outcome_of}
 use Rattle.vx_app.specs.Print.{IsWritten}
 use Rattle.vx_app.proofs.Acts.{done_writing}
 use Rattle.vx_app.proofs.Prints.{same_outcome, command_appends_nothing}
