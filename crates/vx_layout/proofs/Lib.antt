@@ -1,8 +1,10 @@
 pub mod Breaking
 pub mod Bytes
 pub mod Cards
+pub mod Clear
 pub mod Cutting
 pub mod Ellipses
+pub mod Extents
 pub mod Faults
 pub mod Labels
 pub mod LineSizes
