@@ -38,12 +38,12 @@ use Rattle.vx_layout.proofs.Sizes.{sizes-from_valid}
 use Rattle.vx_layout.proofs.LineSizes.{All-flat_map, All-always, size-line, size-foot, size-label}
 
 -- a bubble of a text column, in its rows
-record IsStood (bubble : Bubble) : Type 0 where
-  column : ℕ
-  few : column < 3
-  col : bubble.col ≡ 4 + 9 * column
-  low : 6 ≤ bubble.row
-  high : bubble.row ≤ 33
+pub record IsStood (bubble : Bubble) : Type 0 where
+  pub column : ℕ
+  pub few : column < 3
+  pub col : bubble.col ≡ 4 + 9 * column
+  pub low : 6 ≤ bubble.row
+  pub high : bubble.row ≤ 33
 
 -- a line of a text column, in its rows
 record IsTyped (line : TextLine) : Type 0 where
@@ -61,11 +61,11 @@ record IsFoot (line : TextLine) : Type 0 where
   size : size_of line.text ≤ 100
 
 -- two sets side by side, or one above the other, have no place in common
-beside : (a b c d a' b' c' d' : ℕ) (u v : ℤ) → Within a b c d u v → Within a' b' c' d' u v → (b ≤ a') ⊎ (b' ≤ a) → ⊥
+pub beside : (a b c d a' b' c' d' : ℕ) (u v : ℤ) → Within a b c d u v → Within a' b' c' d' u v → (b ≤ a') ⊎ (b' ≤ a) → ⊥
 beside a b c d a' b' c' d' u v one other (inl h) = omega (arith, ints, one.across.below, other.across.at_least)
 beside a b c d a' b' c' d' u v one other (inr h) = omega (arith, ints, other.across.below, one.across.at_least)
 
-above : (a b c d a' b' c' d' : ℕ) (u v : ℤ) → Within a b c d u v → Within a' b' c' d' u v → d ≤ c' → ⊥
+pub above : (a b c d a' b' c' d' : ℕ) (u v : ℤ) → Within a b c d u v → Within a' b' c' d' u v → d ≤ c' → ⊥
 above a b c d a' b' c' d' u v one other h = omega (arith, ints, one.down.below, other.down.at_least)
 
 -- a place of the inner region isn't in the frame zone
@@ -79,7 +79,7 @@ inner a b c d u v within h k l m framed =
     let lies : not true ≡ true = subst (λ (b : Bool). not b ≡ true) inside other in
     cc
 
-in-rectangle : (x y width height : ℕ) (u v : ℤ) → rectangle (pos x) (pos y) width height u v ≡ true → Within x (x + width) y (y + height) u v
+pub in-rectangle : (x y width height : ℕ) (u v : ℤ) → rectangle (pos x) (pos y) width height u v ≡ true → Within x (x + width) y (y + height) u v
 in-rectangle x y width height u v h =
     let sides = rectangle-sides (pos x) (pos y) width height u v h in
     record { across = record { at_least = sides.0; below = sides.1 }; down = record { at_least = sides.2; below = sides.3 } }
@@ -179,7 +179,7 @@ foot-frame line foot = record {
 }
 
 -- what holds of every number below n
-All-below : (P : ℕ → Type 0) (n : ℕ) → ((k : ℕ) → k < n → P k) → All P (range_with_len 0 n)
+pub All-below : (P : ℕ → Type 0) (n : ℕ) → ((k : ℕ) → k < n → P k) → All P (range_with_len 0 n)
 All-below P n each k d h =
     let few : k < n = omega (arith, length-range_with_len 0 n, h) in
     let is : get_or (range_with_len 0 n) k d ≡ k = get_or-range_with_len 0 n k d few ∙ zero-add k in
@@ -231,7 +231,7 @@ stood-block number contest column row few low high =
       high = omega (arith, high, h);
     }))
 
-stood-page : (election : Election) (blocks : List Block) (page : ℕ) → All (IsPlaced election.contests) blocks → All IsStood (flat_map (bubbles_of election.contests) (on_page page blocks))
+pub stood-page : (election : Election) (blocks : List Block) (page : ℕ) → All (IsPlaced election.contests) blocks → All IsStood (flat_map (bubbles_of election.contests) (on_page page blocks))
 stood-page election blocks page placed =
     All-flat_map IsStood (bubbles_of election.contests) (on_page page blocks)
     (All-weaker (IsPlaced election.contests) (λ (block : Block). All IsStood (bubbles_of election.contests block))

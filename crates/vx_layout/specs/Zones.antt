@@ -1,5 +1,5 @@
 -- What has to keep clear of what on a page: this project's own geometry.
-use Rattle.std.specs.Prelude.{◌≡◌, ◌-◌, ℕ, All, true, not, ℤ, pos}
+use Rattle.std.specs.Prelude.{◌≡◌, ◌≢◌, ◌<◌, ◌-◌, ℕ, All, length, slice_index_or, true, not, ℤ, pos}
 use Rattle.vx_plane.specs.Plane.{Pixels, rectangle, in_any}
 use Rattle.vx_grid.specs.Grid.{x_of, y_of}
 use Rattle.vx_code.specs.Code.{place_of_box}
@@ -16,6 +16,10 @@ bubble_zone_of bubble = rectangle (pos (x_of bubble.col - 36)) (pos (y_of bubble
 -- the zone of box n of the page code: the box of 28 by 20 pixels, grown so too
 abbrev pub code_zone_of : ℕ → Pixels
 code_zone_of n = rectangle (pos (x_of (place_of_box n).0 - 30)) (pos (y_of (place_of_box n).1 - 22)) 60 44
+
+-- the box of a bubble: 40 by 26 pixels
+abbrev pub bubble_box_of : Bubble → Pixels
+bubble_box_of bubble = rectangle (pos (x_of bubble.col - 20)) (pos (y_of bubble.row - 13)) 40 26
 
 -- the zones of all boxes of the page code
 unfoldable pub code_zones : Pixels
@@ -36,6 +40,14 @@ pub record IsClear (page : PagePlan) : Type 0 where
   pub zones_from_frame : All (λ (bubble : Bubble). Apart (bubble_zone_of bubble) frame_zone) page.bubbles
   pub text_from_code : All (λ (line : TextLine). Apart (line_pixels line) code_zones) page.texts
   pub text_from_frame : All (λ (line : TextLine). Apart (line_pixels line) frame_zone) page.texts
+
+-- the zone of each bubble keeps clear of the box of every other bubble of its page
+pub record AreApart (page : PagePlan) : Type 0 where
+  pub each : (i j : ℕ) (d : Bubble) → i < length page.bubbles → j < length page.bubbles → i ≢ j → Apart (bubble_zone_of (slice_index_or page.bubbles i d)) (bubble_box_of (slice_index_or page.bubbles j d))
+
+-- so on every page of a plan
+abbrev pub AreApartInPlan : CardPlan → Type 0
+AreApartInPlan plan = All AreApart plan.pages
 
 -- every page of a plan is clear
 abbrev pub IsClearPlan : CardPlan → Type 0
