@@ -1,11 +1,14 @@
 pub mod Breaking
 pub mod Bytes
 pub mod Cards
+pub mod Clear
 pub mod Cutting
 pub mod Ellipses
+pub mod Extents
 pub mod Faults
 pub mod Labels
 pub mod LineSizes
+pub mod Order
 pub mod Paged
 pub mod Laws
 pub mod Placing

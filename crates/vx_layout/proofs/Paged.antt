@@ -19,11 +19,11 @@ same-no : (m n : ℕ) → (m < n) ⊎ (n < m) → (m == n) ≡ false
 same-no m n h = grind (arith, nat_tests)
 
 -- a block that stands on a page
-on-yes : (page : ℕ) (block : Block) (blocks : List Block) → page_of block.spot ≡ page → on_page page (block ∷ blocks) ≡ block ∷ on_page page blocks
+pub on-yes : (page : ℕ) (block : Block) (blocks : List Block) → page_of block.spot ≡ page → on_page page (block ∷ blocks) ≡ block ∷ on_page page blocks
 on-yes page block blocks here = ap (λ (b : Bool). cond b (block ∷ on_page page blocks) (on_page page blocks)) (same-yes (page_of block.spot) page here)
 
 -- a block that stands on another
-on-no : (page : ℕ) (block : Block) (blocks : List Block) → (page_of block.spot < page) ⊎ (page < page_of block.spot) → on_page page (block ∷ blocks) ≡ on_page page blocks
+pub on-no : (page : ℕ) (block : Block) (blocks : List Block) → (page_of block.spot < page) ⊎ (page < page_of block.spot) → on_page page (block ∷ blocks) ≡ on_page page blocks
 on-no page block blocks there = ap (λ (b : Bool). cond b (block ∷ on_page page blocks) (on_page page blocks)) (same-no (page_of block.spot) page there)
 
 -- no block stands on a page before all of theirs

@@ -123,7 +123,8 @@ pub(crate) fn add_bubbles(
     ensures { OnOk result (bubbles.new ≡ bubbles.old ++ block_bubbles number contest.now col row) }
 {
     let first = row + heading_rows(contest);
-    for option in 0..contest.options() {
+    let count = contest.options();
+    for option in 0..count {
         bubbles.push(Bubble {
             contest: number,
             option,

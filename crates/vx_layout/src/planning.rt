@@ -4,6 +4,7 @@ ghost use Rattle.vx_layout.specs.Blocks.{HasSizes};
 ghost use Rattle.vx_layout.specs.Flow as flow;
 ghost use Rattle.vx_layout.specs.Flow.{CanStand};
 ghost use Rattle.vx_layout.specs.Options.{ShowsEachOption};
+ghost use Rattle.vx_layout.specs.Zones.{IsClearPlan, AreApartInPlan};
 ghost use Rattle.vx_layout.specs.Plan.{first_fault, pages_of, plan_with, plan_unless, plan_of, Answers};
 
 use crate::checking::check_contests;
@@ -98,6 +99,10 @@ pub fn plan_card(alloc: Global, election: &Election, card: u32) -> Result<CardPl
     ensures exact { Answers result (plan_of election.now card) }
     // Every option of each of the card's contests has its one bubble, in order, and no other has.
     ensures options { IfOk result (ShowsEachOption election.now card) }
+    // No bubble's zone meets a text, a code box's zone or the frame zone, nor does a text the latter.
+    ensures clear { IfOk result IsClearPlan }
+    // No bubble's zone meets the box of another bubble of its page.
+    ensures apart { IfOk result AreApartInPlan }
 {
     planned(alloc, election, card)
 }

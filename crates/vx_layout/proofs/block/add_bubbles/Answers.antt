@@ -16,6 +16,6 @@ loop-option-preserved c =
 pub returns : goal.returns
 unfolding block_bubbles
 returns c =
-    let all : c.loop-option.option ≡ options_of c.args.contest.now = omega (arith, c.options-option-end.ensures) in
+    let all : c.loop-option.option ≡ options_of c.args.contest.now = omega (arith, c.options-count.ensures) in
     c.loop-option.invariant
     ∙ ap (λ (n : ℕ). c.args.bubbles.now ++ map (option_bubble c.args.number c.args.contest.now c.args.col c.args.row) (range_with_len 0 n)) all
