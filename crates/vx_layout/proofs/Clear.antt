@@ -1,12 +1,12 @@
 -- Why nothing on a page comes too near to anything else.
-use Rattle.std.proofs.Common.{◌≡◌, ℕ, zero, suc, ◌+◌, ◌-◌, ◌*◌, ◌/◌, ◌%◌, ◌≤◌, ◌<◌, ◌⊎◌, inl, inr, ⊎_elim, zero-add, List, [], ◌∷◌, ◌++◌, length, map, get_or, Bool, true, false, not, ℤ, pos, ◌+ℤ◌, ◌≤ℤ◌, ◌<ℤ◌, refl, sym, ap, ◌∙◌, subst, arith, ◌==◌}
-use Rattle.std.specs.Prelude.{All, filter, Ok}
+use Rattle.std.proofs.Common.{◌≡◌, ℕ, ◌+◌, ◌-◌, ◌*◌, ◌/◌, ◌%◌, ◌≤◌, ◌<◌, ◌⊎◌, inl, inr, ⊎_elim, zero-add, List, [], ◌∷◌, ◌++◌, get_or, Bool, true, not, ℤ, pos, refl, sym, ◌∙◌, subst, arith, ◌==◌}
+use Rattle.std.specs.Prelude.{All, Ok}
 use Rattle.std.specs.List.{flat_map, range_with_len}
 use Rattle.std.proofs.lemmas.Int.{ints}
 use Rattle.std.proofs.lemmas.Bool.{cases_lt}
 use Rattle.std.proofs.lemmas.List.Elements.{All-nil, All-cons, All-append, All-map, All-filter, All-weaker, All-get_or}
 use Rattle.std.proofs.lemmas.List.FromFn.{length-range_with_len, get_or-range_with_len}
-use Rattle.vx_plane.specs.Plane.{Pixels, rectangle, in_any}
+use Rattle.vx_plane.specs.Plane.{rectangle}
 use Rattle.vx_plane.proofs.Pages.{in_any-some, rectangle-sides, rectangle-inside}
 use Rattle.vx_grid.specs.Grid.{x_of, y_of}
 use Rattle.vx_code.specs.Code.{place_of_box}
@@ -18,17 +18,15 @@ use Rattle.vx_styles.specs.declared.card.Card.{Card}
 use Rattle.vx_styles.specs.Cards.{card_at, contests_of_card}
 use Rattle.vx_layout.specs.declared.bubbles.Bubble.{Bubble}
 use Rattle.vx_layout.specs.declared.lines.TextLine.{TextLine}
-use Rattle.vx_layout.specs.declared.pages.PagePlan.{PagePlan}
 use Rattle.vx_layout.specs.declared.plan.CardPlan.{CardPlan}
-use Rattle.vx_layout.specs.declared.flow.Spot.{Spot}
 use Rattle.vx_layout.specs.declared.flow.Block.{Block}
-use Rattle.vx_layout.specs.Lines.{size_of, rows_of, lines_of, line_of, placed_line, lines_at}
+use Rattle.vx_layout.specs.Lines.{size_of, rows_of, lines_of, placed_line, lines_at}
 use Rattle.vx_layout.specs.Blocks.{HasSizes, Fits, height_of, heading_rows, description_of, seats_line, label_at, heading_lines, option_lines, option_bubble, block_lines, block_bubbles}
-use Rattle.vx_layout.specs.Flow.{top, contest_at, no_contest, blocks_from, page_of, column_of, row_of, IsPlaced}
+use Rattle.vx_layout.specs.Flow.{top, contest_at, no_contest, blocks_from, page_of, IsPlaced}
 use Rattle.vx_layout.specs.Plan.{bubbles_of, texts_of, on_page, foot_line, page_plan, page_plans, pages_of, plan_of}
 use Rattle.vx_layout.specs.Print.{line_pixels}
 use Rattle.vx_layout.specs.Zones.{bubble_zone_of, code_zone_of, code_zones, frame_zone, Apart, IsClear, IsClearPlan}
-use Rattle.vx_layout.proofs.Extents.{Between, Within, wider, in-line}
+use Rattle.vx_layout.proofs.Extents.{Within, wider, in-line}
 use Rattle.vx_layout.proofs.Cards.{contests-there}
 use Rattle.vx_layout.proofs.Faults.{stand-from_none}
 use Rattle.vx_layout.proofs.Labels.{size-seats}
@@ -72,9 +70,9 @@ above a b c d a' b' c' d' u v one other h = omega (arith, ints, one.down.below, 
 inner : (a b c d : ℕ) (u v : ℤ) → Within a b c d u v → 178 ≤ a → b ≤ 1522 → 190 ≤ c → d ≤ 2010 → frame_zone u v ≡ true → ⊥
 inner a b c d u v within h k l m framed =
     let inside : rectangle (pos 178) (pos 190) 1344 1820 u v ≡ true =
-        rectangle-inside (pos 178) (pos 190) 1344 1820 u v
-        (omega (arith, ints, within.across.at_least)) (omega (arith, ints, within.across.below))
-        (omega (arith, ints, within.down.at_least)) (omega (arith, ints, within.down.below)) in
+    rectangle-inside (pos 178) (pos 190) 1344 1820 u v
+    (omega (arith, ints, within.across.at_least)) (omega (arith, ints, within.across.below))
+    (omega (arith, ints, within.down.at_least)) (omega (arith, ints, within.down.below)) in
     let other : not (rectangle (pos 178) (pos 190) 1344 1820 u v) ≡ true = framed in
     let lies : not true ≡ true = subst (λ (b : Bool). not b ≡ true) inside other in
     cc
@@ -125,57 +123,57 @@ columns a b = ⊎_elim (λ less. inr (omega (arith, less))) (λ more. inl (omega
 zone-typed : (bubble : Bubble) (line : TextLine) → IsStood bubble → IsTyped line → Apart (bubble_zone_of bubble) (line_pixels line)
 zone-typed bubble line stood typed = record {
   apart = λ u v h k.
-    beside (214 + 432 * stood.column) (286 + 432 * stood.column) 347 1801 (290 + 432 * typed.column) (638 + 432 * typed.column) 354 1792 u v
-    (in-zone bubble stood u v h) (in-typed line typed u v k) (columns stood.column typed.column);
+      beside (214 + 432 * stood.column) (286 + 432 * stood.column) 347 1801 (290 + 432 * typed.column) (638 + 432 * typed.column) 354 1792 u v
+      (in-zone bubble stood u v h) (in-typed line typed u v k) (columns stood.column typed.column);
 }
 
 zone-foot : (bubble : Bubble) (line : TextLine) → IsStood bubble → IsFoot line → Apart (bubble_zone_of bubble) (line_pixels line)
 zone-foot bubble line stood foot = record {
   apart = λ u v h k.
-    above (214 + 432 * stood.column) (286 + 432 * stood.column) 347 1801 290 1490 1810 1824 u v
-    (in-zone bubble stood u v h) (in-foot line foot u v k) (omega arith);
+      above (214 + 432 * stood.column) (286 + 432 * stood.column) 347 1801 290 1490 1810 1824 u v
+      (in-zone bubble stood u v h) (in-foot line foot u v k) (omega arith);
 }
 
 zone-code : (bubble : Bubble) → IsStood bubble → Apart (bubble_zone_of bubble) code_zones
 zone-code bubble stood = record {
   apart = λ u v h k.
-    above (214 + 432 * stood.column) (286 + 432 * stood.column) 347 1801 0 4000 1858 4000 u v
-    (in-zone bubble stood u v h) (in-code u v k) (omega arith);
+      above (214 + 432 * stood.column) (286 + 432 * stood.column) 347 1801 0 4000 1858 4000 u v
+      (in-zone bubble stood u v h) (in-code u v k) (omega arith);
 }
 
 zone-frame : (bubble : Bubble) → IsStood bubble → Apart (bubble_zone_of bubble) frame_zone
 zone-frame bubble stood = record {
   apart = λ u v h k.
-    inner (214 + 432 * stood.column) (286 + 432 * stood.column) 347 1801 u v
-    (in-zone bubble stood u v h) (omega arith) (omega (arith, stood.few)) (omega arith) (omega arith) k;
+      inner (214 + 432 * stood.column) (286 + 432 * stood.column) 347 1801 u v
+      (in-zone bubble stood u v h) (omega arith) (omega (arith, stood.few)) (omega arith) (omega arith) k;
 }
 
 typed-code : (line : TextLine) → IsTyped line → Apart (line_pixels line) code_zones
 typed-code line typed = record {
   apart = λ u v h k.
-    above (290 + 432 * typed.column) (638 + 432 * typed.column) 354 1792 0 4000 1858 4000 u v
-    (in-typed line typed u v h) (in-code u v k) (omega arith);
+      above (290 + 432 * typed.column) (638 + 432 * typed.column) 354 1792 0 4000 1858 4000 u v
+      (in-typed line typed u v h) (in-code u v k) (omega arith);
 }
 
 foot-code : (line : TextLine) → IsFoot line → Apart (line_pixels line) code_zones
 foot-code line foot = record {
   apart = λ u v h k.
-    above 290 1490 1810 1824 0 4000 1858 4000 u v
-    (in-foot line foot u v h) (in-code u v k) (omega arith);
+      above 290 1490 1810 1824 0 4000 1858 4000 u v
+      (in-foot line foot u v h) (in-code u v k) (omega arith);
 }
 
 typed-frame : (line : TextLine) → IsTyped line → Apart (line_pixels line) frame_zone
 typed-frame line typed = record {
   apart = λ u v h k.
-    inner (290 + 432 * typed.column) (638 + 432 * typed.column) 354 1792 u v
-    (in-typed line typed u v h) (omega arith) (omega (arith, typed.few)) (omega arith) (omega arith) k;
+      inner (290 + 432 * typed.column) (638 + 432 * typed.column) 354 1792 u v
+      (in-typed line typed u v h) (omega arith) (omega (arith, typed.few)) (omega arith) (omega arith) k;
 }
 
 foot-frame : (line : TextLine) → IsFoot line → Apart (line_pixels line) frame_zone
 foot-frame line foot = record {
   apart = λ u v h k.
-    inner 290 1490 1810 1824 u v
-    (in-foot line foot u v h) (omega arith) (omega arith) (omega arith) (omega arith) k;
+      inner 290 1490 1810 1824 u v
+      (in-foot line foot u v h) (omega arith) (omega arith) (omega arith) (omega arith) k;
 }
 
 -- what holds of every number below n
@@ -261,9 +259,9 @@ clear-page election card blocks pages page sizes placed =
     let foot : IsFoot last = record { x = refl; y = refl; size = size-foot election card page pages } in
     record {
       zones_from_text =
-        All-weaker IsStood (λ (bubble : Bubble). All (λ (line : TextLine). Apart (bubble_zone_of bubble) (line_pixels line)) (typed ++ last ∷ []))
-        (λ bubble is. page-lines (λ (line : TextLine). Apart (bubble_zone_of bubble) (line_pixels line)) typed last (λ line at. zone-typed bubble line is at) (zone-foot bubble last is foot) all)
-        bubbles stood;
+          All-weaker IsStood (λ (bubble : Bubble). All (λ (line : TextLine). Apart (bubble_zone_of bubble) (line_pixels line)) (typed ++ last ∷ []))
+          (λ bubble is. page-lines (λ (line : TextLine). Apart (bubble_zone_of bubble) (line_pixels line)) typed last (λ line at. zone-typed bubble line is at) (zone-foot bubble last is foot) all)
+          bubbles stood;
       zones_from_code = All-weaker IsStood (λ (bubble : Bubble). Apart (bubble_zone_of bubble) code_zones) zone-code bubbles stood;
       zones_from_frame = All-weaker IsStood (λ (bubble : Bubble). Apart (bubble_zone_of bubble) frame_zone) zone-frame bubbles stood;
       text_from_code = page-lines (λ (line : TextLine). Apart (line_pixels line) code_zones) typed last typed-code (foot-code last foot) all;
@@ -282,6 +280,6 @@ clear-plan election number plan valid h =
     let pages = pages_of contests numbers in
     let card = card_at election number in
     let all : All IsClear (page_plans election card blocks pages) =
-        All-map IsClear (page_plan election card blocks pages) (range_with_len 1 pages)
-        (All-always (λ page. IsClear (page_plan election card blocks pages page)) (range_with_len 1 pages) (λ page. clear-page election card blocks pages page sizes placed)) in
+    All-map IsClear (page_plan election card blocks pages) (range_with_len 1 pages)
+    (All-always (λ page. IsClear (page_plan election card blocks pages page)) (range_with_len 1 pages) (λ page. clear-page election card blocks pages page sizes placed)) in
     subst IsClearPlan is.is all

@@ -1,7 +1,7 @@
 -- How far the pixels of a line reach.
-use Rattle.std.proofs.Common.{◌≡◌, ℕ, zero, suc, ◌+◌, ◌-◌, ◌*◌, ◌≤◌, ◌<◌, List, length, chars, get_or, Bool, true, false, cond, ℤ, pos, ◌+ℤ◌, ◌≤ℤ◌, ◌<ℤ◌, refl, ap, ◌∙◌, arith}
+use Rattle.std.proofs.Common.{◌≡◌, ℕ, ◌+◌, ◌*◌, ◌≤◌, length, chars, get_or, Bool, true, false, cond, ℤ, pos, ◌≤ℤ◌, ◌<ℤ◌, arith}
 use Rattle.std.proofs.lemmas.Int.{ints}
-use Rattle.vx_plane.specs.Plane.{Pixels, nowhere, rectangle, in_any}
+use Rattle.vx_plane.specs.Plane.{nowhere, rectangle}
 use Rattle.vx_plane.proofs.Pages.{in_any-some, rectangle-sides}
 use Rattle.vx_font.specs.Font.{dot_of}
 use Rattle.vx_layout.specs.declared.lines.TextLine.{TextLine}

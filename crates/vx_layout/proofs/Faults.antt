@@ -1,9 +1,8 @@
 -- Contests that can be printed.
-use Rattle.std.proofs.Common.{◌≡◌, ℕ, zero, suc, ◌<◌, ◌≤◌, ◌⊎◌, inl, inr, List, [], ◌∷◌, length, map, get_or, refl, sym, ap, ◌∙◌, arith, Bool, true, false, cond}
-use Rattle.std.specs.Prelude.{All, Option, None, Some, find, nat_lt}
+use Rattle.std.proofs.Common.{◌≡◌, ℕ, ◌<◌, ◌≤◌, ◌⊎◌, inl, inr, List, [], ◌∷◌, length, refl, ap, arith, Bool, true, false, cond}
+use Rattle.std.specs.Prelude.{All, Option, None, Some, nat_lt}
 use Rattle.std.proofs.lemmas.List.Elements.{All-nil, All-cons, All-head, All-tail, All-get_or}
 use Rattle.std.proofs.lemmas.Bool.Decides.{nat_tests}
-use Rattle.std.proofs.lemmas.Bool.{cases_lt}
 use Rattle.vx_election.specs.declared.choice.Choice.{Choice}
 use Rattle.vx_election.specs.declared.contest.Contest.{Contest}
 use Rattle.vx_layout.specs.declared.fault.LayoutFault.{LayoutFault}

@@ -1,5 +1,5 @@
 -- The sizes of texts that stand on every page.
-use Rattle.std.proofs.Common.{◌≡◌, ℕ, ◌<◌, ◌≤◌, ◌^◌, List, [], ◌∷◌, ◌++◌, length, ap, refl, arith, lit<}
+use Rattle.std.proofs.Common.{◌≡◌, ℕ, ◌<◌, ◌≤◌, ◌^◌, [], ◌∷◌, ◌++◌, length, ap, refl, arith, lit<}
 use Rattle.std.specs.Prelude.{codes}
 use Rattle.std.specs.Str.{IsAscii, chars}
 use Rattle.std.specs.Fmt.{decimal}

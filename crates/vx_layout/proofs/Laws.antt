@@ -1,7 +1,7 @@
 -- What holds of every plan.
-use Rattle.std.proofs.Common.{◌≡◌, ℕ, zero, suc, ◌+◌, ◌%◌, ◌≤◌, ◌<◌, List, [], ◌∷◌, ◌++◌, length, map, Bool, true, false, cond, refl, sym, ap, ap₂, ◌∙◌, arith}
+use Rattle.std.proofs.Common.{◌≡◌, ℕ, ◌≤◌, ◌<◌, List, [], ◌∷◌, ◌++◌, length, map, Bool, true, false, cond, refl, sym, ap, ap₂, ◌∙◌, arith}
 use Rattle.std.proofs.lemmas.List.{map-append}
-use Rattle.std.specs.Prelude.{All, Option, None, Some, Result, Ok, Err, IfOk, nat_lt}
+use Rattle.std.specs.Prelude.{Option, None, Some, Result, Ok, Err, IfOk, nat_lt}
 use Rattle.std.specs.List.{flat_map, range_with_len}
 use Rattle.std.proofs.lemmas.Bool.Decides.{nat_tests}
 use Rattle.vx_election.specs.declared.contest.Contest.{Contest}
@@ -15,9 +15,9 @@ use Rattle.vx_layout.specs.declared.plan.CardPlan.{CardPlan}
 use Rattle.vx_layout.specs.declared.flow.Spot.{Spot}
 use Rattle.vx_layout.specs.declared.flow.Block.{Block}
 use Rattle.vx_layout.specs.declared.fault.LayoutFault.{LayoutFault}
-use Rattle.vx_layout.specs.declared.fault.LayoutFault.TheVariants.{ContestTooTall, TextTooLong, TooManyPages, NoCard, OutOfMemory}
+use Rattle.vx_layout.specs.declared.fault.LayoutFault.TheVariants.{TooManyPages, NoCard}
 use Rattle.vx_layout.specs.Blocks.{option_bubble, block_bubbles}
-use Rattle.vx_layout.specs.Flow.{top, contest_at, end_of_block, blocks_from, end_from, page_of, column_of, row_of, even_up}
+use Rattle.vx_layout.specs.Flow.{top, contest_at, end_of_block, blocks_from, end_from, page_of, column_of, row_of}
 use Rattle.vx_layout.specs.Plan.{bubbles_of, on_page, page_plan, page_plans, first_fault, pages_of, card_plan, plan_with, plan_unless, plan_of_card, plan_of, Answers}
 use Rattle.vx_layout.specs.Options.{options_with, options_shown, ShowsEachOption}
 use Rattle.vx_layout.proofs.Paged.{all-paged}

@@ -1,6 +1,6 @@
 -- How many characters the lines of a page have, and how many lines a page has.
-use Rattle.std.proofs.Common.{◌≡◌, ℕ, zero, suc, ◌+◌, ◌-◌, ◌*◌, ◌/◌, ◌%◌, ◌≤◌, ◌<◌, ◌^◌, List, [], ◌∷◌, ◌++◌, length, map, take, drop, chars, refl, ap, ◌∙◌, arith, length-append, length-take, Bool, true, false, cond, ◌==◌}
-use Rattle.std.specs.Prelude.{All, filter, count_by, slice_get, codes}
+use Rattle.std.proofs.Common.{◌≡◌, ℕ, zero, suc, ◌+◌, ◌*◌, ◌≤◌, List, [], ◌∷◌, ◌++◌, length, take, drop, chars, arith, length-append, length-take, Bool, true, false, cond, ◌==◌}
+use Rattle.std.specs.Prelude.{All, slice_get, codes}
 use Rattle.std.specs.List.{flat_map, range_with_len}
 use Rattle.std.specs.Option.{option_map_or}
 use Rattle.std.proofs.lemmas.List.Elements.{All-nil, All-cons, All-head, All-tail, All-append, All-map, All-filter, All-weaker, All-get_or}
@@ -12,7 +12,6 @@ use Rattle.vx_election.specs.declared.election.Election.{Election}
 use Rattle.vx_election.specs.Options.{options_of}
 use Rattle.vx_styles.specs.declared.card.Card.{Card}
 use Rattle.vx_layout.specs.declared.lines.TextLine.{TextLine}
-use Rattle.vx_layout.specs.declared.pages.PagePlan.{PagePlan}
 use Rattle.vx_layout.specs.declared.flow.Block.{Block}
 use Rattle.vx_layout.specs.Lines.{size_of, rows_of, lines_of, line_of, placed_line, lines_at}
 use Rattle.vx_layout.specs.Blocks.{HasSizes, Fits, description_of, seats_line, label_at, heading_rows, heading_lines, option_lines, block_lines}

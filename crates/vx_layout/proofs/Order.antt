@@ -1,25 +1,22 @@
 -- The bubbles of a page stand in order, so no two of them come too near to one another.
-use Rattle.std.proofs.Common.{◌≡◌, ◌≢◌, ℕ, zero, suc, ◌+◌, ◌-◌, ◌*◌, ◌/◌, ◌%◌, ◌≤◌, ◌<◌, ◌⊎◌, inl, inr, ⊎_elim, List, [], ◌∷◌, ◌++◌, length, map, get_or, Bool, true, false, cond, ℤ, pos, refl, sym, ap, ◌∙◌, subst, arith, ◌==◌}
-use Rattle.std.specs.Prelude.{All, filter, nat_le, Ok}
+use Rattle.std.proofs.Common.{◌≡◌, ◌≢◌, ℕ, zero, suc, ◌+◌, ◌-◌, ◌*◌, ◌%◌, ◌≤◌, ◌<◌, ◌⊎◌, inl, inr, ⊎_elim, List, [], ◌∷◌, ◌++◌, length, map, get_or, Bool, true, false, cond, ℤ, refl, sym, ap, ◌∙◌, subst, arith, ◌==◌}
+use Rattle.std.specs.Prelude.{All, nat_le, Ok}
 use Rattle.std.specs.List.{flat_map, range_with_len}
 use Rattle.std.proofs.lemmas.Bool.{cases_lt}
 use Rattle.std.proofs.lemmas.Bool.Decides.{nat_tests}
 use Rattle.std.proofs.lemmas.List.Elements.{All-nil, All-cons, All-head, All-tail, All-append, All-map, All-filter, All-weaker, All-get_or, filter_passes}
-use Rattle.vx_plane.specs.Plane.{rectangle}
 use Rattle.vx_grid.specs.Grid.{x_of, y_of}
 use Rattle.vx_election.specs.declared.contest.Contest.{Contest}
 use Rattle.vx_election.specs.declared.election.Election.{Election}
 use Rattle.vx_election.specs.Options.{options_of}
 use Rattle.vx_election.specs.Valid.{IsValid}
-use Rattle.vx_styles.specs.declared.card.Card.{Card}
 use Rattle.vx_styles.specs.Cards.{card_at, contests_of_card}
 use Rattle.vx_layout.specs.declared.bubbles.Bubble.{Bubble}
-use Rattle.vx_layout.specs.declared.pages.PagePlan.{PagePlan}
 use Rattle.vx_layout.specs.declared.plan.CardPlan.{CardPlan}
 use Rattle.vx_layout.specs.declared.flow.Spot.{Spot}
 use Rattle.vx_layout.specs.declared.flow.Block.{Block}
-use Rattle.vx_layout.specs.Blocks.{height_of, heading_rows, option_bubble, block_bubbles}
-use Rattle.vx_layout.specs.Flow.{top, start_of, below, contest_at, block_at, end_of_block, blocks_from, page_of, column_of, row_of, IsPlaced}
+use Rattle.vx_layout.specs.Blocks.{height_of, option_bubble, block_bubbles}
+use Rattle.vx_layout.specs.Flow.{top, start_of, below, contest_at, block_at, end_of_block, blocks_from, page_of, column_of, row_of}
 use Rattle.vx_layout.specs.Plan.{bubbles_of, on_page, page_plan, page_plans, pages_of, plan_of}
 use Rattle.vx_layout.specs.Zones.{bubble_zone_of, bubble_box_of, Apart, AreApart, AreApartInPlan}
 use Rattle.vx_layout.proofs.Cards.{contests-there}
@@ -42,9 +39,10 @@ Ordered (b ∷ bs) = All (Before b) bs × Ordered bs
 
 ordered-append : (xs ys : List Bubble) → Ordered xs → Ordered ys → All (λ (x : Bubble). All (Before x) ys) xs → Ordered (xs ++ ys)
 ordered-append [] ys first second between = second
-ordered-append (x ∷ xs) ys first second between =
-    (All-append (Before x) xs ys first.0 (All-head (λ (x : Bubble). All (Before x) ys) x xs between),
-        ordered-append xs ys first.1 second (All-tail (λ (x : Bubble). All (Before x) ys) x xs between))
+ordered-append (x ∷ xs) ys first second between = (
+  All-append (Before x) xs ys first.0 (All-head (λ (x : Bubble). All (Before x) ys) x xs between),
+  ordered-append xs ys first.1 second (All-tail (λ (x : Bubble). All (Before x) ys) x xs between),
+)
 
 ordered-get : (bs : List Bubble) → Ordered bs → (i j : ℕ) (d : Bubble) → i < j → j < length bs → Before (get_or bs i d) (get_or bs j d)
 ordered-get [] ordered i j d less within = absurd (omega arith)
@@ -58,10 +56,11 @@ from-low low a (suc n) h = All-cons (λ k. low ≤ k) a (range_with_len (a + 1) 
 
 ordered-options : (number : ℕ) (contest : Contest) (col row a n : ℕ) → Ordered (map (option_bubble number contest col row) (range_with_len a n))
 ordered-options number contest col row a zero = tt
-ordered-options number contest col row a (suc n) =
-    (All-map (Before (option_bubble number contest col row a)) (option_bubble number contest col row) (range_with_len (a + 1) n)
-    (All-weaker (λ k. a + 1 ≤ k) (λ k. Before (option_bubble number contest col row a) (option_bubble number contest col row k)) (λ k h. inr (refl, omega (arith, h))) (range_with_len (a + 1) n) (from-low (a + 1) (a + 1) n (omega arith))),
-        ordered-options number contest col row (a + 1) n)
+ordered-options number contest col row a (suc n) = (
+  All-map (Before (option_bubble number contest col row a)) (option_bubble number contest col row) (range_with_len (a + 1) n)
+      (All-weaker (λ k. a + 1 ≤ k) (λ k. Before (option_bubble number contest col row a) (option_bubble number contest col row k)) (λ k h. inr (refl, omega (arith, h))) (range_with_len (a + 1) n) (from-low (a + 1) (a + 1) n (omega arith))),
+  ordered-options number contest col row (a + 1) n,
+)
 
 ordered-block : (number : ℕ) (contest : Contest) (col row : ℕ) → Ordered (block_bubbles number contest col row)
 unfolding block_bubbles
@@ -173,25 +172,25 @@ in-box_rows bubble is u v h =
 apart-first : (a b : Bubble) → IsStood a → IsStood b → Before a b → Apart (bubble_zone_of a) (bubble_box_of b)
 apart-first a b is_a is_b (inl less) = record {
   apart = λ u v h k.
-    beside (214 + 432 * is_a.column) (286 + 432 * is_a.column) (35 + 52 * a.row) (85 + 52 * a.row) (230 + 432 * is_b.column) (270 + 432 * is_b.column) (47 + 52 * b.row) (73 + 52 * b.row) u v
-    (in-zone_rows a is_a u v h) (in-box_rows b is_b u v k) (inl (omega (arith, less, is_a.col, is_b.col)));
+      beside (214 + 432 * is_a.column) (286 + 432 * is_a.column) (35 + 52 * a.row) (85 + 52 * a.row) (230 + 432 * is_b.column) (270 + 432 * is_b.column) (47 + 52 * b.row) (73 + 52 * b.row) u v
+      (in-zone_rows a is_a u v h) (in-box_rows b is_b u v k) (inl (omega (arith, less, is_a.col, is_b.col)));
 }
 apart-first a b is_a is_b (inr under) = record {
   apart = λ u v h k.
-    above (214 + 432 * is_a.column) (286 + 432 * is_a.column) (35 + 52 * a.row) (85 + 52 * a.row) (230 + 432 * is_b.column) (270 + 432 * is_b.column) (47 + 52 * b.row) (73 + 52 * b.row) u v
-    (in-zone_rows a is_a u v h) (in-box_rows b is_b u v k) (omega (arith, under.1));
+      above (214 + 432 * is_a.column) (286 + 432 * is_a.column) (35 + 52 * a.row) (85 + 52 * a.row) (230 + 432 * is_b.column) (270 + 432 * is_b.column) (47 + 52 * b.row) (73 + 52 * b.row) u v
+      (in-zone_rows a is_a u v h) (in-box_rows b is_b u v k) (omega (arith, under.1));
 }
 
 apart-second : (a b : Bubble) → IsStood a → IsStood b → Before b a → Apart (bubble_zone_of a) (bubble_box_of b)
 apart-second a b is_a is_b (inl less) = record {
   apart = λ u v h k.
-    beside (214 + 432 * is_a.column) (286 + 432 * is_a.column) (35 + 52 * a.row) (85 + 52 * a.row) (230 + 432 * is_b.column) (270 + 432 * is_b.column) (47 + 52 * b.row) (73 + 52 * b.row) u v
-    (in-zone_rows a is_a u v h) (in-box_rows b is_b u v k) (inr (omega (arith, less, is_a.col, is_b.col)));
+      beside (214 + 432 * is_a.column) (286 + 432 * is_a.column) (35 + 52 * a.row) (85 + 52 * a.row) (230 + 432 * is_b.column) (270 + 432 * is_b.column) (47 + 52 * b.row) (73 + 52 * b.row) u v
+      (in-zone_rows a is_a u v h) (in-box_rows b is_b u v k) (inr (omega (arith, less, is_a.col, is_b.col)));
 }
 apart-second a b is_a is_b (inr under) = record {
   apart = λ u v h k.
-    above (230 + 432 * is_b.column) (270 + 432 * is_b.column) (47 + 52 * b.row) (73 + 52 * b.row) (214 + 432 * is_a.column) (286 + 432 * is_a.column) (35 + 52 * a.row) (85 + 52 * a.row) u v
-    (in-box_rows b is_b u v k) (in-zone_rows a is_a u v h) (omega (arith, under.1));
+      above (230 + 432 * is_b.column) (270 + 432 * is_b.column) (47 + 52 * b.row) (73 + 52 * b.row) (214 + 432 * is_a.column) (286 + 432 * is_a.column) (35 + 52 * a.row) (85 + 52 * a.row) u v
+      (in-box_rows b is_b u v k) (in-zone_rows a is_a u v h) (omega (arith, under.1));
 }
 
 apart-list : (bubbles : List Bubble) → Ordered bubbles → All IsStood bubbles → (i j : ℕ) (d : Bubble) → i < length bubbles → j < length bubbles → i ≢ j → Apart (bubble_zone_of (get_or bubbles i d)) (bubble_box_of (get_or bubbles j d))
@@ -213,7 +212,7 @@ apart-plan election number plan valid h =
     let pages = pages_of contests numbers in
     let card = card_at election number in
     let all : All AreApart (page_plans election card blocks pages) =
-        All-map AreApart (page_plan election card blocks pages) (range_with_len 1 pages)
-        (All-always (λ page. AreApart (page_plan election card blocks pages page)) (range_with_len 1 pages)
-        (λ page. record { each = apart-list (flat_map (bubbles_of contests) (on_page page blocks)) (ordered-page contests page top numbers) (stood-page election blocks page placed) })) in
+    All-map AreApart (page_plan election card blocks pages) (range_with_len 1 pages)
+    (All-always (λ page. AreApart (page_plan election card blocks pages page)) (range_with_len 1 pages)
+    (λ page. record { each = apart-list (flat_map (bubbles_of contests) (on_page page blocks)) (ordered-page contests page top numbers) (stood-page election blocks page placed) })) in
     subst AreApartInPlan is.is all

@@ -1,13 +1,12 @@
 -- Blocks of contests that can be printed stand within their columns.
-use Rattle.std.proofs.Common.{◌≡◌, ℕ, ◌+◌, ◌≤◌, ◌<◌, List, [], ◌∷◌, length, suc, refl, ap, arith}
-use Rattle.std.specs.Prelude.{All, nat_le}
+use Rattle.std.proofs.Common.{◌≡◌, ℕ, ◌+◌, ◌≤◌, List, [], ◌∷◌, length, suc, refl, ap, arith}
+use Rattle.std.specs.Prelude.{All}
 use Rattle.std.proofs.lemmas.List.Elements.{All-nil, All-cons, All-head, All-tail}
 use Rattle.std.proofs.lemmas.Bool.Decides.{nat_tests}
 use Rattle.vx_election.specs.declared.contest.Contest.{Contest}
 use Rattle.vx_layout.specs.declared.flow.Spot.{Spot}
-use Rattle.vx_layout.specs.declared.flow.Block.{Block}
-use Rattle.vx_layout.specs.Blocks.{height_of, Fits}
-use Rattle.vx_layout.specs.Flow.{column_rows, start_of, contest_at, block_at, end_of_block, blocks_from, CanStand, IsPlaced}
+use Rattle.vx_layout.specs.Blocks.{height_of}
+use Rattle.vx_layout.specs.Flow.{start_of, contest_at, block_at, end_of_block, blocks_from, CanStand, IsPlaced}
 
 -- a block starts where its rows fit
 pub start-room : (spot : Spot) (rows : ℕ) → rows ≤ 28 → (start_of spot rows).row + rows ≤ 28

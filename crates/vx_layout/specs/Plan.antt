@@ -1,5 +1,5 @@
 -- The plan of a card: its pages with their bubbles and texts, or why it can't be printed.
-use Rattle.std.specs.Prelude.{◌≡◌, ◌≤◌, All, ℕ, ◌+◌, ◌==◌, ◌++◌, List, [], ◌∷◌, Bool, map, filter, find, length, take, nat_lt, chars, codes, encode_utf8_all, count_by, sum_by, slice_index_or, if◌then◌else◌, Option, None, Some, Result, Ok, Err}
+use Rattle.std.specs.Prelude.{◌≡◌, ◌≤◌, All, ℕ, ◌==◌, ◌++◌, List, [], ◌∷◌, map, filter, find, length, take, nat_lt, chars, codes, encode_utf8_all, count_by, sum_by, slice_index_or, if◌then◌else◌, Option, None, Some, Result, Ok, Err}
 use Rattle.std.specs.Fmt.{decimal}
 use Rattle.std.specs.List.{flat_map, range_with_len}
 use Rattle.vx_election.specs.declared.named.Named.{Named}

@@ -1,5 +1,12 @@
 //! The layout of a card: where each contest's text and bubbles stand on its pages, or why the card
 //! can't be printed.
+//!
+//! `plan_card` answers exactly what `plan_of` in `specs/Plan.antt` gives. Its parts stand beside it:
+//! lines of text in `specs/Lines.antt`, a contest's block in `specs/Blocks.antt`, and the flow of
+//! blocks through text columns and pages in `specs/Flow.antt`. Every option has its one bubble
+//! (`specs/Options.antt`), and bubbles and texts keep clear of one another, of the page code and of
+//! the frame (`specs/Zones.antt`). What a planned page looks like in print, as a set of pixels, is
+//! `print_of` in `specs/Print.antt`.
 #![tactic(auto)]
 
 mod block;
@@ -19,7 +26,6 @@ mod typing;
 
 pub use bubbles::{Bubble, Bubbles};
 pub use fault::LayoutFault;
-pub use flow::{Block, Spot};
 pub use lines::{TextLine, TextLines};
 pub use pages::{PagePlan, PagePlans};
 pub use plan::{CardPlan, CardPlans};

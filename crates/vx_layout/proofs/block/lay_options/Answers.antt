@@ -1,4 +1,4 @@
-use Rattle.std.proofs.Common.{◌≡◌, ℕ, ◌+◌, ◌++◌, List, ap, ap₂, ◌∙◌}
+use Rattle.std.proofs.Common.{ℕ, ◌+◌, ◌++◌, List, ap₂, ◌∙◌}
 use Rattle.vx_layout.specs.Lines.{lines_at}
 use Rattle.vx_layout.specs.Blocks.{option_lines}
 use Rattle.vx_layout.proofs.Ranges.{flat_map-laid}

@@ -2,7 +2,7 @@ use Rattle.std.proofs.Common.{◌≡◌, ◌<◌, ◌≤◌, ℕ, List, length, 
 use Rattle.std.specs.Prelude.{All, nat_lt, Result}
 use Rattle.std.proofs.lemmas.Bool.Decides.{nat_tests}
 use Rattle.vx_styles.specs.declared.card.Card.{Card}
-use Rattle.vx_styles.specs.Cards.{cards_of, card_at, contests_of_card}
+use Rattle.vx_styles.specs.Cards.{cards_of}
 use Rattle.vx_layout.specs.declared.plan.CardPlan.{CardPlan}
 use Rattle.vx_layout.specs.declared.fault.LayoutFault.{LayoutFault}
 use Rattle.vx_layout.specs.declared.fault.LayoutFault.TheVariants.{NoCard}

@@ -1,4 +1,4 @@
-use Rattle.std.proofs.Common.{ℕ, chars, take, encode_utf8_all, Ok, ◌∙◌}
+use Rattle.std.proofs.Common.{Ok, ◌∙◌}
 use Rattle.std.specs.declared.alloc.AllocError.{AllocError}
 use Rattle.std.proofs.lemmas.Iterator.{YieldsList-from_chars, YieldsList-from_take, text_from_collect}
 use Rattle.vx_layout.proofs.typing.front_of.Goals as goal
