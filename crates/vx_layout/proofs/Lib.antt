@@ -8,6 +8,7 @@ pub mod Extents
 pub mod Faults
 pub mod Labels
 pub mod LineSizes
+pub mod OnePage
 pub mod Order
 pub mod Paged
 pub mod Laws

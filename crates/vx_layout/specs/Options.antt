@@ -1,5 +1,5 @@
--- Which options a card's bubbles stand for.
-use Rattle.std.specs.Prelude.{◌≡◌, ℕ, List, map}
+-- Which options a card's bubbles stand for, and on which page.
+use Rattle.std.specs.Prelude.{◌≡◌, ℕ, All, List, map}
 use Rattle.std.specs.List.{flat_map, range_with_len}
 use Rattle.vx_election.specs.declared.contest.Contest.{Contest}
 use Rattle.vx_election.specs.declared.election.Election.{Election}
@@ -21,3 +21,8 @@ options_shown bubbles = map (λ (bubble : Bubble). (bubble.contest, bubble.optio
 -- the bubbles of all pages stand for all options of the card's contests, each once and in order
 pub record ShowsEachOption (election : Election) (card : ℕ) (plan : CardPlan) : Type 0 where
   pub each : flat_map (λ (page : PagePlan). options_shown page.bubbles) plan.pages ≡ flat_map (options_with election.contests) (contests_of_card election card)
+
+-- each contest has one page: its bubbles stand on that page alone
+pub record GivesEachContestAPage (plan : CardPlan) : Type 0 where
+  pub page_for : ℕ → ℕ
+  pub each : All (λ (page : PagePlan). All (λ (bubble : Bubble). page_for bubble.contest ≡ page.page) page.bubbles) plan.pages

@@ -3,7 +3,7 @@ ghost use Rattle.vx_election.specs.Valid.{IsValid};
 ghost use Rattle.vx_layout.specs.Blocks.{HasSizes};
 ghost use Rattle.vx_layout.specs.Flow as flow;
 ghost use Rattle.vx_layout.specs.Flow.{CanStand};
-ghost use Rattle.vx_layout.specs.Options.{ShowsEachOption};
+ghost use Rattle.vx_layout.specs.Options.{ShowsEachOption, GivesEachContestAPage};
 ghost use Rattle.vx_layout.specs.Zones.{IsClearPlan, AreApartInPlan};
 ghost use Rattle.vx_layout.specs.Plan.{first_fault, pages_of, plan_with, plan_unless, plan_of, Answers};
 
@@ -99,6 +99,8 @@ pub fn plan_card(alloc: Global, election: &Election, card: u32) -> Result<CardPl
     ensures exact { Answers result (plan_of election.now card) }
     // Every option of each of the card's contests has its one bubble, in order, and no other has.
     ensures options { IfOk result (ShowsEachOption election.now card) }
+    // Each contest has one page, on which all its bubbles stand.
+    ensures pages { IfOk result GivesEachContestAPage }
     // No bubble's zone meets a text, a code box's zone or the frame zone, nor does a text the latter.
     ensures clear { IfOk result IsClearPlan }
     // No bubble's zone meets the box of another bubble of its page.
