@@ -147,3 +147,49 @@ fn names_and_pages_have_their_limits(rt: HostRuntime) -> Result<(), Fail> {
     assert_eq!(rt; made_answer(rt.alloc(), 187, 26, "A")?.as_str(), "3 64");
     Ok(())
 }
+
+// What is answered for a yes/no contest whose title and description have so many characters.
+fn question_answer(alloc: Global, title: u32, description: u32) -> Result<String, AllocError> {
+    let mut text = String::from_str(
+        alloc,
+        "{\"title\":\"T\",\"date\":\"2024-11-05\",\"districts\":[{\"id\":\"d\",\"name\":\"D\"}],\"precincts\":[{\"id\":\"p\",\"name\":\"P\"}],\"contests\":[{\"id\":\"q\",\"type\":\"yesno\",\"districtId\":\"d\",\"title\":\"",
+    )?;
+    for _ in 0..title {
+        text.push_str("t")?;
+    }
+    text.push_str("\",\"description\":\"")?;
+    for _ in 0..description {
+        text.push_str("x")?;
+    }
+    text.push_str(
+        "\",\"yesOption\":{\"id\":\"yes\",\"label\":\"Yes\"},\"noOption\":{\"id\":\"no\",\"label\":\"No\"}}],\"ballotStyles\":[{\"id\":\"s\",\"precincts\":[\"p\"],\"districts\":[\"d\"]}]}",
+    )?;
+    answer(alloc, text.as_bytes(), 0)
+}
+
+#[test]
+fn titles_and_descriptions_go_on_in_the_next_row(rt: HostRuntime) -> Result<(), Fail> {
+    let found = question_answer(rt.alloc(), 1, 0)?;
+    assert!(rt;
+        found.as_str().contains(
+            "\n0.1 4 9\n290 354 t\n290 406 Vote for 1\n290 458 Yes\n290 510 No\n"
+        )
+    );
+    let found = question_answer(rt.alloc(), 1, 58)?;
+    assert!(rt; found.as_str().contains("\n0.0 4 9\n0.1 4 10\n"));
+    assert!(rt;
+        found.as_str().contains("\n290 426 xxxxxxxxxxxxxxxxxxxxxxxxxxxxx\n290 458 Vote for 1\n")
+    );
+    let found = question_answer(rt.alloc(), 1, 59)?;
+    assert!(rt; found.as_str().contains("\n0.0 4 10\n0.1 4 11\n"));
+    assert!(rt; found.as_str().contains("\n290 458 x\n290 510 Vote for 1\n"));
+    assert_eq!(rt; question_answer(rt.alloc(), 1, 10_000)?.as_str(), "1 q 177");
+    let found = question_answer(rt.alloc(), 256, 0)?;
+    assert!(rt; found.as_str().contains("\n0.0 4 12\n0.1 4 13\n"));
+    assert!(rt;
+        found
+            .as_str()
+            .contains("\n290 562 tttttttttttttttttttttttt\n290 614 Vote for 1\n")
+    );
+    Ok(())
+}

@@ -1,13 +1,12 @@
-// The definitions stand in `data/`, where the tests run. `cases.txt` has one row a line: a part of
-// `valid.json`, what stands there instead, and what is then answered.
 ghost use Rattle.std.specs.Prelude.{◌<◌, length};
 ghost use Rattle.vx_election.specs.Valid.{IsValid};
 ghost use Rattle.vx_styles.specs.Cards.{cards_of};
 
+mod definitions;
+
 use super::*;
 use sha2::{Digest, Sha256};
 use std::alloc::{AllocError, Global};
-use std::fs;
 use std::test::*;
 use vx_election::{Election, ElectionFault, read_election};
 
@@ -87,18 +86,18 @@ fn changed_answer(alloc: Global, valid: &str, old: &str, new: &str) -> Result<St
 
 // Whether a row's answer is the one that it names.
 fn holds(alloc: Global, valid: &str, row: &str) -> Result<bool, Fail> {
-    let (old, rest) = row.split_once('\t').ok_or("a row")?;
-    let (new, wanted) = rest.split_once('\t').ok_or("a row")?;
+    let (old, rest) = row.split_once(" -> ").ok_or("a row")?;
+    let (new, wanted) = rest.split_once(" -> ").ok_or("a row")?;
     Ok(changed_answer(alloc, valid, old, new)?.as_str() == wanted)
 }
 
 #[test]
 fn each_refusal_at_each_member(rt: HostRuntime) -> Result<(), Fail> {
-    let valid = fs::read_to_string(&rt, "valid.json")?;
-    let rows = fs::read_to_string(&rt, "cases.txt")?;
+    let valid = definitions::valid();
+    let rows = definitions::cases();
     let mut count = 0u32;
     for row in rows.lines() {
-        assert!(rt; holds(rt.alloc(), valid.as_str(), row)?, "{row}");
+        assert!(rt; holds(rt.alloc(), valid, row)?, "{row}");
         count = count.saturating_add(1);
     }
     assert!(rt; 200 < count);
@@ -152,7 +151,7 @@ fn description(alloc: Global, bytes: &[u8]) -> Result<String, Fail> {
         write!(text, "{blank}{}:{}", card.style, card.precinct)?;
         blank = " ";
     }
-    let mut between = "\t";
+    let mut between = " -> ";
     for card in 0..1024u32 {
         if (card as usize) < cards.len() {
             text.push_str(between)?;
@@ -163,12 +162,25 @@ fn description(alloc: Global, bytes: &[u8]) -> Result<String, Fail> {
     Ok(text)
 }
 
+// The definition of a name.
+fn definition(name: &str) -> &'static str {
+    match name {
+        "valid.json" => definitions::valid(),
+        "election-0.json" => definitions::election_0(),
+        "election-1.json" => definitions::election_1(),
+        "election-2.json" => definitions::election_2(),
+        "election-3.json" => definitions::election_3(),
+        "election-4.json" => definitions::election_4(),
+        _ => definitions::town(),
+    }
+}
+
 #[test]
 fn cards_and_their_contests(rt: HostRuntime) -> Result<(), Fail> {
-    let rows = fs::read_to_string(&rt, "cards.txt")?;
+    let rows = definitions::cards_table();
     for row in rows.lines() {
-        let (name, wanted) = row.split_once('\t').ok_or("a row")?;
-        let bytes = fs::read_to_string(&rt, name)?;
+        let (name, wanted) = row.split_once(" -> ").ok_or("a row")?;
+        let bytes = definition(name);
         let found = description(rt.alloc(), bytes.as_bytes())?;
         assert_eq!(rt; found.as_str(), wanted, "{name}");
     }
@@ -197,7 +209,7 @@ fn digest_of_bytes(alloc: Global, bytes: &[u8]) -> Result<String, AllocError> {
 
 #[test]
 fn the_digest_is_that_of_all_bytes(rt: HostRuntime) -> Result<(), Fail> {
-    let town = fs::read_to_string(&rt, "town.json")?;
+    let town = definitions::town();
     let found = digest_of_election(rt.alloc(), town.as_bytes())?;
     let wanted = "16cbf4c3a45dae96ed01a82ac6d66a24812b6309d97421e2dc4282725ade6e70";
     assert_eq!(rt; found.as_str(), wanted);
