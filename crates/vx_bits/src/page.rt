@@ -1,4 +1,4 @@
-ghost use Rattle.std.specs.Prelude.{◌≡◌, ◌+◌, ◌<◌, ◌≤◌, Bool, IfOk, false, pos};
+ghost use Rattle.std.specs.Prelude.{◌≡◌, ◌-◌, ◌<◌, ◌≤◌, Bool, IfOk, false, pos};
 ghost use Rattle.vx_plane.specs.Plane.{page_of, dark_at, nowhere, with_pixel, rectangle, painted};
 
 use crate::packed::{put, stride};
@@ -77,27 +77,42 @@ impl BitPage {
         BitView::new(self.width, self.height, self.rows.as_slice())
     }
 
-    /// Makes the part of row `y` from column `left` on, `width` pixels of it, dark.
-    fn darken_row(&mut self, left: u32, y: u32, width: u32)
-        requires columns { left + width ≤ self.old.width }
+    /// Makes the pixels of row `y` from column `left` on and before column `right` dark.
+    fn darken_row(&mut self, left: u32, right: u32, y: u32)
+        requires order { left ≤ right }
+        requires columns { right ≤ self.old.width }
         requires row { y < self.old.height }
-        ensures { self.new ≡ painted self.old (rectangle (pos left) (pos y) width 1) }
+        ensures { self.new ≡ painted self.old (rectangle (pos left) (pos y) (right - left) 1) }
     {
         let _columns = self.width();
-        for i in 0..width {
-            self.set_dark(left + i, y, true);
+        for x in left..right {
+            self.set_dark(x, y, true);
         }
     }
 
-    /// Makes every pixel of a rectangle dark.
-    pub fn darken(&mut self, left: u32, top: u32, width: u32, height: u32)
-        requires columns { left + width ≤ self.old.width }
-        requires rows { top + height ≤ self.old.height }
-        ensures { self.new ≡ painted self.old (rectangle (pos left) (pos top) width height) }
+    /// Makes the rows of a rectangle that lies on the page dark.
+    fn darken_rows(&mut self, left: u32, right: u32, top: u32, bottom: u32)
+        requires order { left ≤ right }
+        requires columns { right ≤ self.old.width }
+        requires down { top ≤ bottom }
+        requires rows { bottom ≤ self.old.height }
+        ensures { self.new ≡ painted self.old (rectangle (pos left) (pos top) (right - left) (bottom - top)) }
     {
         let _rows = self.height();
-        for i in 0..height {
-            self.darken_row(left, top + i, width);
+        for y in top..bottom {
+            self.darken_row(left, right, y);
+        }
+    }
+
+    /// Makes every pixel of a rectangle dark, so far as it lies on the page: its left column, its
+    /// top row, its sides.
+    pub fn darken(&mut self, left: u64, top: u64, width: u32, height: u32)
+        ensures { self.new ≡ painted self.old (rectangle (pos left) (pos top) width height) }
+    {
+        let right = left.saturating_add(width.into()).min(self.width().into());
+        let bottom = top.saturating_add(height.into()).min(self.height().into());
+        if left < right && top < bottom {
+            self.darken_rows(left as u32, right as u32, top as u32, bottom as u32);
         }
     }
 }

@@ -18,4 +18,4 @@ pub use kind::Kind;
 pub use lines::{COLUMNS, PAGE_HEIGHT, PAGE_WIDTH, ROWS, x_of, y_of};
 pub use marks::{MARKS, Side, mark_of};
 pub use places::{Point, Rect, bubble_window, code_window};
-pub use state::{State, Thresholds};
+pub use state::{State, States, Thresholds};

@@ -1,13 +1,18 @@
-use Rattle.std.proofs.Common.{sym, ap, ◌∙◌, pos, ◌+◌}
-use Rattle.vx_plane.specs.Plane.{Page, rectangle, painted}
-use Rattle.vx_plane.proofs.Pages.{painted-no_rows, painted-row_more}
+use Rattle.std.proofs.Common.{◌≡◌, ◌+◌, ◌≤◌, ◌<◌, ◌⊎◌, ⊎_elim, min, sym, ◌∙◌, inl, inr, arith}
+use Rattle.vx_bits.proofs.Clipping.{painted-clipped, painted-beside}
 use Rattle.vx_bits.proofs.page.BitPage.darken.Goals as goal
 
-pub loop-i-init : goal.loop-i-init
-loop-i-init c = sym (painted-no_rows c.args.self.now (pos c.args.left) (pos c.args.top) c.args.width c.height-rows.ensures.whole)
+pub returns-then-top-bottom : goal.returns-then-top-bottom
+returns-then-top-bottom c =
+    let right : c.min-right.result ≡ min (c.args.left + c.args.width) c.args.self.now.width = omega arith in
+    let bottom : c.min-bottom.result ≡ min (c.args.top + c.args.height) c.args.self.now.height = omega arith in
+    c.darken_rows.ensures
+    ∙ painted-clipped c.args.self.now c.args.left c.args.top c.args.width c.args.height c.min-right.result c.min-bottom.result right bottom c.if-left-right.true c.if-top-bottom.true
 
-pub loop-i-preserved : goal.loop-i-preserved
-loop-i-preserved c =
-    c.darken_row.ensures
-    ∙ ap (λ (p : Page). painted p (rectangle (pos c.args.left) (pos (c.args.top + c.loop-i.i)) c.args.width 1)) c.loop-i.invariant
-    ∙ sym (painted-row_more c.args.self.now (pos c.args.left) (pos c.args.top) c.args.width c.loop-i.i)
+pub returns-else-left-right : goal.returns-else-left-right
+returns-else-left-right c =
+    let right : c.min-right.result ≡ min (c.args.left + c.args.width) c.args.self.now.width = omega arith in
+    let bottom : c.min-bottom.result ≡ min (c.args.top + c.args.height) c.args.self.now.height = omega arith in
+    let away : (min (c.args.left + c.args.width) c.args.self.now.width ≤ c.args.left) ⊎ (min (c.args.top + c.args.height) c.args.self.now.height ≤ c.args.top) =
+    ⊎_elim (λ (below : (c.args.left < c.min-right.result) × (c.min-bottom.result ≤ c.args.top)). inr (omega (arith, below.1))) (λ (beside : c.min-right.result ≤ c.args.left). inl (omega arith)) c.else-left-right.either in
+    sym (painted-beside c.args.self.now c.args.left c.args.top c.args.width c.args.height c.width.ensures.whole away)

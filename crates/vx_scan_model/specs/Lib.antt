@@ -1,0 +1,4 @@
+pub mod Printed
+pub mod Border
+pub mod Reading
+pub mod FaultTexts

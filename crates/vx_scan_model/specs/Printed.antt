@@ -1,0 +1,45 @@
+-- Printed pages: the plan, the code and the print of each.
+use Rattle.std.specs.Prelude.{◌≡◌, ◌≤◌, ℕ, ◌-◌, Bool, Ok, Some, slice_get}
+use Rattle.vx_plane.specs.Plane.{Pixels, Page, page_of}
+use Rattle.vx_grid.specs.declared.kind.Kind.{Kind}
+use Rattle.vx_election.specs.declared.election.Election.{Election}
+use Rattle.vx_code.specs.declared.code.PageCode.{PageCode}
+use Rattle.vx_code.specs.Code.{tag_of, boxes_of}
+use Rattle.vx_layout.specs.declared.pages.PagePlan.{PagePlan}
+use Rattle.vx_layout.specs.declared.plan.CardPlan.{CardPlan}
+use Rattle.vx_layout.specs.Plan.{plan_of}
+use Rattle.vx_layout.specs.Print.{print_of}
+
+-- a page that is printed: its card, its number on the card, the ballot's kind, and whether it is a
+-- test ballot's
+pub record PrintedPage : Type 0 where
+  pub card : ℕ
+  pub page : ℕ
+  pub kind : Kind
+  pub test : Bool
+
+-- the code of a printed page: version 1, what the page is, and the tag of its election
+abbrev pub code_of : Election → PrintedPage → PageCode
+code_of election printed = record {
+  version = 1;
+  test = printed.test;
+  kind = printed.kind;
+  card = printed.card;
+  page = printed.page;
+  tag = tag_of election.digest;
+}
+
+-- the plan of a printed page is the page of that number of its card's plan
+pub record IsPlanned (election : Election) (printed : PrintedPage) (plan : PagePlan) : Type 0 where
+  pub card : CardPlan
+  pub card_is : plan_of election printed.card ≡ Ok card
+  pub from_one : 1 ≤ printed.page
+  pub page_is : slice_get card.pages (printed.page - 1) ≡ Some plan
+
+-- the dark pixels of the paper of a printed page
+abbrev pub print_of_page : Election → PagePlan → PrintedPage → Pixels
+print_of_page election plan printed = print_of plan (boxes_of (code_of election printed))
+
+-- the printed page as a bitmap: 1700 by 2200 pixels
+abbrev pub bitmap_of : Election → PagePlan → PrintedPage → Page
+bitmap_of election plan printed = page_of 1700 2200 (print_of_page election plan printed)

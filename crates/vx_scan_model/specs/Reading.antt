@@ -1,0 +1,106 @@
+-- The reading of a scan of an election's page, or its first fault. This project's own rule.
+use Rattle.std.specs.Prelude.{◌≡◌, ◌<◌, ℕ, ◌-◌, ◌==◌, ◌&&◌, Bool, not, nat_le, if◌then◌else◌, List, map, length, slice_get, slice_index_or, Option, Some, None, Result, Ok, Err}
+use Rattle.std.specs.List.{range_with_len}
+use Rattle.vx_plane.specs.Plane.{Page}
+use Rattle.vx_grid.specs.declared.places.Point.{Point}
+use Rattle.vx_grid.specs.declared.state.State.{State}
+use Rattle.vx_grid.specs.declared.state.Thresholds.{Thresholds}
+use Rattle.vx_election.specs.declared.election.Election.{Election}
+use Rattle.vx_styles.specs.Cards.{cards_of}
+use Rattle.vx_layout.specs.declared.bubbles.Bubble.{Bubble}
+use Rattle.vx_layout.specs.declared.pages.PagePlan.{PagePlan}
+use Rattle.vx_layout.specs.declared.plan.CardPlan.{CardPlan}
+use Rattle.vx_layout.specs.declared.fault.LayoutFault.{LayoutFault}
+use Rattle.vx_layout.specs.Plan.{plan_of}
+use Rattle.vx_code.specs.declared.code.PageCode.{PageCode}
+use Rattle.vx_code.specs.declared.code.CodeFault.{CodeFault}
+use Rattle.vx_code.specs.Code.{tag_of, place_of_box, code_shown_by}
+use Rattle.vx_border.specs.declared.following.BorderFault.{BorderFault}
+use Rattle.vx_fit.specs.Fit.{place_of}
+use Rattle.vx_score.specs.Score.{score_of, code_count_of, state_of}
+use Rattle.vx_scan_model.specs.declared.reading.PageReading.{PageReading}
+use Rattle.vx_scan_model.specs.declared.fault.PageFault.{PageFault}
+use Rattle.vx_scan_model.specs.declared.fault.PageFault.TheVariants.{FrameSize, Border, Code, OtherElection, NoCard, NoPage, OutOfMemory}
+use Rattle.vx_scan_model.specs.Border.{border_of}
+
+-- an allowed frame: 1600 to 2000 columns and 2100 to 2400 rows
+abbrev pub is_allowed : Page → Bool
+is_allowed page = (nat_le 1600 page.width && nat_le page.width 2000) && (nat_le 2100 page.height && nat_le page.height 2400)
+
+-- the count of box n of the page code: the dark pixels of its window at its grid place
+abbrev pub box_count_of : Page → List Point → ℕ → ℕ
+box_count_of page border n = code_count_of page (place_of border (place_of_box n).0 (place_of_box n).1)
+
+-- the code that is read at the places of a border: the code of its 42 pairs of boxes, or the first
+-- pair that is no bit, or a version other than 1
+unfoldable pub code_read : Page → List Point → Result PageCode CodeFault
+code_read page border = code_shown_by (map (box_count_of page border) (range_with_len 0 84))
+
+-- the score of a bubble: at its grid place
+abbrev pub bubble_score : Page → List Point → Bubble → ℕ
+bubble_score page border bubble = score_of page (place_of border bubble.col bubble.row)
+
+-- the scores of a page's bubbles, in the plan's order
+abbrev pub scores_of : Page → List Point → List Bubble → List ℕ
+scores_of page border bubbles = map (bubble_score page border) bubbles
+
+-- what bubbles of these scores are read as
+abbrev pub states_of : Thresholds → List ℕ → List State
+states_of thresholds scores = map (λ score. state_of score thresholds) scores
+
+-- the reading of a page that is planned so
+abbrev pub reading_on : Election → Page → List Point → PageCode → PagePlan → PageReading
+reading_on election page border code plan = record {
+  code = code;
+  border = border;
+  scores = scores_of page border plan.bubbles;
+  states = states_of election.thresholds (scores_of page border plan.bubbles);
+}
+
+-- the page of a plan with a number, from 1
+abbrev pub page_numbered : CardPlan → ℕ → Option PagePlan
+page_numbered plan number = if number == 0 then None else slice_get plan.pages (number - 1)
+
+-- the reading on a page of the card, if it has the page of the code
+abbrev pub reading_unless : Election → Page → List Point → PageCode → Option PagePlan → Result PageReading PageFault
+reading_unless election page border code None = Err (NoPage code.page)
+reading_unless election page border code (Some plan) = Ok (reading_on election page border code plan)
+
+-- the reading on the card of the code, if there is one
+abbrev pub reading_on_card : Election → Page → List Point → PageCode → Result CardPlan LayoutFault → Result PageReading PageFault
+reading_on_card election page border code (Err fault) = Err (NoCard code.card)
+reading_on_card election page border code (Ok plan) = reading_unless election page border code (page_numbered plan code.page)
+
+-- the reading of a page with a code, if it is of this election
+abbrev pub reading_of_code : Election → Page → List Point → Result PageCode CodeFault → Result PageReading PageFault
+reading_of_code election page border (Err fault) = Err (Code fault)
+reading_of_code election page border (Ok code) =
+    if code.tag == tag_of election.digest then reading_on_card election page border code (plan_of election code.card)
+    else Err (OtherElection code.tag)
+
+-- the reading of a page with a border
+abbrev pub reading_of_border : Election → Page → Result (List Point) BorderFault → Result PageReading PageFault
+reading_of_border election page (Err fault) = Err (Border fault)
+reading_of_border election page (Ok border) = reading_of_code election page border (code_read page border)
+
+-- the reading of a scan, or the first fault: its frame, its border, its code, another election, no
+-- such card, no such page
+unfoldable pub reading_of : Election → Page → Result PageReading PageFault
+reading_of election page =
+    if is_allowed page then reading_of_border election page (border_of page) else Err (FrameSize page.width page.height)
+
+-- the plans of all cards of an election, in order
+pub record ArePlansOf (election : Election) (plans : List CardPlan) : Type 0 where
+  pub all : length plans ≡ length (cards_of election)
+  pub each : (card : ℕ) (d : CardPlan) → card < length plans → plan_of election card ≡ Ok (slice_index_or plans card d)
+
+-- what a call returned is what the definition says, or memory ran out
+abbrev pub Answers : Result PageReading PageFault → Result PageReading PageFault → Type 0
+Answers (Ok reading) answer = answer ≡ Ok reading
+Answers (Err (FrameSize width height)) answer = answer ≡ Err (FrameSize width height)
+Answers (Err (Border fault)) answer = answer ≡ Err (Border fault)
+Answers (Err (Code fault)) answer = answer ≡ Err (Code fault)
+Answers (Err (OtherElection tag)) answer = answer ≡ Err (OtherElection tag)
+Answers (Err (NoCard card)) answer = answer ≡ Err (NoCard card)
+Answers (Err (NoPage page)) answer = answer ≡ Err (NoPage page)
+Answers (Err OutOfMemory) answer = Unit {0}

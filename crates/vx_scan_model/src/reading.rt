@@ -1,0 +1,23 @@
+use crate::scores::Scores;
+use vx_code::PageCode;
+use vx_grid::{Border, States};
+
+/// What a scan of a page is read as.
+#[derive(Debug, Drop)]
+pub struct PageReading {
+    /// What the page says of itself.
+    pub code: PageCode,
+    /// The places of its timing marks, in pixels of the scan.
+    pub border: Border,
+    /// The scores of its bubbles, in the plan's order.
+    pub scores: Scores,
+    /// What its bubbles are read as, in the plan's order.
+    pub states: States,
+}
+
+fn crosses_threads<T: Send + Sync>() {}
+
+/// Threads may share a reading and hand it over.
+pub fn reading_is_shared() {
+    crosses_threads::<PageReading>()
+}
