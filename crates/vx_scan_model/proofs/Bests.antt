@@ -155,6 +155,6 @@ unfolding near_numbers
 numbers-many = omega arith
 
 -- the best place by numbers is the best place
-pub best_of-is : (page : Page) (predicted : Point) → IsBestOf page predicted (best_of page predicted)
+pub IsBestOf-best_of : (page : Page) (predicted : Point) → IsBestOf page predicted (best_of page predicted)
 unfolding best_of
-best_of-is page predicted = first-best page predicted near_numbers _ numbers-many (find-first (may_be_best page predicted) 0 near_numbers near_numbers (omega arith))
+IsBestOf-best_of page predicted = first-best page predicted near_numbers _ numbers-many (find-first (may_be_best page predicted) 0 near_numbers near_numbers (omega arith))

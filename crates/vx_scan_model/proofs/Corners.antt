@@ -111,6 +111,6 @@ unfolding corner_numbers
 numbers-many = omega arith
 
 -- the corner by numbers is the corner
-pub corner_of-is : (page : Page) → IsCornerOf page (corner_of page)
+pub IsCornerOf-corner_of : (page : Page) → IsCornerOf page (corner_of page)
 unfolding corner_of
-corner_of-is page = first-corner page corner_numbers _ numbers-many (find-first (may_be_corner page) 0 corner_numbers corner_numbers (omega arith))
+IsCornerOf-corner_of page = first-corner page corner_numbers _ numbers-many (find-first (may_be_corner page) 0 corner_numbers corner_numbers (omega arith))

@@ -1,3 +1,6 @@
 pub mod Firsts
 pub mod Tests
 pub mod Corners
+pub mod Bests
+pub mod Marks
+pub mod Borders
