@@ -1,5 +1,5 @@
 -- The best place by numbers is the best place.
-use Rattle.std.proofs.Common.{◌≡◌, ◌∙◌, ◌+◌, ◌*◌, ◌/◌, ◌%◌, ◌<◌, ◌≤◌, ◌≤ℤ◌, inl, inr, ap, ℕ, ℤ, true, pos, ◌+ℤ◌, ◌-ℤ◌, ◌<ℤ◌, Option, Some, None, arith, refl, sym, subst, eq-eqb}
+use Rattle.std.proofs.Common.{◌≡◌, ◌∙◌, ◌+◌, ◌*◌, ◌/◌, ◌%◌, ◌<◌, ◌≤◌, ◌≤ℤ◌, inl, inr, ap, ℕ, ℤ, true, pos, ◌+ℤ◌, ◌-ℤ◌, Option, Some, None, arith, refl, sym, subst, eq-eqb}
 use Rattle.std.specs.Prelude.{◌==◌, ◌&&◌, nat_le, option_map}
 use Rattle.std.proofs.lemmas.Int.{ints}
 use Rattle.std.proofs.lemmas.Bool.{and_parts, and_from, leb-true, le-leb, eqb-true}
@@ -9,7 +9,7 @@ use Rattle.vx_mark.specs.Mark.{deficit_of, IsAccepted}
 use Rattle.vx_mark.specs.Best.{IsNear, IsBetter, IsBest}
 use Rattle.vx_scan_model.specs.Border.{is_accepted, near_numbers, near_place, may_be_best, best_of}
 use Rattle.vx_scan_model.proofs.Firsts.{IsFirstOf, find-first}
-use Rattle.vx_scan_model.proofs.Tests.{same_point, natural_of, accepted_from, accepted_true}
+use Rattle.vx_scan_model.proofs.Accepting.{same_point, natural_of, accepted_from, accepted_true}
 
 -- the number of a place in the order of places near a predicted one
 pub record HasRank (page : Page) (predicted p : Point) (n : ℕ) : Type 0 where
@@ -39,7 +39,7 @@ rank-of_parts page predicted p d r c deficit row column low narrow = record {
   column = rw (rank-column d r c low narrow) column;
 }
 
--- a number of a place that may be the best
+-- a number of a place that may be the best, below 21 * 1024
 pub record IsRank (page : Page) (predicted p : Point) (n : ℕ) : Type 0 where
   pub has : HasRank page predicted p n
   pub column : n % 32 ≤ 20
@@ -59,13 +59,15 @@ rank-of_place page predicted p good near =
     let column = above (predicted.u -ℤ pos 10) p.u 20 near.left (omega (arith, ints, near.right)) in
     let few : deficit_of page p ≤ 20 = good.deficit in
     let narrow : column.0 < 32 = omega (arith, column.2) in
-    let low : row.0 < 32 = omega (arith, row.2) in
-    (deficit_of page p * 1024 + row.0 * 32 + column.0, record {
-      has = rank-of_parts page predicted p (deficit_of page p) row.0 column.0 refl row.1 column.1 low narrow;
-      column = rw (rank-column (deficit_of page p) row.0 column.0 low narrow) column.2;
-      row = rw (rank-row (deficit_of page p) row.0 column.0 low narrow) row.2;
-      below = omega (arith, few, row.2, column.2);
-    })
+    let low : row.0 < 32 = omega (arith, row.2) in (
+      deficit_of page p * 1024 + row.0 * 32 + column.0,
+      record {
+        has = rank-of_parts page predicted p (deficit_of page p) row.0 column.0 refl row.1 column.1 low narrow;
+        column = rw (rank-column (deficit_of page p) row.0 column.0 low narrow) column.2;
+        row = rw (rank-row (deficit_of page p) row.0 column.0 low narrow) row.2;
+        below = omega (arith, few, row.2, column.2);
+      },
+    )
 
 -- the order of places is that of their numbers
 less-by_deficit : (m n : ℕ) → m / 1024 < n / 1024 → m < n
@@ -126,8 +128,8 @@ place-passes page predicted p n rank good =
     and_from (nat_le (n % 32) 20 && nat_le (n / 32 % 32) 12) (is_accepted page (near_place predicted n) && deficit_of page (near_place predicted n) == n / 1024)
     (and_from (nat_le (n % 32) 20) (nat_le (n / 32 % 32) 12) (le-leb (n % 32) 20 rank.column) (le-leb (n / 32 % 32) 12 rank.row))
     (and_from (is_accepted page (near_place predicted n)) (deficit_of page (near_place predicted n) == n / 1024)
-      (accepted_true page (near_place predicted n) fine)
-      (eq-eqb (deficit_of page (near_place predicted n)) (n / 1024) deficit))
+    (accepted_true page (near_place predicted n) fine)
+    (eq-eqb (deficit_of page (near_place predicted n)) (n / 1024) deficit))
 
 -- the best place near a predicted one, or that there is none
 abbrev pub IsBestOf : Page → Point → Option Point → Type 0

@@ -1,5 +1,5 @@
 -- A scan has one border, and it is the one that the function gives.
-use Rattle.std.proofs.Common.{◌≡◌, ◌∙◌, ◌<◌, ◌≤◌, inl, inr, ℕ, Bool, true, false, cond, List, length, Result, Ok, Err, pos, ◌+ℤ◌, ◌-ℤ◌, arith, refl, sym, ap, subst}
+use Rattle.std.proofs.Common.{◌≡◌, ◌∙◌, ◌<◌, ◌≤◌, inl, inr, ℕ, Bool, true, false, cond, List, Result, Ok, Err, pos, ◌+ℤ◌, ◌-ℤ◌, arith, refl, sym, ap, subst}
 use Rattle.std.proofs.lemmas.Bool.{cases_order, and_parts, and_from, both_ways}
 use Rattle.std.proofs.lemmas.List.{ext_get_or}
 use Rattle.vx_plane.specs.Plane.{Page}
@@ -13,7 +13,7 @@ use Rattle.vx_border.specs.Border.{side_of, index_of, leader_of, prediction_of, 
 use Rattle.vx_border.proofs.Follow.{leader_before}
 use Rattle.vx_border.proofs.Once.{followed_once}
 use Rattle.vx_scan_model.specs.Border.{is_between, closes, if_closed, marks_of, border_of}
-use Rattle.vx_scan_model.proofs.Tests.{IsBetween, between_from, between_true}
+use Rattle.vx_scan_model.proofs.Accepting.{IsBetween, between_from, between_true}
 use Rattle.vx_scan_model.proofs.Marks.{AreFollowed, IsLackOf, AreMarksOf, AreMarksOf-marks_of}
 
 -- fewer marks are followed too
@@ -40,12 +40,12 @@ mark_once : (page : Page) (s t : Side) (i j : ℕ) (p q : Point) → LacksMark p
 mark_once page s t i j p q a b =
     elim (cases_order a.mark b.mark) [
       | inl same ↦
-        let Followed : ℕ → Type 0 = λ n. IsFollowed page n a.places in
-        let there : IsFollowed page b.mark a.places = subst Followed same a.followed in
-        let sides : s ≡ t = a.side_is ∙ (ap side_of same ∙ sym b.side_is) in
-        let indexes : i ≡ j = a.index_is ∙ (ap index_of same ∙ sym b.index_is) in
-        let places : p ≡ q = a.predicted_is ∙ (ap (prediction_of a.places) same ∙ (predictions_agree page b.mark a.places b.places b.later there b.followed ∙ sym b.predicted_is)) in
-        cc
+          let Followed : ℕ → Type 0 = λ n. IsFollowed page n a.places in
+          let there : IsFollowed page b.mark a.places = subst Followed same a.followed in
+          let sides : s ≡ t = a.side_is ∙ (ap side_of same ∙ sym b.side_is) in
+          let indexes : i ≡ j = a.index_is ∙ (ap index_of same ∙ sym b.index_is) in
+          let places : p ≡ q = a.predicted_is ∙ (ap (prediction_of a.places) same ∙ (predictions_agree page b.mark a.places b.places b.later there b.followed ∙ sym b.predicted_is)) in
+          cc
       | inr apart ↦ elim apart [
         | inl before ↦ absurd (followed_not_lacking page b.mark b.places s i p b.followed a before)
         | inr after ↦ absurd (followed_not_lacking page a.mark a.places t j q a.followed b after)

@@ -1,18 +1,16 @@
 -- The corner by numbers is the corner.
-use Rattle.std.proofs.Common.{◌≡◌, ◌+◌, ◌*◌, ◌/◌, ◌%◌, ◌<◌, ◌≤◌, inl, inr, ℕ, ℤ, Bool, true, pos, negsuc, ◌+ℤ◌, ◌-ℤ◌, ◌≤ℤ◌, ◌<ℤ◌, Option, Some, None, arith, refl, sym, subst, ap}
-use Rattle.std.specs.Prelude.{int_le, int_lt, option_map}
-use Rattle.std.specs.List.{range_with_len}
+use Rattle.std.proofs.Common.{◌≡◌, ◌+◌, ◌*◌, ◌/◌, ◌%◌, ◌<◌, ◌≤◌, inl, inr, ℕ, true, pos, ◌+ℤ◌, Option, Some, None, arith, refl, subst}
+use Rattle.std.specs.Prelude.{option_map}
 use Rattle.std.proofs.lemmas.Int.{ints}
 use Rattle.std.proofs.lemmas.Nat.{div-mul-add, mod-mul-add}
-use Rattle.std.proofs.lemmas.Bool.{and_parts, and_from, leb-true, le-leb}
+use Rattle.std.proofs.lemmas.Bool.{and_parts, and_from}
 use Rattle.vx_plane.specs.Plane.{Page}
 use Rattle.vx_grid.specs.declared.places.Point.{Point}
-use Rattle.vx_mark.specs.Mark.{deficit_of, IsAccepted}
+use Rattle.vx_mark.specs.Mark.{IsAccepted}
 use Rattle.vx_mark.specs.Corner.{IsInCornerRegion, ComesBefore, IsCorner}
-use Rattle.vx_border.proofs.Once.{corner_once}
-use Rattle.vx_scan_model.specs.Border.{is_between, is_accepted, corner_numbers, corner_place, may_be_corner, corner_of}
+use Rattle.vx_scan_model.specs.Border.{is_between, corner_numbers, corner_place, may_be_corner, corner_of}
 use Rattle.vx_scan_model.proofs.Firsts.{IsFirstOf, find-first}
-use Rattle.vx_scan_model.proofs.Tests.{same_point, natural_of, IsBetween, between_from, between_true, accepted_from, accepted_true}
+use Rattle.vx_scan_model.proofs.Accepting.{same_point, natural_of, IsBetween, between_from, between_true, accepted_from, accepted_true}
 
 -- the number of a place in the order of corners
 pub record HasNumber (p : Point) (n : ℕ) : Type 0 where
@@ -48,12 +46,12 @@ before-number : (p q : Point) (m n : ℕ) → HasNumber p m → HasNumber q n �
 before-number p q m n a b before =
     elim before [
       | inl less ↦
-        let sums : m / 128 < n / 128 = omega (arith, ints, less, a.sum, b.sum) in
-        omega arith
+          let sums : m / 128 < n / 128 = omega (arith, ints, less, a.sum, b.sum) in
+          omega arith
       | inr level ↦
-        let sums : m / 128 ≡ n / 128 = omega (arith, ints, level.0, a.sum, b.sum) in
-        let rows : m % 128 < n % 128 = omega (arith, ints, level.1, a.row, b.row) in
-        omega arith
+          let sums : m / 128 ≡ n / 128 = omega (arith, ints, level.0, a.sum, b.sum) in
+          let rows : m % 128 < n % 128 = omega (arith, ints, level.1, a.row, b.row) in
+          omega arith
     ]
 
 -- what the test of a place says

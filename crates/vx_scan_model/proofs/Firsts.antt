@@ -21,9 +21,9 @@ after_low test low m fails from passes =
     elim (cases_lt low m) [
       | inl later ↦ omega arith
       | inr not_later ↦
-        let same : m ≡ low = omega arith in
-        let here : test low ≡ true = rw (ap test (sym same)) passes in
-        absurd (both_ways (test low) fails here)
+          let same : m ≡ low = omega arith in
+          let here : test low ≡ true = rw (ap test (sym same)) passes in
+          absurd (both_ways (test low) fails here)
     ]
 
 -- what the least number gives, before the others

@@ -1,5 +1,5 @@
 pub mod Firsts
-pub mod Tests
+pub mod Accepting
 pub mod Corners
 pub mod Bests
 pub mod Marks

@@ -1,5 +1,5 @@
 -- The marks that are found one after the other are followed.
-use Rattle.std.proofs.Common.{◌≡◌, ◌+◌, ◌-◌, ◌<◌, ◌≤◌, ◌++◌, ◌∷◌, [], inl, inr, ℕ, zero, suc, false, List, length, Option, Some, None, Result, Ok, Err, pos, arith, refl, sym, ap, subst}
+use Rattle.std.proofs.Common.{◌≡◌, ◌-◌, ◌<◌, ◌≤◌, ◌++◌, ◌∷◌, [], inl, inr, ℕ, zero, suc, false, List, length, Option, Some, None, Result, Ok, Err, pos, arith, refl, sym, ap, subst}
 use Rattle.std.specs.Prelude.{◌==◌}
 use Rattle.std.proofs.lemmas.Bool.{cases_lt, ne_eqb}
 use Rattle.std.proofs.lemmas.List.{length-append, get_or_append_left, get_or-append_right}
@@ -41,16 +41,16 @@ followed_push page n places p some all f best =
       next = λ j low high.
           elim (cases_lt j n) [
             | inl before ↦
-              let Here : Point → Type 0 = λ x. IsBest page (prediction_of places j) x in
-              let here : IsBest page (prediction_of places j) (point_at (places ++ p ∷ []) j) = subst Here (sym (point_at_before places p j (omega arith))) (f.next j low before) in
-              let Expected : Point → Type 0 = λ q. IsBest page q (point_at (places ++ p ∷ []) j) in
-              subst Expected (sym (prediction_before places p j low (omega arith))) here
+                let Here : Point → Type 0 = λ x. IsBest page (prediction_of places j) x in
+                let here : IsBest page (prediction_of places j) (point_at (places ++ p ∷ []) j) = subst Here (sym (point_at_before places p j (omega arith))) (f.next j low before) in
+                let Expected : Point → Type 0 = λ q. IsBest page q (point_at (places ++ p ∷ []) j) in
+                subst Expected (sym (prediction_before places p j low (omega arith))) here
             | inr not_before ↦
-              let last : n ≡ j = omega arith in
-              let Expected : Point → Type 0 = λ q. IsBest page q (point_at (places ++ p ∷ []) n) in
-              let expected : IsBest page (prediction_of (places ++ p ∷ []) n) (point_at (places ++ p ∷ []) n) = subst Expected (sym (prediction_before places p n some (omega arith))) own in
-              let At : ℕ → Type 0 = λ m. IsBest page (prediction_of (places ++ p ∷ []) m) (point_at (places ++ p ∷ []) m) in
-              subst At last expected
+                let last : n ≡ j = omega arith in
+                let Expected : Point → Type 0 = λ q. IsBest page q (point_at (places ++ p ∷ []) n) in
+                let expected : IsBest page (prediction_of (places ++ p ∷ []) n) (point_at (places ++ p ∷ []) n) = subst Expected (sym (prediction_before places p n some (omega arith))) own in
+                let At : ℕ → Type 0 = λ m. IsBest page (prediction_of (places ++ p ∷ []) m) (point_at (places ++ p ∷ []) m) in
+                subst At last expected
           ];
     }
 

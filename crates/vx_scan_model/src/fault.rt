@@ -59,10 +59,15 @@ impl fmt::Display for PageFault {
             PageFault::FrameSize(width, height) => write!(f, "1 FrameSize {width} {height}"),
             PageFault::Border(BorderFault::NoCorner) => f.write_str("2.1 NoCorner"),
             PageFault::Border(BorderFault::NoMark(side, index, at)) => {
-                write!(f, "2.2 NoMark {} {index} {} {}", side_word(*side), at.u, at.v)
+                let side = side_word(*side);
+                write!(f, "2.2 NoMark {side} {index} {} {}", at.u, at.v)
             }
             PageFault::Border(BorderFault::OpenBorder(end, found)) => {
-                write!(f, "2.3 OpenBorder {} {} {} {}", end.u, end.v, found.u, found.v)
+                write!(
+                    f,
+                    "2.3 OpenBorder {} {} {} {}",
+                    end.u, end.v, found.u, found.v
+                )
             }
             PageFault::Code(CodeFault::BadPair(bit, left, right)) => {
                 write!(f, "3.1 BadPair {bit} {left} {right}")

@@ -1,5 +1,5 @@
 -- What the tests of places say.
-use Rattle.std.proofs.Common.{◌≡◌, ◌+◌, ◌≤◌, ◌∙◌, ℕ, ℤ, Bool, true, pos, negsuc, ◌+ℤ◌, ◌≤ℤ◌, ◌<ℤ◌, arith, refl, ap}
+use Rattle.std.proofs.Common.{◌≡◌, ◌∙◌, ℕ, ℤ, true, pos, negsuc, ◌+ℤ◌, ◌≤ℤ◌, ◌<ℤ◌, arith, refl, ap}
 use Rattle.std.specs.Prelude.{int_le, int_lt}
 use Rattle.std.proofs.lemmas.Int.{ints}
 use Rattle.std.proofs.lemmas.Bool.{and_parts, and_from, leb-true, le-leb}
@@ -46,8 +46,8 @@ pub accepted_true : (page : Page) (p : Point) → IsAccepted page p → is_accep
 accepted_true page p h =
     and_from _ _
     (and_from _ _
-      (and_from _ _ (le_true (pos 23) p.u h.in_frame.left) (lt_true (p.u +ℤ pos 22) (pos page.width) h.in_frame.right))
-      (and_from _ _ (le_true (pos 11) p.v h.in_frame.top) (lt_true (p.v +ℤ pos 10) (pos page.height) h.in_frame.bottom)))
+    (and_from _ _ (le_true (pos 23) p.u h.in_frame.left) (lt_true (p.u +ℤ pos 22) (pos page.width) h.in_frame.right))
+    (and_from _ _ (le_true (pos 11) p.v h.in_frame.top) (lt_true (p.v +ℤ pos 10) (pos page.height) h.in_frame.bottom)))
     (le-leb (deficit_of page p) 20 h.deficit)
 
 -- and a place that passes it is accepted
