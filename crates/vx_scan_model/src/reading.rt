@@ -1,3 +1,4 @@
+use crate::fault::PageFault;
 use crate::scores::Scores;
 use vx_code::PageCode;
 use vx_grid::{Border, States};
@@ -17,7 +18,8 @@ pub struct PageReading {
 
 fn crosses_threads<T: Send + Sync>() {}
 
-/// Threads may share a reading and hand it over.
+/// Threads may share a reading or a fault and hand it over.
 pub fn reading_is_shared() {
-    crosses_threads::<PageReading>()
+    crosses_threads::<PageReading>();
+    crosses_threads::<PageFault>()
 }
