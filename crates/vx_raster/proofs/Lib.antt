@@ -1,1 +1,3 @@
 pub mod Painted
+pub mod Shapes
+pub mod Outlines

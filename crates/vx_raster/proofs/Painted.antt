@@ -1,7 +1,7 @@
 -- Laws of painting one shape after the other.
-use Rattle.std.proofs.Common.{◌≡◌, ℕ, ◌+◌, ◌<◌, List, length, take, get_or, refl, ap, sym, ◌∙◌}
+use Rattle.std.proofs.Common.{◌≡◌, ℕ, ◌+◌, ◌<◌, List, length, take, get_or, Bool, true, false, cond, ◌||◌, ℤ, pos, refl, ap, sym, ◌∙◌}
 use Rattle.vx_plane.specs.Plane.{Pixels, Page, page_of, dark_at, nowhere, painted, in_any, any_of}
-use Rattle.vx_plane.proofs.Pages.{painted-none, painted-any_of_more, painted-in_any_more}
+use Rattle.vx_plane.proofs.Pages.{in_any-more, painted-none, painted-same, painted-any_of_more, painted-in_any_more}
 
 -- before the first shape nothing is painted
 pub painted-begun : (page : Page) → page ≡ page_of page.width page.height (dark_at page) → page ≡ painted page nowhere
@@ -20,3 +20,32 @@ painted-next_of_family start before after n family so_far next =
     next
     ∙ (ap (λ (p : Page). painted p (family n)) so_far
     ∙ sym (painted-in_any_more start n family))
+
+or_false : (a : Bool) → a || false ≡ a
+or_false true = refl
+or_false false = refl
+
+-- a shape of a family that has no place
+pub painted-none_of_family : (start : Page) (n : ℕ) (family : ℕ → Pixels) → ((u v : ℤ) → family n u v ≡ false) → painted start (in_any n family) ≡ painted start (in_any (n + 1) family)
+painted-none_of_family start n family none =
+    painted-same start _ _ (λ x y l h.
+    sym (in_any-more n family (pos x) (pos y)
+    ∙ (ap (λ (t : Bool). in_any n family (pos x) (pos y) || t) (none (pos x) (pos y))
+    ∙ or_false (in_any n family (pos x) (pos y)))))
+
+-- the shapes of a family that are there where a test says so
+abbrev pub chosen : (ℕ → Bool) → (ℕ → Pixels) → ℕ → Pixels
+chosen test family n = cond (test n) (family n) nowhere
+
+-- one of them that is there
+pub painted-next_chosen : (start before after : Page) (n : ℕ) (test : ℕ → Bool) (family : ℕ → Pixels) → test n ≡ true → before ≡ painted start (in_any n (chosen test family)) → after ≡ painted before (family n) → after ≡ painted start (in_any (n + 1) (chosen test family))
+painted-next_chosen start before after n test family there so_far next =
+    painted-next_of_family start before after n (chosen test family) so_far
+    (next ∙ ap (λ (t : Bool). painted before (cond t (family n) nowhere)) (sym there))
+
+-- one of them that isn't there
+pub painted-not_chosen : (start before after : Page) (n : ℕ) (test : ℕ → Bool) (family : ℕ → Pixels) → test n ≡ false → before ≡ painted start (in_any n (chosen test family)) → after ≡ before → after ≡ painted start (in_any (n + 1) (chosen test family))
+painted-not_chosen start before after n test family missing so_far same =
+    same
+    ∙ (so_far
+    ∙ painted-none_of_family start n (chosen test family) (λ u v. ap (λ (t : Bool). cond t (family n) nowhere u v) missing))
