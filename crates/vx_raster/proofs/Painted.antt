@@ -1,7 +1,7 @@
 -- Laws of painting one shape after the other.
 use Rattle.std.proofs.Common.{◌≡◌, ℕ, ◌+◌, ◌<◌, List, length, take, get_or, Bool, true, false, cond, ◌||◌, ℤ, pos, refl, ap, sym, ◌∙◌}
-use Rattle.vx_plane.specs.Plane.{Pixels, Page, page_of, dark_at, nowhere, painted, in_any, any_of}
-use Rattle.vx_plane.proofs.Pages.{in_any-more, painted-none, painted-same, painted-any_of_more, painted-in_any_more}
+use Rattle.vx_plane.specs.Plane.{Pixels, Page, page_of, dark_at, nowhere, union, painted, in_any, any_of}
+use Rattle.vx_plane.proofs.Pages.{page_of-same, dark_at-inside, painted-union, in_any-more, painted-none, painted-same, painted-any_of_more, painted-in_any_more}
 
 -- before the first shape nothing is painted
 pub painted-begun : (page : Page) → page ≡ page_of page.width page.height (dark_at page) → page ≡ painted page nowhere
@@ -49,3 +49,19 @@ painted-not_chosen start before after n test family missing so_far same =
     same
     ∙ (so_far
     ∙ painted-none_of_family start n (chosen test family) (λ u v. ap (λ (t : Bool). cond t (family n) nowhere u v) missing))
+
+-- a shape painted on a light page
+painted-on_light : (width height : ℕ) (shape : Pixels) → painted (page_of width height nowhere) shape ≡ page_of width height shape
+painted-on_light width height shape =
+    page_of-same width height _ shape (λ x y l h. ap (λ (t : Bool). t || shape (pos x) (pos y)) (dark_at-inside width height x y nowhere l h))
+
+-- two pairs of shapes painted one after the other, on a light page
+pub painted-in_turn : (width height : ℕ) (light first second third page : Page) (a b c d : Pixels) → light ≡ page_of width height nowhere → first ≡ painted light a → second ≡ painted first b → third ≡ painted second c → page ≡ painted third d → page ≡ page_of width height (union (union a b) (union c d))
+painted-in_turn width height light first second third page a b c d is_light by_a by_b by_c by_d =
+    by_d
+    ∙ (ap (λ (p : Page). painted p d) (by_c ∙ ap (λ (p : Page). painted p c) (by_b ∙ ap (λ (p : Page). painted p b) by_a))
+    ∙ (sym (painted-union light (union a b) (union c d)
+    ∙ (painted-union (painted light (union a b)) c d
+    ∙ ap (λ (p : Page). painted (painted p c) d) (painted-union light a b)))
+    ∙ (ap (λ (p : Page). painted p (union (union a b) (union c d))) is_light
+    ∙ painted-on_light width height (union (union a b) (union c d)))))
