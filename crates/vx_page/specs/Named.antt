@@ -1,5 +1,5 @@
--- The page that a code names, and where its bubbles stand.
-use Rattle.std.specs.Prelude.{ℕ, ◌≤◌, ◌==◌, if◌then◌else◌, Option, Some, None, Result, Ok, Err}
+-- The page that a code names, where its bubbles stand, and what its reading has.
+use Rattle.std.specs.Prelude.{◌≡◌, ◌≤◌, ℕ, ◌==◌, if◌then◌else◌, length, Option, Some, None, Result, Ok, Err}
 use Rattle.vx_election.specs.declared.election.Election.{Election}
 use Rattle.vx_code.specs.declared.code.PageCode.{PageCode}
 use Rattle.vx_code.specs.Code.{tag_of}
@@ -8,6 +8,7 @@ use Rattle.vx_layout.specs.declared.pages.PagePlan.{PagePlan}
 use Rattle.vx_layout.specs.declared.plan.CardPlan.{CardPlan}
 use Rattle.vx_layout.specs.declared.fault.LayoutFault.{LayoutFault}
 use Rattle.vx_layout.specs.Plan.{plan_of}
+use Rattle.vx_scan_model.specs.declared.reading.PageReading.{PageReading}
 use Rattle.vx_scan_model.specs.declared.fault.PageFault.{PageFault}
 use Rattle.vx_scan_model.specs.declared.fault.PageFault.TheVariants.{OtherElection, NoCard, NoPage}
 use Rattle.vx_scan_model.specs.Reading.{page_numbered}
@@ -32,3 +33,10 @@ named_plan election code =
 pub record IsOnGrid (bubble : Bubble) : Type 0 where
   pub column : bubble.col ≤ 33
   pub row : bubble.row ≤ 40
+
+-- a reading is of the planned page that its code names, with a score and a state for each bubble
+pub record IsOfPlan (election : Election) (reading : PageReading) : Type 0 where
+  pub plan : PagePlan
+  pub named : named_plan election reading.code ≡ Ok plan
+  pub scores : length reading.scores ≡ length plan.bubbles
+  pub states : length reading.states ≡ length plan.bubbles

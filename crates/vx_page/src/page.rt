@@ -1,8 +1,9 @@
-ghost use Rattle.std.specs.Prelude.{◌≡◌, ◌≤◌};
+ghost use Rattle.std.specs.Prelude.{◌≡◌, ◌↔◌, ℕ, false, Err, IfOk};
 ghost use Rattle.vx_election.specs.Valid.{IsValid};
 ghost use Rattle.vx_grid.specs.Places.{AreWithin};
 ghost use Rattle.vx_scan_model.specs.Reading as reading;
 ghost use Rattle.vx_scan_model.specs.Reading.{ArePlansOf, Answers, code_read, reading_of_code, reading_of};
+ghost use Rattle.vx_page.specs.Named.{IsOfPlan};
 
 use crate::bubbles::{scores_of, states_of};
 use crate::code::read_code;
@@ -67,6 +68,11 @@ pub fn read_page(
     requires election { IsValid election.now }
     requires plans { ArePlansOf election.now plans.now }
     ensures exact { Answers result (reading_of election.now page.now) }
+    // The frame is tested before any memory is taken.
+    ensures frame { (width height : ℕ) → (result ≡ Err (PageFault.FrameSize width height))
+        ↔ ((reading.is_allowed page.now ≡ false) × (width ≡ page.now.width) × (height ≡ page.now.height)) }
+    // The code names a planned page, and each of its bubbles has a score and a state.
+    ensures planned { IfOk result (IsOfPlan election.now) }
 {
     if !is_allowed(page) {
         return Err(PageFault::FrameSize(page.width(), page.height()));
