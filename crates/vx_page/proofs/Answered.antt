@@ -1,5 +1,5 @@
 -- The reading on the page that a code names, and what a call may answer.
-use Rattle.std.proofs.Common.{◌≡◌, ◌==◌, ℕ, List, length, map, Bool, true, false, cond, refl, sym, ap, ap₂, subst, ◌∙◌}
+use Rattle.std.proofs.Common.{◌≡◌, ◌==◌, ℕ, List, Bool, true, false, cond, refl, sym, ap, ap₂, subst, ◌∙◌}
 use Rattle.std.proofs.lemmas.List.{length-map}
 use Rattle.std.specs.Prelude.{Option, None, Some, Result, Ok, Err, IfOk, IsErrAnd}
 use Rattle.vx_plane.specs.Plane.{Page}
@@ -21,6 +21,7 @@ use Rattle.vx_scan_model.specs.declared.fault.PageFault.TheVariants.{FrameSize, 
 use Rattle.vx_scan_model.specs.Border.{border_of}
 use Rattle.vx_scan_model.specs.Reading.{is_allowed, code_read, bubble_score, scores_of, states_of, reading_on, page_numbered, reading_unless, reading_on_card, reading_of_code, reading_of_border, reading_of, Answers}
 use Rattle.vx_score.specs.Score.{state_of}
+use Rattle.vx_scan_model.proofs.Borders.{border_of-is}
 use Rattle.vx_page.specs.Named.{plan_unless, plan_on_card, named_plan, IsOfPlan}
 
 -- an answer that the definition gives too
@@ -140,10 +141,6 @@ no-frame election page width height allowed h =
     no-frame-border election page (border_of page) width height
     (sym (ap (λ (b : Bool). cond b (reading_of_border election page (border_of page)) other) allowed) ∙ h)
 
--- what is traced is the border
-traced : (page : Page) (answer : Result (List Point) BorderFault) → IsBorderOf page answer → answer ≡ border_of page
-traced page answer h = ?
-
 -- a frame that isn't read
 pub reading-not_allowed : (election : Election) (page : Page) → is_allowed page ≡ false → reading_of election page ≡ Err (FrameSize page.width page.height)
 unfolding reading_of
@@ -158,4 +155,4 @@ reading-traced election page counted answer h same is =
     let other : Result PageReading PageFault = Err (FrameSize page.width page.height) in
     ap (λ (b : Bool). cond b (reading_of_border election page (border_of page)) other) h
     ∙ ap (λ (p : Page). reading_of_border election p (border_of p)) (sym same)
-    ∙ ap (reading_of_border election counted) (sym (traced counted answer is))
+    ∙ ap (reading_of_border election counted) (sym (border_of-is counted answer is))

@@ -25,7 +25,7 @@ use Rattle.vx_layout.proofs.LineSizes.{All-always}
 use Rattle.vx_layout.proofs.Placing.{All-placed}
 use Rattle.vx_layout.proofs.Sizes.{sizes-from_valid}
 use Rattle.vx_scan_model.specs.declared.fault.PageFault.{PageFault}
-use Rattle.vx_scan_model.specs.declared.fault.PageFault.TheVariants.{OtherElection, NoCard, NoPage}
+use Rattle.vx_scan_model.specs.declared.fault.PageFault.TheVariants.{OtherElection, NoCard}
 use Rattle.vx_scan_model.specs.Reading.{page_numbered, ArePlansOf}
 use Rattle.vx_page.specs.Named.{plan_unless, plan_on_card, named_plan, IsOnGrid}
 

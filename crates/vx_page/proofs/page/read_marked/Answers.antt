@@ -1,4 +1,4 @@
-use Rattle.std.proofs.Common.{◌≡◌, ap, ◌∙◌, sym, subst}
+use Rattle.std.proofs.Common.{ap, ◌∙◌, sym, subst}
 use Rattle.std.specs.Prelude.{All}
 use Rattle.vx_scan_model.specs.Reading.{code_read, scores_of, states_of}
 use Rattle.vx_page.specs.Named.{IsOnGrid}

@@ -1,4 +1,4 @@
-use Rattle.std.proofs.Common.{◌≡◌, ap, ap₂, ◌∙◌, sym, subst, ℕ}
+use Rattle.std.proofs.Common.{ap₂, ◌∙◌, sym, subst, ℕ}
 use Rattle.std.specs.Prelude.{Result, Ok, Err}
 use Rattle.std.proofs.lemmas.Bool.{false≢true}
 use Rattle.vx_scan_model.specs.declared.reading.PageReading.{PageReading}
@@ -25,9 +25,10 @@ pub returns-in-Ok-clause-frame : goal.returns-in-Ok-clause-frame
 returns-in-Ok-clause-frame c =
     let allowed = sym c.if-not-is_allowed.ensures in
     let exact = returns-in-Ok-clause-exact c in
-    λ width height.
-    (λ h. absurd (no-frame c.args.election.now c.args.page.now width height allowed (subst (λ (result : Result PageReading PageFault). Answers result (reading_of c.args.election.now c.args.page.now)) h exact)),
-    λ h. absurd (false≢true (sym h.0 ∙ allowed)))
+    λ width height. (
+      λ h. absurd (no-frame c.args.election.now c.args.page.now width height allowed (subst (λ (result : Result PageReading PageFault). Answers result (reading_of c.args.election.now c.args.page.now)) h exact)),
+      λ h. absurd (false≢true (sym h.0 ∙ allowed)),
+    )
 
 pub returns-in-Ok-clause-planned : goal.returns-in-Ok-clause-planned
 returns-in-Ok-clause-planned c =
