@@ -2,7 +2,7 @@
 use Rattle.std.proofs.Common.{◌≡◌, ℕ, ◌+◌, ◌-◌, ◌<◌, ◌≤◌, ◌⊎◌, min, false, pos, arith}
 use Rattle.std.proofs.lemmas.Int.{ints}
 use Rattle.vx_plane.specs.Plane.{Page, page_of, dark_at, rectangle, painted}
-use Rattle.vx_plane.proofs.Pages.{painted-same, painted-none, painted-row_more, painted-column_more}
+use Rattle.vx_plane.proofs.Pages.{painted-same, painted-none}
 
 clipped : (left top width height right bottom u v x y : ℕ) → right ≡ min (left + width) u → bottom ≡ min (top + height) v → left < right → top < bottom → x < u → y < v → rectangle (pos left) (pos top) (right - left) (bottom - top) (pos x) (pos y) ≡ rectangle (pos left) (pos top) width height (pos x) (pos y)
 clipped left top width height right bottom u v x y a b c d l h = grind (arith, ints)

@@ -60,6 +60,12 @@ mod tests {
         assert_eq!(rt; view.row_bytes(1), [0b11, 0b1100_0000].as_slice());
         assert_eq!(rt; view.row_bytes(2), [0b11, 0b1100_0000].as_slice());
         assert_eq!(rt; view.row_bytes(3), [0, 0].as_slice());
+        page.darken(11, 3, 7, 7);
+        page.darken(1 << 40, 0, 2, 2);
+        page.darken(0, u64::MAX, 2, u32::MAX);
+        let view = page.view();
+        assert_eq!(rt; view.row_bytes(0), [0, 0].as_slice());
+        assert_eq!(rt; view.row_bytes(3), [0, 0b0001_0000].as_slice());
         Ok(())
     }
 

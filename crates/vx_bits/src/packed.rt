@@ -1,4 +1,4 @@
-ghost use Rattle.std.specs.Prelude.{◌≡◌, ◌+◌, ◌<◌, ◌/◌, ◌%◌, ℕ, length, ◌≢◌};
+ghost use Rattle.std.specs.Prelude.{◌≡◌, ◌+◌, ◌-◌, ◌*◌, ◌^◌, ◌<◌, ◌≤◌, ◌/◌, ◌%◌, ◌&&◌, ◌||◌, nat_le, nat_lt, ℕ, length, ◌≢◌};
 ghost use Rattle.std.specs.Int.{bit_at};
 ghost use Rattle.vx_plane.specs.Count.{one_if};
 ghost use Rattle.vx_bits.specs.Packed.{stride_of, packed_pixel};
@@ -38,4 +38,31 @@ pub(crate) fn put(rows: &mut [u8], start: usize, x: u32, dark: bool)
     let at = start + (x / 8) as usize;
     let byte = with_bit(rows[at], 7 - x % 8, dark);
     rows[at] = byte;
+}
+
+/// The byte of which the pixels from place `first` on and before place `last` are dark.
+fn mask(first: u32, last: u32) -> u8
+    requires order { first < last }
+    requires end { last ≤ 8 }
+    ensures { (i : ℕ) → i < 8 → bit_at result (7 - i) ≡ one_if (nat_le first i && nat_lt i last) }
+{
+    let above = 1u32 << (8 - first);
+    let below = 1u32 << (8 - last);
+    (above - below) as u8
+}
+
+/// Makes the pixels from place `from` on and before place `to` dark, eight at a time: places count
+/// the pixels of all bytes from the first one on.
+pub(crate) fn fill(rows: &mut [u8], from: usize, to: usize)
+    requires order { from < to }
+    requires inside { to ≤ 8 * length rows.old }
+    requires small { to < 2 ^ 32 }
+    ensures { (start x : ℕ) → packed_pixel rows.new start x
+        ≡ (packed_pixel rows.old start x || (nat_le from (8 * start + x) && nat_lt (8 * start + x) to)) }
+{
+    for k in from / 8..(to + 7) / 8 {
+        let first = from.saturating_sub(8 * k);
+        let last = (to - 8 * k).min(8);
+        rows[k] |= mask(first as u32, last as u32);
+    }
 }

@@ -1,7 +1,7 @@
 ghost use Rattle.std.specs.Prelude.{◌≡◌, ◌-◌, ◌<◌, ◌≤◌, Bool, IfOk, false, pos};
 ghost use Rattle.vx_plane.specs.Plane.{page_of, dark_at, nowhere, with_pixel, rectangle, painted};
 
-use crate::packed::{put, stride};
+use crate::packed::{fill, put, stride};
 use crate::view::BitView;
 use std::alloc::{AllocError, Global};
 use std::marker::Model;
@@ -79,20 +79,22 @@ impl BitPage {
 
     /// Makes the pixels of row `y` from column `left` on and before column `right` dark.
     fn darken_row(&mut self, left: u32, right: u32, y: u32)
-        requires order { left ≤ right }
+        requires order { left < right }
         requires columns { right ≤ self.old.width }
         requires row { y < self.old.height }
         ensures { self.new ≡ painted self.old (rectangle (pos left) (pos y) (right - left) 1) }
     {
-        let _columns = self.width();
-        for x in left..right {
-            self.set_dark(x, y, true);
-        }
+        let start = 8 * (y as usize * stride(self.width));
+        fill(
+            &mut self.rows,
+            start + left as usize,
+            start + right as usize,
+        );
     }
 
     /// Makes the rows of a rectangle that lies on the page dark.
     fn darken_rows(&mut self, left: u32, right: u32, top: u32, bottom: u32)
-        requires order { left ≤ right }
+        requires order { left < right }
         requires columns { right ≤ self.old.width }
         requires down { top ≤ bottom }
         requires rows { bottom ≤ self.old.height }

@@ -5,3 +5,4 @@ pub mod Plan
 pub mod Options
 pub mod Print
 pub mod Zones
+pub mod FaultTexts

@@ -2,6 +2,7 @@ ghost use Rattle.std.specs.Prelude.{◌≡◌};
 ghost use Rattle.vx_layout.specs.declared.fault.LayoutFault.TheVariants as fault;
 
 use std::alloc::AllocError;
+use std::fmt;
 use vx_json::Text;
 
 /// Why a card can't be printed.
@@ -23,5 +24,23 @@ impl From<AllocError> for LayoutFault {
 
     fn from(_e: AllocError) -> LayoutFault {
         LayoutFault::OutOfMemory
+    }
+}
+
+/// The fault's number, and its values with blanks between.
+impl fmt::Display for LayoutFault {
+    ghost use Rattle.std.specs.Prelude.{Some};
+    ghost use Rattle.vx_layout.specs.FaultTexts.{layout_fault_text};
+
+    ghost output = { λ fault. Some (layout_fault_text fault) };
+
+    fn fmt<W: fmt::Write>(&self, f: &mut fmt::Formatter<W>) -> fmt::Result {
+        match self {
+            LayoutFault::ContestTooTall(id, rows) => write!(f, "1 {} {rows}", id.as_str()),
+            LayoutFault::TextTooLong(id, size) => write!(f, "2 {} {size}", id.as_str()),
+            LayoutFault::TooManyPages(count) => write!(f, "3 {count}"),
+            LayoutFault::NoCard(cards) => write!(f, "4 {cards}"),
+            LayoutFault::OutOfMemory => f.write_str("out of memory"),
+        }
     }
 }

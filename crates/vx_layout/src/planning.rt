@@ -93,7 +93,8 @@ fn planned(alloc: Global, election: &Election, card: u32) -> Result<CardPlan, La
 /// `NoCard` where the election has no such card. Then the card's contests are tested in order, each
 /// for an option's name of more than 58 characters (`TextTooLong`) and next for a block of more than
 /// 28 rows (`ContestTooTall`). Last, the even number of pages may be above 63 (`TooManyPages`).
-/// Time and memory are in proportion to the text that is laid out.
+/// Time and memory are in proportion to the text that is laid out, besides one look at each
+/// contest's block for each of the at most 62 pages.
 pub fn plan_card(alloc: Global, election: &Election, card: u32) -> Result<CardPlan, LayoutFault>
     requires { IsValid election.now }
     ensures exact { Answers result (plan_of election.now card) }

@@ -1,3 +1,4 @@
+pub mod FaultTexts
 pub mod Header
 pub mod Image
 pub mod Images

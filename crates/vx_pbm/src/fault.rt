@@ -3,6 +3,7 @@
 ghost use Rattle.std.specs.Prelude.{◌≡◌};
 ghost use Rattle.vx_pbm.specs.declared.fault.PbmFault.TheVariants.{OutOfMemory};
 
+use std::fmt;
 use vx_bits::OutOfMemory as AllocError;
 
 /// The first place where bytes leave the grammar of bitmaps. Places count bytes from 0.
@@ -31,5 +32,25 @@ impl From<AllocError> for PbmFault {
 
     fn from(_e: AllocError) -> PbmFault {
         PbmFault::OutOfMemory
+    }
+}
+
+/// The fault's number, and its values with blanks between.
+impl fmt::Display for PbmFault {
+    ghost use Rattle.std.specs.Prelude.{Some};
+    ghost use Rattle.vx_pbm.specs.FaultTexts.{pbm_fault_text};
+
+    ghost output = { λ fault. Some (pbm_fault_text fault) };
+
+    fn fmt<W: fmt::Write>(&self, f: &mut fmt::Formatter<W>) -> fmt::Result {
+        match self {
+            PbmFault::BadMagic(at) => write!(f, "1 {at}"),
+            PbmFault::BadHeader(at) => write!(f, "2 {at}"),
+            PbmFault::SizeTooLarge(width, height) => write!(f, "3 {width} {height}"),
+            PbmFault::Truncated(have, need) => write!(f, "4 {have} {need}"),
+            PbmFault::BadPixel(at) => write!(f, "5 {at}"),
+            PbmFault::TrailingPlain(at) => write!(f, "6 {at}"),
+            PbmFault::OutOfMemory => f.write_str("out of memory"),
+        }
     }
 }

@@ -2,7 +2,9 @@ ghost use Rattle.std.specs.Prelude.{◌<◌, length};
 ghost use Rattle.vx_election.specs.Valid.{IsValid};
 ghost use Rattle.vx_styles.specs.Cards.{cards_of};
 
-mod definitions;
+mod large;
+mod outside;
+mod refusals;
 
 use super::*;
 use sha2::{Digest, Sha256};
@@ -93,8 +95,8 @@ fn holds(alloc: Global, valid: &str, row: &str) -> Result<bool, Fail> {
 
 #[test]
 fn each_refusal_at_each_member(rt: HostRuntime) -> Result<(), Fail> {
-    let valid = definitions::valid();
-    let rows = definitions::cases();
+    let valid = refusals::valid();
+    let rows = refusals::cases();
     let mut count = 0u32;
     for row in rows.lines() {
         assert!(rt; holds(rt.alloc(), valid, row)?, "{row}");
@@ -165,19 +167,19 @@ fn description(alloc: Global, bytes: &[u8]) -> Result<String, Fail> {
 // The definition of a name.
 fn definition(name: &str) -> &'static str {
     match name {
-        "valid.json" => definitions::valid(),
-        "election-0.json" => definitions::election_0(),
-        "election-1.json" => definitions::election_1(),
-        "election-2.json" => definitions::election_2(),
-        "election-3.json" => definitions::election_3(),
-        "election-4.json" => definitions::election_4(),
-        _ => definitions::town(),
+        "valid.json" => refusals::valid(),
+        "election-0.json" => outside::election_0(),
+        "election-1.json" => outside::election_1(),
+        "election-2.json" => outside::election_2(),
+        "election-3.json" => large::election_3(),
+        "election-4.json" => outside::election_4(),
+        _ => outside::town(),
     }
 }
 
 #[test]
 fn cards_and_their_contests(rt: HostRuntime) -> Result<(), Fail> {
-    let rows = definitions::cards_table();
+    let rows = outside::cards_table();
     for row in rows.lines() {
         let (name, wanted) = row.split_once(" -> ").ok_or("a row")?;
         let bytes = definition(name);
@@ -209,7 +211,7 @@ fn digest_of_bytes(alloc: Global, bytes: &[u8]) -> Result<String, AllocError> {
 
 #[test]
 fn the_digest_is_that_of_all_bytes(rt: HostRuntime) -> Result<(), Fail> {
-    let town = definitions::town();
+    let town = outside::town();
     let found = digest_of_election(rt.alloc(), town.as_bytes())?;
     let wanted = "16cbf4c3a45dae96ed01a82ac6d66a24812b6309d97421e2dc4282725ade6e70";
     assert_eq!(rt; found.as_str(), wanted);
