@@ -11,4 +11,5 @@ mod code;
 mod named;
 mod page;
 
+pub use named::find_plan;
 pub use page::read_page;

@@ -7,8 +7,9 @@ use vx_election::Election;
 use vx_layout::{CardPlans, PagePlan};
 use vx_scan_model::PageFault;
 
-/// The plan of the page that a code names, or why it names none.
-pub(crate) fn find_plan<'a>(
+/// The plan of the page that a code names, or why it names none: `OtherElection`, `NoCard` or
+/// `NoPage`, in this order. `plans` are those of all cards.
+pub fn find_plan<'a>(
     election: &Election,
     plans: &'a CardPlans,
     code: PageCode,
