@@ -1,0 +1,152 @@
+-- The bubbles of a planned page stand on the grid, and what the plans of all cards say of a code.
+use Rattle.std.proofs.Common.{◌≡◌, ℕ, ◌≤◌, ◌<◌, ◌-◌, ◌==◌, List, length, get_or, Bool, true, false, cond, refl, sym, ap, ◌∙◌, subst, arith}
+use Rattle.std.specs.Prelude.{All, slice_get, nat_lt, Option, None, Some, Result, Ok, Err}
+use Rattle.std.specs.List.{flat_map, range_with_len}
+use Rattle.std.proofs.lemmas.Bool.Decides.{nat_tests}
+use Rattle.std.proofs.lemmas.List.Elements.{All-map, All-weaker, All-get_or}
+use Rattle.std.proofs.lemmas.Option.{slice_get_within, slice_get_read, slice_get_past, get_or_from_slice_get}
+use Rattle.vx_election.specs.declared.election.Election.{Election}
+use Rattle.vx_election.specs.Valid.{IsValid}
+use Rattle.vx_code.specs.declared.code.PageCode.{PageCode}
+use Rattle.vx_code.specs.Code.{tag_of}
+use Rattle.vx_styles.specs.Cards.{cards_of, card_at, contests_of_card}
+use Rattle.vx_layout.specs.declared.bubbles.Bubble.{Bubble}
+use Rattle.vx_layout.specs.declared.pages.PagePlan.{PagePlan}
+use Rattle.vx_layout.specs.declared.plan.CardPlan.{CardPlan}
+use Rattle.vx_layout.specs.declared.fault.LayoutFault.{LayoutFault}
+use Rattle.vx_layout.specs.declared.fault.LayoutFault.TheVariants.{NoCard as NoSuchCard}
+use Rattle.vx_layout.specs.Flow.{top, blocks_from}
+use Rattle.vx_layout.specs.Plan.{bubbles_of, on_page, page_plan, page_plans, pages_of, plan_of_card, plan_of}
+use Rattle.vx_layout.proofs.Cards.{contests-there}
+use Rattle.vx_layout.proofs.Clear.{IsStood, stood-page}
+use Rattle.vx_layout.proofs.Faults.{stand-from_none}
+use Rattle.vx_layout.proofs.Laws.{parts-of_plan}
+use Rattle.vx_layout.proofs.LineSizes.{All-always}
+use Rattle.vx_layout.proofs.Placing.{All-placed}
+use Rattle.vx_layout.proofs.Sizes.{sizes-from_valid}
+use Rattle.vx_scan_model.specs.declared.fault.PageFault.{PageFault}
+use Rattle.vx_scan_model.specs.declared.fault.PageFault.TheVariants.{OtherElection, NoCard}
+use Rattle.vx_scan_model.specs.Reading.{page_numbered, ArePlansOf}
+use Rattle.vx_page.specs.Named.{plan_unless, plan_on_card, named_plan, IsOnGrid}
+
+-- all bubbles of a page stand on the grid
+abbrev AreOnGrid : PagePlan → Type 0
+AreOnGrid page = All IsOnGrid page.bubbles
+
+stood-on_grid : (bubble : Bubble) → IsStood bubble → IsOnGrid bubble
+stood-on_grid bubble is = record {
+  column = omega (arith, is.col, is.few);
+  row = omega (arith, is.high);
+}
+
+-- so on every page of a plan
+on-grid : (election : Election) (number : ℕ) (plan : CardPlan) → IsValid election → plan_of election number ≡ Ok plan → All AreOnGrid plan.pages
+on-grid election number plan valid h =
+    let is = parts-of_plan election number plan h in
+    let contests = election.contests in
+    let numbers = contests_of_card election number in
+    let sizes = sizes-from_valid election valid in
+    let blocks = blocks_from contests top numbers in
+    let placed = All-placed contests top numbers (stand-from_none contests numbers sizes (contests-there election number) is.printable) in
+    let pages = pages_of contests numbers in
+    let card = card_at election number in
+    let all : All AreOnGrid (page_plans election card blocks pages) =
+    All-map AreOnGrid (page_plan election card blocks pages) (range_with_len 1 pages)
+    (All-always (λ page. AreOnGrid (page_plan election card blocks pages page)) (range_with_len 1 pages)
+    (λ page. All-weaker IsStood IsOnGrid stood-on_grid (flat_map (bubbles_of contests) (on_page page blocks)) (stood-page election blocks page placed))) in
+    subst (λ (p : CardPlan). All AreOnGrid p.pages) is.is all
+
+-- what a code names, taken apart
+record IsNamed (election : Election) (code : PageCode) (plan : PagePlan) : Type 0 where
+  card : CardPlan
+  card_is : plan_of election code.card ≡ Ok card
+  page_is : page_numbered card code.page ≡ Some plan
+
+unless-some : (number : ℕ) (page : Option PagePlan) (plan : PagePlan) → plan_unless number page ≡ Ok plan → page ≡ Some plan
+unless-some number None plan h = absurd (cc)
+unless-some number (Some found) plan h = cc
+
+named-on_card : (code : PageCode) (card : Result CardPlan LayoutFault) (plan : PagePlan) → plan_on_card code card ≡ Ok plan → (found : CardPlan) × (card ≡ Ok found) × (page_numbered found code.page ≡ Some plan)
+named-on_card code (Err fault) plan h = absurd (cc)
+named-on_card code (Ok card) plan h = (card, refl, unless-some code.page (page_numbered card code.page) plan h)
+
+of-election : (b : Bool) (named : Result PagePlan PageFault) (fault : PageFault) (plan : PagePlan) → cond b named (Err fault) ≡ Ok plan → named ≡ Ok plan
+of-election true named fault plan h = h
+of-election false named fault plan h = absurd (cc)
+
+parts-of_named : (election : Election) (code : PageCode) (plan : PagePlan) → named_plan election code ≡ Ok plan → IsNamed election code plan
+unfolding named_plan
+parts-of_named election code plan h =
+    let on = of-election (code.tag == tag_of election.digest) (plan_on_card code (plan_of election code.card)) (OtherElection code.tag) plan h in
+    let found = named-on_card code (plan_of election code.card) plan on in
+    record { card = found.0; card_is = found.1; page_is = found.2 }
+
+numbered-listed : (P : PagePlan → Type 0) (b : Bool) (pages : List PagePlan) (number : ℕ) (plan : PagePlan) → cond b None (slice_get pages number) ≡ Some plan → All P pages → P plan
+numbered-listed P true pages number plan h all = absurd (cc)
+numbered-listed P false pages number plan h all =
+    subst P (get_or_from_slice_get pages number plan plan h) (All-get_or P pages number plan (slice_get_within pages number plan h) all)
+
+-- the bubbles of the page that a code names
+pub named-on_grid : (election : Election) (code : PageCode) (plan : PagePlan) → IsValid election → named_plan election code ≡ Ok plan → All IsOnGrid plan.bubbles
+named-on_grid election code plan valid h =
+    let is = parts-of_named election code plan h in
+    numbered-listed AreOnGrid (code.page == 0) is.card.pages (code.page - 1) plan is.page_is (on-grid election code.card is.card valid is.card_is)
+
+not-below : (m n : ℕ) → n ≤ m → nat_lt m n ≡ false
+not-below m n h = grind (arith, nat_tests)
+
+same-yes : (m n : ℕ) → m ≡ n → (m == n) ≡ true
+same-yes m n h = grind (arith, nat_tests)
+
+same-no : (m n : ℕ) → (m ≡ n → ⊥) → (m == n) ≡ false
+same-no m n h = grind (arith, nat_tests)
+
+-- a card that the election hasn't
+plan-past_cards : (election : Election) (number : ℕ) → length (cards_of election) ≤ number → plan_of election number ≡ Err (NoSuchCard (length (cards_of election)))
+unfolding plan_of
+plan-past_cards election number past =
+    let none : Result CardPlan LayoutFault = Err (NoSuchCard (length (cards_of election))) in
+    ap (λ (b : Bool). cond b (plan_of_card election number) none) (not-below number (length (cards_of election)) past)
+
+-- a code of another election
+pub named-other : (election : Election) (code : PageCode) → (code.tag ≡ tag_of election.digest → ⊥) → named_plan election code ≡ Err (OtherElection code.tag)
+unfolding named_plan
+named-other election code h =
+    let other : Result PagePlan PageFault = Err (OtherElection code.tag) in
+    ap (λ (b : Bool). cond b (plan_on_card code (plan_of election code.card)) other) (same-no code.tag (tag_of election.digest) h)
+
+-- a code of this election
+named-here : (election : Election) (code : PageCode) → code.tag ≡ tag_of election.digest → named_plan election code ≡ plan_on_card code (plan_of election code.card)
+unfolding named_plan
+named-here election code h =
+    let other : Result PagePlan PageFault = Err (OtherElection code.tag) in
+    ap (λ (b : Bool). cond b (plan_on_card code (plan_of election code.card)) other) (same-yes code.tag (tag_of election.digest) h)
+
+-- a code of a card that isn't there
+pub named-no_card : (election : Election) (plans : List CardPlan) (code : PageCode) → ArePlansOf election plans → code.tag ≡ tag_of election.digest → length plans ≤ code.card → named_plan election code ≡ Err (NoCard code.card)
+named-no_card election plans code are h past =
+    named-here election code h ∙ ap (plan_on_card code) (plan-past_cards election code.card (omega (arith, are.all)))
+
+-- a code of a card that is there
+pub named-on_card_plan : (election : Election) (plans : List CardPlan) (code : PageCode) (card : CardPlan) → ArePlansOf election plans → code.tag ≡ tag_of election.digest → code.card < length plans → card ≡ get_or plans code.card card → named_plan election code ≡ plan_unless code.page (page_numbered card code.page)
+named-on_card_plan election plans code card are h there is =
+    let planned : plan_of election code.card ≡ Ok card = are.each code.card card there ∙ ap Ok (sym is) in
+    named-here election code h ∙ ap (plan_on_card code) planned
+
+-- the page with a number, of those that are listed
+pub numbered-zero : (card : CardPlan) (number : ℕ) → number ≡ 0 → page_numbered card number ≡ None
+numbered-zero card number h =
+    let found : Option PagePlan = slice_get card.pages (number - 1) in
+    ap (λ (b : Bool). cond b None found) (same-yes number 0 h)
+
+numbered-other : (card : CardPlan) (number : ℕ) → (number ≡ 0 → ⊥) → page_numbered card number ≡ slice_get card.pages (number - 1)
+numbered-other card number h =
+    let found : Option PagePlan = slice_get card.pages (number - 1) in
+    ap (λ (b : Bool). cond b None found) (same-no number 0 h)
+
+pub numbered-past : (card : CardPlan) (number : ℕ) → (number ≡ 0 → ⊥) → length card.pages ≤ number - 1 → page_numbered card number ≡ None
+numbered-past card number h past = numbered-other card number h ∙ slice_get_past card.pages (number - 1) past
+
+pub numbered-there : (card : CardPlan) (number : ℕ) (plan : PagePlan) → (number ≡ 0 → ⊥) → number - 1 < length card.pages → plan ≡ get_or card.pages (number - 1) plan → page_numbered card number ≡ Some plan
+numbered-there card number plan h there is =
+    numbered-other card number h ∙ slice_get_read card.pages (length card.pages) (number - 1) plan refl there is
