@@ -108,7 +108,7 @@ static int deficit(const struct scan *scan, int u, int v, int most) {
 static int max(int a, int b) { return a > b ? a : b; }
 static int min(int a, int b) { return a < b ? a : b; }
 
-/* The first accepted place of the corner's region along its falling diagonals. */
+/* The accepted place of the corner's region with the least u + v, then the least v. */
 static int find_corner(const struct scan *scan, struct point *corner) {
     for (int sum = 26 + 14; sum <= 116 + 104; sum++)
         for (int v = max(14, sum - 116); v <= min(104, sum - 26); v++)
