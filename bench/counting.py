@@ -5,7 +5,7 @@ import subprocess
 import time
 
 HERE = os.path.dirname(os.path.abspath(__file__))
-RUNS = 3
+RUNS = 5
 
 # callgrind counts a repeated string instruction once for each byte, so the C library is told not to
 # use them.
@@ -59,13 +59,16 @@ def seconds(command):
     return least
 
 
-def compare(name, few, many, pages, room):
-    """Prints what a page more takes for two programs, VX first, and the ratio of the instructions.
+def compare(name, runs, room):
+    """Prints what a page takes in two programs, VX first, and the ratio of the instructions.
 
-    `few` and `many` have a command for each of the two; `many` does so many `pages` more.
+    `runs` has two pairs of a number of pages and a command for each program, the fewer pages first.
+    The instructions are those of the pages that the second has more; the time is that of the second
+    run, its start included.
     """
-    counts = [(instructions(b, room) - instructions(a, room)) / pages for a, b in zip(few, many)]
-    times = [(seconds(b) - seconds(a)) / pages for a, b in zip(few, many)]
-    for who, count, took in zip((name, "plain C"), counts, times):
-        print("%s: %d instructions and %.2f ms a page" % (who, count, 1000 * took))
+    (few, short), (many, long) = runs
+    counts = []
+    for who, first, second in zip((name, "plain C"), short, long):
+        counts.append((instructions(second, room) - instructions(first, room)) / (many - few))
+        print("%s: %d instructions a page, %.0f pages a second" % (who, counts[-1], many / seconds(second)))
     print("%.2f times the instructions" % (counts[0] / counts[1]))
