@@ -1,0 +1,74 @@
+"""What the measurements share: programs of this folder compiled, instructions and seconds counted."""
+
+import os
+import subprocess
+import time
+
+HERE = os.path.dirname(os.path.abspath(__file__))
+RUNS = 5
+
+# callgrind counts a repeated string instruction once for each byte, so the C library is told not to
+# use them.
+WITHOUT_REPEATS = "glibc.cpu.x86_rep_stosb_threshold=1073741824:glibc.cpu.x86_rep_movsb_threshold=1073741824"
+
+
+def compiled(source, room):
+    """The path of a C program of this folder, compiled into a room."""
+    program = os.path.join(room, source[: -len(".c")])
+    compiler = os.environ.get("CC", "cc")
+    subprocess.run([compiler, "-std=c11", "-O2", "-Wall", "-o", program, os.path.join(HERE, source)], check=True)
+    return program
+
+
+def page_election(room, pages):
+    """The path of the election whose first card has so many pages of 60 bubbles."""
+    path = os.path.join(room, "pages-%d.json" % pages)
+    subprocess.run([os.path.join(HERE, "page_election"), path, str(pages)], check=True)
+    return path
+
+
+def output(command):
+    """What a command writes."""
+    return subprocess.run(command, check=True, stdout=subprocess.PIPE).stdout
+
+
+def instructions(command, room):
+    """How many instructions a command takes, its output thrown away."""
+    counts = os.path.join(room, "counts")
+    subprocess.run(
+        ["valgrind", "--tool=callgrind", "--callgrind-out-file=" + counts] + command,
+        check=True,
+        stdout=subprocess.DEVNULL,
+        stderr=subprocess.DEVNULL,
+        env=dict(os.environ, GLIBC_TUNABLES=WITHOUT_REPEATS),
+    )
+    with open(counts) as lines:
+        for line in lines:
+            if line.startswith("totals:"):
+                return int(line.split()[1])
+    raise SystemExit("callgrind counts nothing: is %s the built program itself?" % command[0])
+
+
+def seconds(command):
+    """The least time of some runs by the wall clock, output thrown away."""
+    least = float("inf")
+    for _ in range(RUNS):
+        start = time.monotonic()
+        subprocess.run(command, check=True, stdout=subprocess.DEVNULL)
+        least = min(least, time.monotonic() - start)
+    return least
+
+
+def compare(name, runs, room):
+    """Prints what a page takes in two programs, VX first, and the ratio of the instructions.
+
+    `runs` has two pairs of a number of pages and a command for each program, the fewer pages first.
+    The instructions are those of the pages that the second has more; the time is that of the second
+    run, its start included.
+    """
+    (few, short), (many, long) = runs
+    counts = []
+    for who, first, second in zip((name, "plain C"), short, long):
+        counts.append((instructions(second, room) - instructions(first, room)) / (many - few))
+        print("%s: %d instructions a page, %.0f pages a second" % (who, counts[-1], many / seconds(second)))
+    print("%.2f times the instructions" % (counts[0] / counts[1]))
