@@ -1,6 +1,6 @@
 -- The border of a scan, as a function of its page: the corner, the best place near a predicted one
 -- and the list that is followed from mark to mark. This project's own rule.
-use Rattle.std.specs.Prelude.{ℕ, zero, suc, ◌*◌, ◌/◌, ◌%◌, ◌==◌, ◌&&◌, ◌++◌, ◌∷◌, [], Bool, nat_le, if◌then◌else◌, List, find, Option, Some, None, option_map, Result, Ok, Err, pos, ◌+ℤ◌, ◌-ℤ◌, int_le, int_lt}
+use Rattle.std.specs.Prelude.{ℕ, zero, suc, ◌*◌, ◌/◌, ◌%◌, ◌==◌, ◌&&◌, ◌++◌, ◌∷◌, [], Bool, nat_le, if◌then◌else◌, List, find, Option, Some, None, option_map, Result, Ok, Err, ℤ, pos, ◌+ℤ◌, ◌-ℤ◌, int_le, int_lt}
 use Rattle.std.specs.List.{range_with_len}
 use Rattle.vx_plane.specs.Plane.{Page}
 use Rattle.vx_grid.specs.declared.places.Point.{Point}
@@ -30,9 +30,13 @@ abbrev pub may_be_corner : Page → ℕ → Bool
 may_be_corner page n =
     (is_between (pos 26) (pos 116) (corner_place n).u && is_between (pos 14) (pos 104) (corner_place n).v) && is_accepted page (corner_place n)
 
+-- the places of the region of corners have numbers below this
+unfoldable pub corner_numbers : ℕ
+corner_numbers = 221 * 128
+
 -- the corner of a scan: the first such place
 unfoldable pub corner_of : Page → Option Point
-corner_of page = option_map corner_place (find (may_be_corner page) (range_with_len 0 (221 * 128)))
+corner_of page = option_map corner_place (find (may_be_corner page) (range_with_len 0 corner_numbers))
 
 -- the places near a predicted one, in the order of a deficit, then by the row, then by the column
 abbrev pub near_place : Point → ℕ → Point
@@ -45,9 +49,13 @@ abbrev pub may_be_best : Page → Point → ℕ → Bool
 may_be_best page predicted n =
     (nat_le (n % 32) 20 && nat_le (n / 32 % 32) 12) && (is_accepted page (near_place predicted n) && deficit_of page (near_place predicted n) == n / 1024)
 
+-- the accepted places near a predicted one have numbers below this
+unfoldable pub near_numbers : ℕ
+near_numbers = 21 * 1024
+
 -- the best place near a predicted one: the first such place
 unfoldable pub best_of : Page → Point → Option Point
-best_of page predicted = option_map (near_place predicted) (find (may_be_best page predicted) (range_with_len 0 (21 * 1024)))
+best_of page predicted = option_map (near_place predicted) (find (may_be_best page predicted) (range_with_len 0 near_numbers))
 
 -- where mark n is found, from the places of the marks before it
 abbrev pub found_of : Page → List Point → ℕ → Option Point
@@ -68,7 +76,7 @@ with_mark page n (Err fault) = Err fault
 with_mark page n (Ok places) = with_found places (lack_of places n) (found_of page places n)
 
 -- the places of the first n marks, or the fault of the first that isn't found
-abbrev pub marks_of : Page → ℕ → Result (List Point) BorderFault
+unfoldable pub marks_of : Page → ℕ → Result (List Point) BorderFault
 marks_of page zero = Ok []
 marks_of page (suc n) = with_mark page n (marks_of page n)
 

@@ -8,9 +8,11 @@
 #![tactic(auto)]
 
 mod fault;
+mod laws;
 mod reading;
 mod scores;
 
 pub use fault::PageFault;
+pub use laws::{a_border_is_the_border, every_scan_has_its_border};
 pub use reading::PageReading;
 pub use scores::Scores;
