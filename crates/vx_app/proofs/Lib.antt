@@ -1,5 +1,5 @@
 pub mod Numerals
 pub mod Commands
-pub mod Shapes
+pub mod PageTexts
 pub mod Acts
 pub mod Prints

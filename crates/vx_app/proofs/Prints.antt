@@ -1,39 +1,83 @@
--- Laws of the outcome of `print`.
-use Rattle.std.proofs.Common.{◌≡◌, ℕ, Bool, true, false, List, [], length, Option, Some, None, Result, Ok, Err, refl, ap, get_or}
+-- Laws of outcomes: what a command does that goes on or stops, and that words have one outcome.
+use Rattle.std.proofs.Common.{◌≡◌, ◌≢◌, ℕ, Bool, true, false, List, [], ◌∷◌, map, Option, Some, None, Result, Ok, Err, IfSome, refl, sym, ap, subst, ◌∙◌, get_or}
 use Rattle.std.specs.List.{flat_map}
-use Rattle.std.specs.Prelude.{nat_lt, if◌then◌else◌}
+use Rattle.vx_grid.specs.declared.kind.Kind.{Kind}
 use Rattle.vx_election.specs.declared.election.Election.{Election}
-use Rattle.vx_election.specs.declared.fault.ElectionFault.{ElectionFault}
-use Rattle.vx_election.specs.Reading.{election_of}
-use Rattle.vx_styles.specs.Cards.{cards_of}
+use Rattle.vx_layout.specs.declared.pages.PagePlan.{PagePlan}
+use Rattle.vx_layout.specs.declared.plan.CardPlan.{CardPlan}
+use Rattle.vx_layout.specs.declared.fault.LayoutFault.{LayoutFault}
+use Rattle.vx_layout.specs.declared.fault.LayoutFault.TheVariants.{ContestTooTall, TextTooLong, TooManyPages, NoCard, OutOfMemory}
+use Rattle.vx_layout.specs.Plan.{plan_of, Answers}
 use Rattle.vx_io.specs.Outside.{Files}
+use Rattle.vx_io.proofs.Laws.{Took-nil, TookFront-nil}
 use Rattle.vx_app.specs.declared.command.Command.{Command}
 use Rattle.vx_app.specs.declared.command.Command.TheVariants.{Print}
-use Rattle.vx_app.specs.Command.{Spells}
-use Rattle.vx_app.proofs.Commands.{same_card}
-use Rattle.vx_app.specs.Outcome.{Outcome, outcome_of, records_of, card_outcome, pages_outcome, print_outcome, input_limit}
+use Rattle.vx_app.specs.declared.status.Status.{Status}
+use Rattle.vx_app.specs.declared.status.Status.TheVariants.{Layout, NoMemory}
+use Rattle.vx_app.specs.Command.{Spells, SpellsPrint}
+use Rattle.vx_app.specs.Outcome.{Outcome, outcome_of, records_of, stopped, goes_on, election_in, page_act, card_outcome, print_outcome, breaks_off}
+use Rattle.vx_app.specs.Stop.{layout_status_of}
+use Rattle.vx_app.specs.Print.{Gives, IsWritten}
+use Rattle.vx_app.proofs.Commands.{same_card, same_kind}
 
-choice_appends_nothing : (test : Bool) (a b : Outcome) → flat_map records_of a.acts ≡ [] → flat_map records_of b.acts ≡ [] → flat_map records_of (if test then a else b).acts ≡ []
-choice_appends_nothing true a b left right = left
-choice_appends_nothing false a b left right = right
+-- a command that stops here, and has written nothing
+pub stops : (outcome : Outcome) (taken : Option (List ℕ)) (status : Status) → (breaks_off status ≡ false → outcome ≡ stopped status) → IsWritten outcome taken taken status
+stops outcome taken status is = record {
+  front = TookFront-nil taken _;
+  whole = λ ended. rw (is ended) (Took-nil taken);
+  same_status = λ ended. sym (ap (λ (o : Outcome). o.status) (is ended));
+}
 
-card_appends_nothing : (card cards : ℕ) → flat_map records_of (card_outcome card cards).acts ≡ []
-card_appends_nothing card cards = choice_appends_nothing (nat_lt card cards) _ _ refl refl
+module _ {A : Type 0} (step : Option (List ℕ) → Result A Status) (rest : A → Outcome) where
+  -- a command that goes on with what a step gave
+  pub goes_on-ok : (told : Option Files) (name : List ℕ) (given : A) (taken now : Option (List ℕ)) (status : Status) → IfSome told (λ files. Gives (Ok given) (step (files name))) → IsWritten (rest given) taken now status → IfSome told (λ files. IsWritten (goes_on (step (files name)) rest) taken now status)
+  goes_on-ok None name given taken now status is written = tt
+  goes_on-ok (Some files) name given taken now status is written =
+      let Written : Result A Status → Type 0 = λ s. IsWritten (goes_on s rest) taken now status in
+      subst Written (sym is) written
 
-pages_append_nothing : (card : ℕ) (read : Result Election ElectionFault) → flat_map records_of (pages_outcome card read).acts ≡ []
-pages_append_nothing card (Ok election) = card_appends_nothing card (length (cards_of election))
-pages_append_nothing card (Err fault) = refl
+  -- one that stops where a step gave nothing
+  pub goes_on-err : (told : Option Files) (name : List ℕ) (taken : Option (List ℕ)) (status : Status) → IfSome told (λ files. Gives {A = A} (Err status) (step (files name))) → IfSome told (λ files. IsWritten (goes_on (step (files name)) rest) taken taken status)
+  goes_on-err None name taken status is = tt
+  goes_on-err (Some files) name taken status is =
+      stops _ taken status (λ ended. ap (λ (s : Result A Status). goes_on s rest) (is ended))
 
--- `print` appends no record
-pub print_appends_nothing : (card : ℕ) (file : Option (List ℕ)) → flat_map records_of (print_outcome card file).acts ≡ []
-print_appends_nothing card None = refl
-print_appends_nothing card (Some bytes) = choice_appends_nothing (nat_lt input_limit (length bytes)) _ _ refl (pages_append_nothing card (election_of bytes))
+-- `print` of a card that can't be laid out
+pub refused_card : (election : Election) (kind : Kind) (test : Bool) (card : ℕ) (fault : LayoutFault) (plan : Result CardPlan LayoutFault) (taken : Option (List ℕ)) → Answers {A = CardPlan} (Err fault) plan → IsWritten (card_outcome election kind test card plan) taken taken (layout_status_of card fault)
+refused_card election kind test card (ContestTooTall id rows) plan taken is = stops _ taken _ (λ ended. ap (card_outcome election kind test card) is)
+refused_card election kind test card (TextTooLong id size) plan taken is = stops _ taken _ (λ ended. ap (card_outcome election kind test card) is)
+refused_card election kind test card (TooManyPages count) plan taken is = stops _ taken _ (λ ended. ap (card_outcome election kind test card) is)
+refused_card election kind test card (NoCard cards) plan taken is = stops _ taken _ (λ ended. ap (card_outcome election kind test card) is)
+refused_card election kind test card OutOfMemory plan taken is = stops _ taken NoMemory (λ ended. cc)
+
+pages_append_nothing : (election : Election) (kind : Kind) (test : Bool) (card : ℕ) (pages : List PagePlan) → flat_map records_of (map (page_act election kind test card) pages) ≡ []
+pages_append_nothing election kind test card [] = refl
+pages_append_nothing election kind test card (page ∷ pages) = pages_append_nothing election kind test card pages
+
+card_appends_nothing : (election : Election) (kind : Kind) (test : Bool) (card : ℕ) (plan : Result CardPlan LayoutFault) → flat_map records_of (card_outcome election kind test card plan).acts ≡ []
+card_appends_nothing election kind test card (Ok plan) = pages_append_nothing election kind test card plan.pages
+card_appends_nothing election kind test card (Err fault) = refl
+
+-- a command that appends nothing, whatever it goes on with
+goes_on-appends_nothing : {A : Type 0} (step : Result A Status) (rest : A → Outcome) → ((given : A) → flat_map records_of (rest given).acts ≡ []) → flat_map records_of (goes_on step rest).acts ≡ []
+goes_on-appends_nothing (Ok given) rest none = none given
+goes_on-appends_nothing (Err status) rest none = refl
+
+-- no command appends a record
+pub command_appends_nothing : (command : Command) (words : List (List ℕ)) (files : Files) (records : List (List ℕ)) → flat_map records_of (outcome_of command words files records).acts ≡ []
+command_appends_nothing (Print card kind test) words files records =
+    goes_on-appends_nothing (election_in (files (get_or words 1 []))) _
+    (λ election. card_appends_nothing election kind test card (plan_of election card))
+
+same_print : (file : Option (List ℕ)) (m n : ℕ) (kind other : Kind) (test again : Bool) → m ≡ n → kind ≡ other → test ≡ again → print_outcome kind test m file ≡ print_outcome other again n file
+same_print file m n kind other test again p q r =
+    ap (λ (k : ℕ). print_outcome kind test k file) p
+    ∙ ap (λ (k : Kind). print_outcome k test n file) q
+    ∙ ap (λ (t : Bool). print_outcome other t n file) r
 
 -- words have one outcome, whichever command they are read as; it doesn't depend on the records
 pub same_outcome : (a b : Command) (words : List (List ℕ)) (files : Files) (records others : List (List ℕ)) → Spells words a → Spells words b → outcome_of a words files records ≡ outcome_of b words files others
 same_outcome (Print m kind test) (Print n other again) words files records others first second =
-    ap (λ card. print_outcome card (files (get_or words 1 []))) (same_card words m n kind other test again first second)
-
--- no command appends a record
-pub command_appends_nothing : (command : Command) (words : List (List ℕ)) (files : Files) (records : List (List ℕ)) → flat_map records_of (outcome_of command words files records).acts ≡ []
-command_appends_nothing (Print card kind test) words files records = print_appends_nothing card (files (get_or words 1 []))
+    same_print (files (get_or words 1 [])) m n kind other test again
+    (same_card words m n kind other test again first second)
+    (same_kind words m n kind other test again first second).0 (same_kind words m n kind other test again first second).1

@@ -1,17 +1,19 @@
 -- What a command does to the outside, as a whole: its acts in order, and its status.
-use Rattle.std.specs.Prelude.{◌≡◌, ◌≤◌, ◌⊎◌, ◌+◌, ℕ, Bool, true, false, nat_lt, if◌then◌else◌, List, [], ◌∷◌, ◌++◌, length, take, drop, Option, None, Some, Result, Ok, Err, MatchOption, slice_index_or}
+use Rattle.std.specs.Prelude.{◌≡◌, ◌≤◌, ◌⊎◌, ◌+◌, ℕ, Bool, true, false, nat_lt, if◌then◌else◌, List, [], ◌∷◌, ◌++◌, length, map, take, drop, Option, None, Some, Result, Ok, Err, MatchOption, slice_index_or}
 use Rattle.std.specs.List.{flat_map}
-use Rattle.vx_plane.specs.Plane.{Page, page_of}
-use Rattle.vx_grid.specs.Marks.{timing_marks}
-use Rattle.vx_pbm.specs.Raw.{p4_of}
+use Rattle.vx_grid.specs.declared.kind.Kind.{Kind}
 use Rattle.vx_election.specs.declared.election.Election.{Election}
 use Rattle.vx_election.specs.declared.fault.ElectionFault.{ElectionFault}
 use Rattle.vx_election.specs.Reading.{election_of}
-use Rattle.vx_styles.specs.Cards.{cards_of}
+use Rattle.vx_layout.specs.declared.pages.PagePlan.{PagePlan}
+use Rattle.vx_layout.specs.declared.plan.CardPlan.{CardPlan}
+use Rattle.vx_layout.specs.declared.fault.LayoutFault.{LayoutFault}
+use Rattle.vx_layout.specs.Plan.{plan_of}
+use Rattle.vx_scan_model.specs.Printed.{PrintedPage, bitmap_of}
+use Rattle.vx_pbm.specs.Raw.{p4_of}
 use Rattle.vx_io.specs.Outside.{Files, IsPrefix, Took}
 use Rattle.vx_app.specs.declared.command.Command.{Command}
 use Rattle.vx_app.specs.declared.command.Command.TheVariants.{Print}
-use Rattle.vx_app.specs.declared.status.LayoutFault.TheVariants.{NoCard}
 use Rattle.vx_app.specs.declared.status.Status.{Status}
 use Rattle.vx_app.specs.declared.status.Status.TheVariants as answer
 
@@ -43,31 +45,51 @@ input_limit = 67108864
 abbrev pub stopped : Status → Outcome
 stopped status = record { acts = []; status = status }
 
--- the page that is printed: the timing marks alone
-unfoldable pub mark_page : Page
-mark_page = page_of 1700 2200 timing_marks
+-- a command that goes on with what it was given, or stops where it wasn't given it
+abbrev pub goes_on : {A : Type 0} → Result A Status → (A → Outcome) → Outcome
+goes_on (Err status) rest = stopped status
+goes_on (Ok given) rest = rest given
 
--- `print` of a card of an election with so many: both pages are written
-abbrev pub card_outcome : ℕ → ℕ → Outcome
-card_outcome card cards =
-    if nat_lt card cards then record { acts = Write (p4_of mark_page) ∷ Write (p4_of mark_page) ∷ []; status = answer.Ok }
-    else stopped (answer.Layout card (NoCard cards))
+-- the bytes of the input that a word names, or the status of a command that needs them
+abbrev pub input_of : ℕ → Option (List ℕ) → Result (List ℕ) Status
+input_of word None = Err (answer.NoInput word)
+input_of word (Some bytes) = if nat_lt input_limit (length bytes) then Err (answer.TooLong word (length bytes)) else Ok bytes
 
--- `print` of a card, by what the election's bytes define
-abbrev pub pages_outcome : ℕ → Result Election ElectionFault → Outcome
-pages_outcome card (Err fault) = stopped (answer.Election fault)
-pages_outcome card (Ok election) = card_outcome card (length (cards_of election))
+-- the election that was read, or the status of a command that needs it
+abbrev pub election_read : Result Election ElectionFault → Result Election Status
+election_read (Err fault) = Err (answer.Election fault)
+election_read (Ok election) = Ok election
+
+-- the election that bytes define, where there are bytes
+abbrev pub election_from : Result (List ℕ) Status → Result Election Status
+election_from (Err status) = Err status
+election_from (Ok bytes) = election_read (election_of bytes)
+
+-- the election of an input, which a command names in word 1, or the status of one that needs it
+abbrev pub election_in : Option (List ℕ) → Result Election Status
+election_in file = election_from (input_of 1 file)
+
+-- a page of a card's plan as it is printed
+abbrev pub printed_page : Kind → Bool → ℕ → PagePlan → PrintedPage
+printed_page kind test card plan = record { card = card; page = plan.page; kind = kind; test = test }
+
+-- a page is printed: its raw bitmap is written
+abbrev pub page_act : Election → Kind → Bool → ℕ → PagePlan → Act
+page_act election kind test card plan = Write (p4_of (bitmap_of election plan (printed_page kind test card plan)))
+
+-- `print` of a card of an election, by its plan: a page after the other
+abbrev pub card_outcome : Election → Kind → Bool → ℕ → Result CardPlan LayoutFault → Outcome
+card_outcome election kind test card (Err fault) = stopped (answer.Layout card fault)
+card_outcome election kind test card (Ok plan) = record { acts = map (page_act election kind test card) plan.pages; status = answer.Ok }
 
 -- `print` of a card, by what stands under the election's name
-abbrev pub print_outcome : ℕ → Option (List ℕ) → Outcome
-print_outcome card None = stopped (answer.NoInput 1)
-print_outcome card (Some bytes) =
-    if nat_lt input_limit (length bytes) then stopped (answer.TooLong 1 (length bytes))
-    else pages_outcome card (election_of bytes)
+abbrev pub print_outcome : Kind → Bool → ℕ → Option (List ℕ) → Outcome
+print_outcome kind test card file =
+    goes_on (election_in file) (λ election. card_outcome election kind test card (plan_of election card))
 
 -- what a command does, by its words, the files and the records of the journal
 abbrev pub outcome_of : Command → List (List ℕ) → Files → List (List ℕ) → Outcome
-outcome_of (Print card kind test) words files records = print_outcome card (files (slice_index_or words 1 []))
+outcome_of (Print card kind test) words files records = print_outcome kind test card (files (slice_index_or words 1 []))
 
 -- the sink has taken the texts of the first acts and a front of the next one's
 pub record WroteUpTo (place : ℕ) (acts : List Act) (old new : Option (List ℕ)) : Type 0 where
@@ -83,27 +105,17 @@ KeptUpTo place acts old new =
 
 -- a command that answers so may have broken off anywhere
 abbrev pub breaks_off : Status → Bool
-breaks_off answer.Ok = false
-breaks_off answer.Usage = false
-breaks_off (answer.NoInput word) = false
-breaks_off (answer.TooLong word size) = false
-breaks_off (answer.Election fault) = false
-breaks_off (answer.Layout card fault) = false
 breaks_off answer.ReadFault = true
 breaks_off answer.WriteFault = true
 breaks_off answer.NoMemory = true
+breaks_off status = false
 
 -- a command that answers so has written nothing
 abbrev pub writes_nothing : Status → Bool
 writes_nothing answer.Ok = false
-writes_nothing answer.Usage = true
-writes_nothing (answer.NoInput word) = true
-writes_nothing (answer.TooLong word size) = true
-writes_nothing (answer.Election fault) = true
-writes_nothing (answer.Layout card fault) = true
-writes_nothing answer.ReadFault = true
 writes_nothing answer.WriteFault = false
 writes_nothing answer.NoMemory = false
+writes_nothing status = true
 
 -- the acts are done up to some place; all of them, with the outcome's status, unless the command
 -- broke off

@@ -2,8 +2,7 @@
 use Rattle.std.specs.Prelude.{ℕ, List, ◌++◌, ◌∷◌, codes}
 use Rattle.std.specs.Fmt.{decimal}
 use Rattle.vx_election.specs.FaultTexts.{text_of}
-use Rattle.vx_app.specs.declared.status.LayoutFault.{LayoutFault}
-use Rattle.vx_app.specs.declared.status.LayoutFault.TheVariants.{NoCard}
+use Rattle.vx_layout.specs.FaultTexts.{layout_fault_text}
 use Rattle.vx_app.specs.declared.status.Status.{Status}
 use Rattle.vx_app.specs.declared.status.Status.TheVariants.{Ok, Usage, NoInput, TooLong, Election, Layout, ReadFault, WriteFault, NoMemory}
 
@@ -19,10 +18,6 @@ number_of ReadFault = 10
 number_of WriteFault = 11
 number_of NoMemory = 13
 
--- a fault of a layout: its number and its values
-abbrev pub layout_text_of : LayoutFault → List ℕ
-layout_text_of (NoCard cards) = codes "4 " ++ decimal cards
-
 -- what the program says on standard error after its name
 abbrev pub line_of : Status → List ℕ
 line_of Ok = codes "ok"
@@ -30,7 +25,7 @@ line_of Usage = codes "usage"
 line_of (NoInput word) = codes "no input " ++ decimal word
 line_of (TooLong word size) = codes "too long " ++ decimal word ++ 32 ∷ decimal size
 line_of (Election fault) = codes "election " ++ text_of fault
-line_of (Layout card fault) = codes "layout " ++ decimal card ++ 32 ∷ layout_text_of fault
+line_of (Layout card fault) = codes "layout " ++ decimal card ++ 32 ∷ layout_fault_text fault
 line_of ReadFault = codes "read fault"
 line_of WriteFault = codes "write fault"
 line_of NoMemory = codes "no memory"

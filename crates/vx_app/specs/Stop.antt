@@ -1,4 +1,4 @@
--- Why a text wasn't written whole.
+-- Why a command stops: the status of each cause.
 use Rattle.std.specs.Prelude.{◌≡◌, ℕ}
 use Rattle.vx_io.specs.Outside.{Rose}
 use Rattle.vx_app.specs.declared.pages.Stop.{Stop}
@@ -7,6 +7,8 @@ use Rattle.vx_io.specs.declared.taking.TakeFault.{TakeFault}
 use Rattle.vx_io.specs.declared.taking.TakeFault.TheVariants as take
 use Rattle.vx_election.specs.declared.fault.ElectionFault.{ElectionFault}
 use Rattle.vx_election.specs.declared.fault.ElectionFault.TheVariants as refused
+use Rattle.vx_layout.specs.declared.fault.LayoutFault.{LayoutFault}
+use Rattle.vx_layout.specs.declared.fault.LayoutFault.TheVariants as layout
 use Rattle.vx_app.specs.declared.status.Status.{Status}
 use Rattle.vx_app.specs.declared.status.Status.TheVariants as answer
 
@@ -28,13 +30,10 @@ taking_status_of word take.OutOfMemory = answer.NoMemory
 
 -- the status of an election definition that is refused
 abbrev pub refusal_status_of : ElectionFault → Status
-refusal_status_of refused.NotJson = answer.Election refused.NotJson
-refusal_status_of (refused.Missing path) = answer.Election (refused.Missing path)
-refusal_status_of (refused.WrongKind path) = answer.Election (refused.WrongKind path)
-refusal_status_of (refused.OutOfRange path) = answer.Election (refused.OutOfRange path)
-refusal_status_of (refused.RepeatedId path id) = answer.Election (refused.RepeatedId path id)
-refusal_status_of (refused.UnknownId path id) = answer.Election (refused.UnknownId path id)
-refusal_status_of (refused.BadThresholds marg def) = answer.Election (refused.BadThresholds marg def)
-refusal_status_of (refused.TooMany path count) = answer.Election (refused.TooMany path count)
-refusal_status_of (refused.TooManyCards count) = answer.Election (refused.TooManyCards count)
 refusal_status_of refused.OutOfMemory = answer.NoMemory
+refusal_status_of fault = answer.Election fault
+
+-- the status of a card that can't be laid out
+abbrev pub layout_status_of : ℕ → LayoutFault → Status
+layout_status_of card layout.OutOfMemory = answer.NoMemory
+layout_status_of card fault = answer.Layout card fault

@@ -1,117 +1,73 @@
-ghost use Rattle.std.specs.Prelude.{◌≡◌, ◌≢◌, true, ◌≤◌, ◌++◌, length, OnOk, OnErr, IfErr, IfSome};
-ghost use Rattle.vx_election.specs.Reading.{election_of};
+ghost use Rattle.std.specs.Prelude.{◌≡◌, ◌≢◌, true, ◌≤◌, Ok, IfSome};
 ghost use Rattle.vx_election.specs.Valid.{IsValid};
-ghost use Rattle.vx_styles.specs.Cards.{cards_of};
-ghost use Rattle.vx_io.specs.Outside.{Rose, Took, TookFront};
-ghost use Rattle.vx_pbm.specs.Raw.{p4_of};
-ghost use Rattle.vx_app.specs.Outcome.{mark_page, card_outcome, pages_outcome, print_outcome, writes_nothing};
-ghost use Rattle.vx_app.specs.Stop.{HasStopCause, refusal_status_of, stop_status_of, taking_status_of};
+ghost use Rattle.vx_layout.specs.Plan.{plan_of};
+ghost use Rattle.vx_io.specs.Outside.{Rose};
+ghost use Rattle.vx_app.specs.Outcome.{card_outcome, print_outcome, writes_nothing};
 ghost use Rattle.vx_app.specs.Print.{IsWritten};
 
-use crate::marks::make_mark_page;
-use crate::pages::{Stop, write_page};
-use crate::status::{LayoutFault, Status};
+use crate::causes::{layout_status, stop_status};
+use crate::pages::{Ballot, print_pages};
+use crate::status::Status;
+use crate::taking::take_election;
 use std::alloc::Global;
-use vx_election::{Election, ElectionFault, read_election};
-use vx_io::{Inputs, Sink, TakeFault, take};
-use vx_styles::cards;
+use vx_election::Election;
+use vx_io::{Inputs, Sink};
+use vx_layout::{CardPlan, plan_card};
 
-/// The most bytes that an input may have.
-const INPUT_LIMIT: u64 = 67_108_864;
-
-/// Writes both pages of a card: the timing marks alone.
-fn write_pages<S: Sink>(alloc: Global, out: &mut S) -> Result<(), Stop>
-    ensures written { OnOk result (Took (S.taken out.old) (S.taken out.new) (p4_of mark_page ++ p4_of mark_page)) }
-    ensures front { OnErr result (TookFront (S.taken out.old) (S.taken out.new) (p4_of mark_page ++ p4_of mark_page)) }
-    ensures later { S.faults out.old ≤ S.faults out.new }
-    ensures cause { IfErr result (HasStopCause (S.faults out.old) (S.faults out.new)) }
-{
-    let page = make_mark_page(alloc)?;
-    write_page(alloc, &page, out)?; // the front
-    write_page(alloc, &page, out)?; // the back
-    Ok(())
-}
-
-/// The status of an input that wasn't taken.
-fn taking_status(word: u32, fault: TakeFault) -> Status
-    ensures { result ≡ taking_status_of word fault }
-{
-    match fault {
-        TakeFault::Failed => Status::ReadFault,
-        TakeFault::NoInput => Status::NoInput(word),
-        TakeFault::TooLong(size) => Status::TooLong(word, size),
-        TakeFault::OutOfMemory => Status::NoMemory,
-    }
-}
-
-/// The status of a text that wasn't written whole.
-fn stop_status(stop: Stop) -> Status
-    ensures { result ≡ stop_status_of stop }
-{
-    match stop {
-        Stop::WriteFault => Status::WriteFault,
-        Stop::NoMemory => Status::NoMemory,
-    }
-}
-
-/// The status of an election definition that is refused.
-fn refusal_status(fault: ElectionFault) -> Status
-    ensures { result ≡ refusal_status_of fault }
-{
-    match fault {
-        ElectionFault::OutOfMemory => Status::NoMemory,
-        fault => Status::Election(fault),
-    }
-}
-
-/// Writes the pages of a card of the election.
-fn print_card<S: Sink>(alloc: Global, election: &Election, card: u32, out: &mut S) -> Status
-    requires { IsValid election.now }
-    ensures written { IsWritten (card_outcome card (length (cards_of election.now))) (S.taken out.old) (S.taken out.new) result }
+/// Prints the pages of a planned card.
+fn print_plan<S: Sink>(
+    alloc: Global,
+    election: &Election,
+    ballot: Ballot,
+    plan: CardPlan,
+    out: &mut S,
+) -> Status
+    requires election { IsValid election.now }
+    requires plan { plan_of election.now ballot.card ≡ Ok plan }
+    ensures written { IsWritten (card_outcome election.now ballot.kind ballot.test ballot.card (Ok plan)) (S.taken out.old) (S.taken out.new) result }
     ensures nothing { writes_nothing result ≡ true → S.taken out.new ≡ S.taken out.old }
     ensures no_usage { result ≢ Status.Usage }
     ensures no_read_fault { result ≢ Status.ReadFault }
     ensures later { S.faults out.old ≤ S.faults out.new }
     ensures write_fault { result ≡ Status.WriteFault → Rose (S.faults out.old) (S.faults out.new) }
 {
-    let count = match cards(alloc, election) {
-        Ok(list) => list.len(),
-        Err(_) => return Status::NoMemory,
-    };
-    if card as usize >= count {
-        return Status::Layout(card, LayoutFault::NoCard(count as u32));
-    }
-    match write_pages(alloc, out) {
+    match print_pages(alloc, election, ballot, plan.pages.as_slice(), out) {
         Err(stop) => stop_status(stop),
         Ok(()) => Status::Ok,
     }
 }
 
-/// Reads the election and writes the card's pages.
-fn print_election<S: Sink>(alloc: Global, bytes: &[u8], card: u32, out: &mut S) -> Status
-    ensures written { IsWritten (pages_outcome card (election_of bytes.now)) (S.taken out.old) (S.taken out.new) result }
+/// Plans a card of the election and prints its pages.
+fn print_card<S: Sink>(
+    alloc: Global,
+    election: &Election,
+    ballot: Ballot,
+    out: &mut S,
+) -> Status
+    requires { IsValid election.now }
+    ensures written { IsWritten (card_outcome election.now ballot.kind ballot.test ballot.card (plan_of election.now ballot.card)) (S.taken out.old) (S.taken out.new) result }
     ensures nothing { writes_nothing result ≡ true → S.taken out.new ≡ S.taken out.old }
     ensures no_usage { result ≢ Status.Usage }
     ensures no_read_fault { result ≢ Status.ReadFault }
     ensures later { S.faults out.old ≤ S.faults out.new }
     ensures write_fault { result ≡ Status.WriteFault → Rose (S.faults out.old) (S.faults out.new) }
 {
-    match read_election(alloc, bytes) {
-        Err(fault) => refusal_status(fault),
-        Ok(election) => print_card(alloc, &election, card, out),
+    match plan_card(alloc, election, ballot.card) {
+        Err(fault) => layout_status(ballot.card, fault),
+        Ok(plan) => print_plan(alloc, election, ballot, plan, out),
     }
 }
 
-/// Does the command `print`: takes the election under its name and writes the card's pages.
+/// Does the command `print`: takes the election under its name and prints the ballot's pages.
 pub fn print<I: Inputs, S: Sink>(
     alloc: Global,
     election: &str,
-    card: u32,
+    ballot: Ballot,
     inputs: &mut I,
     out: &mut S,
 ) -> Status
     ensures written { IfSome (I.held inputs.old) (λ files.
-        IsWritten (print_outcome card (files election.now)) (S.taken out.old) (S.taken out.new) result) }
+        IsWritten (print_outcome ballot.kind ballot.test ballot.card (files election.now)) (S.taken out.old) (S.taken out.new) result) }
     ensures nothing { writes_nothing result ≡ true → S.taken out.new ≡ S.taken out.old }
     ensures no_usage { result ≢ Status.Usage }
     ensures held { I.held inputs.new ≡ I.held inputs.old }
@@ -120,8 +76,8 @@ pub fn print<I: Inputs, S: Sink>(
     ensures read_fault { result ≡ Status.ReadFault → Rose (I.faults inputs.old) (I.faults inputs.new) }
     ensures write_fault { result ≡ Status.WriteFault → Rose (S.faults out.old) (S.faults out.new) }
 {
-    match take(alloc, inputs, election, INPUT_LIMIT) {
-        Err(fault) => taking_status(1, fault),
-        Ok(bytes) => print_election(alloc, bytes.as_slice(), card, out),
+    match take_election(alloc, election, inputs) {
+        Err(status) => status,
+        Ok(election) => print_card(alloc, &election, ballot, out),
     }
 }

@@ -3,26 +3,7 @@ ghost use Rattle.vx_app.specs.Status.{number_of};
 
 use std::fmt;
 use vx_election::ElectionFault;
-
-/// Why a card can't be laid out.
-#[derive(Clone, Copy, Debug, PartialEq, Eq)]
-pub enum LayoutFault {
-    /// There is no such card; the election has so many.
-    NoCard(u32),
-}
-
-impl fmt::Display for LayoutFault {
-    ghost use Rattle.std.specs.Prelude.{Some};
-    ghost use Rattle.vx_app.specs.Status.{layout_text_of};
-
-    ghost output = { λ fault. Some (layout_text_of fault) };
-
-    fn fmt<W: fmt::Write>(&self, f: &mut fmt::Formatter<W>) -> fmt::Result {
-        match self {
-            LayoutFault::NoCard(cards) => write!(f, "4 {cards}"),
-        }
-    }
-}
+use vx_layout::LayoutFault;
 
 /// What a command answers. Words are counted from 0.
 #[derive(Debug, Drop)]
@@ -37,7 +18,7 @@ pub enum Status {
     TooLong(u32, u64),
     /// The election definition is refused.
     Election(ElectionFault),
-    /// That card can't be laid out.
+    /// The first card that can't be laid out, and why.
     Layout(u32, LayoutFault),
     /// The inputs failed.
     ReadFault,

@@ -6,6 +6,7 @@ ghost use Rattle.vx_app.specs.Outcome.{outcome_of, writes_nothing, IsDone};
 ghost use Rattle.vx_app.specs.Print.{IsWritten};
 
 use crate::command::{Command, parse};
+use crate::pages::Ballot;
 use crate::print::print;
 use crate::status::Status;
 use std::alloc::Global;
@@ -32,7 +33,9 @@ fn obey<I: Inputs, S: Sink>(
     ensures write_fault { result ≡ Status.WriteFault → Rose (S.faults out.old) (S.faults out.new) }
 {
     match command {
-        Command::Print { card, .. } => print(alloc, words.word(1), card, inputs, out),
+        Command::Print { card, kind, test } => {
+            print(alloc, words.word(1), Ballot { card, kind, test }, inputs, out)
+        }
     }
 }
 
