@@ -16,7 +16,8 @@ use Rattle.vx_scan_model.specs.Printed.{code_of}
 use Rattle.vx_scan_model.proofs.Printed.{planned-IsNumbered, IsNumbered-IsInRange}
 use Rattle.vx_io.specs.Outside.{Took, TookFront}
 use Rattle.vx_io.proofs.Laws.{Took-append, TookFront-append, TookFront-longer}
-use Rattle.vx_app.specs.Outcome.{Act, text_of, printed_page}
+use Rattle.vx_app.specs.Outcome.{Act, text_of}
+use Rattle.vx_app.specs.Printing.{printed_page}
 
 module _ {A : Type 0} (act : A → Act) where
   -- the text of things that are done in order

@@ -1,6 +1,11 @@
 -- Laws of outcomes: what a command does that goes on or stops, and that words have one outcome.
-use Rattle.std.proofs.Common.{◌≡◌, ◌≢◌, ℕ, Bool, true, false, List, [], ◌∷◌, map, Option, Some, None, Result, Ok, Err, IfSome, refl, sym, ap, subst, ◌∙◌, get_or}
-use Rattle.std.specs.List.{flat_map}
+use Rattle.std.proofs.Common.{◌≡◌, ◌+◌, ◌++◌, ℕ, Bool, false, List, [], ◌∷◌, map, length, drop, Option, Some, None, Result, Ok, Err, IfSome, refl, sym, ap, subst, ◌∙◌, get_or}
+use Rattle.std.specs.List.{flat_map, range_with_len}
+use Rattle.vx_plane.specs.Plane.{Page}
+use Rattle.vx_styles.specs.Cards.{cards_of}
+use Rattle.vx_pbm.specs.declared.fault.PbmFault.{PbmFault}
+use Rattle.vx_pbm.specs.Images.{images_of}
+use Rattle.vx_app.specs.Read.{image_acts, unless_faulty, scan_outcome, scans_outcome, first_stop, unless_stopped}
 use Rattle.vx_grid.specs.declared.kind.Kind.{Kind}
 use Rattle.vx_election.specs.declared.election.Election.{Election}
 use Rattle.vx_layout.specs.declared.pages.PagePlan.{PagePlan}
@@ -11,14 +16,16 @@ use Rattle.vx_layout.specs.Plan.{plan_of, Answers}
 use Rattle.vx_io.specs.Outside.{Files}
 use Rattle.vx_io.proofs.Laws.{Took-nil, TookFront-nil}
 use Rattle.vx_app.specs.declared.command.Command.{Command}
-use Rattle.vx_app.specs.declared.command.Command.TheVariants.{Print}
+use Rattle.vx_app.specs.declared.command.Command.TheVariants.{Print, Read}
 use Rattle.vx_app.specs.declared.status.Status.{Status}
-use Rattle.vx_app.specs.declared.status.Status.TheVariants.{Layout, NoMemory}
-use Rattle.vx_app.specs.Command.{Spells, SpellsPrint}
-use Rattle.vx_app.specs.Outcome.{Outcome, outcome_of, records_of, stopped, goes_on, election_in, page_act, card_outcome, print_outcome, breaks_off}
+use Rattle.vx_app.specs.declared.status.Status.TheVariants.{NoMemory}
+use Rattle.vx_app.specs.Command.{Spells}
+use Rattle.vx_app.specs.Outcome.{Outcome, records_of, stopped, goes_on, input_of, election_in, breaks_off}
+use Rattle.vx_app.specs.Printing.{page_act, card_outcome, print_outcome}
+use Rattle.vx_app.specs.Work.{outcome_of}
 use Rattle.vx_app.specs.Stop.{layout_status_of}
 use Rattle.vx_app.specs.Print.{Gives, IsWritten}
-use Rattle.vx_app.proofs.Commands.{same_card, same_kind}
+use Rattle.vx_app.proofs.Commands.{same_card, same_kind, not_both}
 
 -- a command that stops here, and has written nothing
 pub stops : (outcome : Outcome) (taken : Option (List ℕ)) (status : Status) → (breaks_off status ≡ false → outcome ≡ stopped status) → IsWritten outcome taken taken status
@@ -63,11 +70,37 @@ goes_on-appends_nothing : {A : Type 0} (step : Result A Status) (rest : A → Ou
 goes_on-appends_nothing (Ok given) rest none = none given
 goes_on-appends_nothing (Err status) rest none = refl
 
+unless_stopped-appends_nothing : (stop : Option Status) (outcome : Outcome) → flat_map records_of outcome.acts ≡ [] → flat_map records_of (unless_stopped stop outcome).acts ≡ []
+unless_stopped-appends_nothing None outcome none = none
+unless_stopped-appends_nothing (Some status) outcome none = refl
+
+images_append_nothing : (election : Election) (number : ℕ) (pages : List Page) (outcome : Outcome) → flat_map records_of outcome.acts ≡ [] → flat_map records_of (image_acts election number pages ++ outcome.acts) ≡ []
+images_append_nothing election number [] outcome none = none
+images_append_nothing election number (page ∷ pages) outcome none = images_append_nothing election (number + 1) pages outcome none
+
+unless_faulty-appends_nothing : (word : ℕ) (fault : Option PbmFault) (next : Outcome) → flat_map records_of next.acts ≡ [] → flat_map records_of (unless_faulty word fault next).acts ≡ []
+unless_faulty-appends_nothing word None next none = none
+unless_faulty-appends_nothing word (Some fault) next none = refl
+
+-- what follows once the scan of a word is taken
+abbrev pub scan_rest : Election → Files → ℕ → ℕ → List (List ℕ) → List ℕ → Outcome
+scan_rest election files word number names bytes =
+    scan_outcome election word number (images_of bytes) (scans_outcome election files (word + 1) (number + length (images_of bytes).pages) names)
+
+scans_append_nothing : (election : Election) (files : Files) (word number : ℕ) (names : List (List ℕ)) → flat_map records_of (scans_outcome election files word number names).acts ≡ []
+scans_append_nothing election files word number [] = refl
+scans_append_nothing election files word number (name ∷ names) =
+    goes_on-appends_nothing (input_of word (files name)) (scan_rest election files word number names)
+    (λ bytes. images_append_nothing election number (images_of bytes).pages (unless_faulty word (images_of bytes).fault (scans_outcome election files (word + 1) (number + length (images_of bytes).pages) names)) (unless_faulty-appends_nothing word (images_of bytes).fault (scans_outcome election files (word + 1) (number + length (images_of bytes).pages) names) (scans_append_nothing election files (word + 1) (number + length (images_of bytes).pages) names)))
+
 -- no command appends a record
 pub command_appends_nothing : (command : Command) (words : List (List ℕ)) (files : Files) (records : List (List ℕ)) → flat_map records_of (outcome_of command words files records).acts ≡ []
 command_appends_nothing (Print card kind test) words files records =
     goes_on-appends_nothing (election_in (files (get_or words 1 []))) _
     (λ election. card_appends_nothing election kind test card (plan_of election card))
+command_appends_nothing Read words files records =
+    goes_on-appends_nothing (election_in (files (get_or words 1 []))) _
+    (λ election. unless_stopped-appends_nothing (first_stop election (range_with_len 0 (length (cards_of election)))) _ (scans_append_nothing election files 2 1 (drop 2 words)))
 
 same_print : (file : Option (List ℕ)) (m n : ℕ) (kind other : Kind) (test again : Bool) → m ≡ n → kind ≡ other → test ≡ again → print_outcome kind test m file ≡ print_outcome other again n file
 same_print file m n kind other test again p q r =
@@ -81,3 +114,6 @@ same_outcome (Print m kind test) (Print n other again) words files records other
     same_print (files (get_or words 1 [])) m n kind other test again
     (same_card words m n kind other test again first second)
     (same_kind words m n kind other test again first second).0 (same_kind words m n kind other test again first second).1
+same_outcome (Print m kind test) Read words files records others first second = absurd (not_both words m kind test first second)
+same_outcome Read (Print m kind test) words files records others first second = absurd (not_both words m kind test second first)
+same_outcome Read Read words files records others first second = refl

@@ -3,4 +3,8 @@ pub mod Stop
 pub mod Numeral
 pub mod Command
 pub mod Outcome
+pub mod Printing
+pub mod ReadingText
+pub mod Read
+pub mod Work
 pub mod Print

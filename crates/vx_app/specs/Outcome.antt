@@ -1,19 +1,10 @@
 -- What a command does to the outside, as a whole: its acts in order, and its status.
-use Rattle.std.specs.Prelude.{◌≡◌, ◌≤◌, ◌⊎◌, ◌+◌, ℕ, Bool, true, false, nat_lt, if◌then◌else◌, List, [], ◌∷◌, ◌++◌, length, map, take, drop, Option, None, Some, Result, Ok, Err, MatchOption, slice_index_or}
+use Rattle.std.specs.Prelude.{◌≡◌, ◌≤◌, ◌⊎◌, ◌+◌, ℕ, Bool, true, false, nat_lt, if◌then◌else◌, List, [], ◌∷◌, ◌++◌, length, take, drop, Option, None, Some, Result, Ok, Err, MatchOption}
 use Rattle.std.specs.List.{flat_map}
-use Rattle.vx_grid.specs.declared.kind.Kind.{Kind}
 use Rattle.vx_election.specs.declared.election.Election.{Election}
 use Rattle.vx_election.specs.declared.fault.ElectionFault.{ElectionFault}
 use Rattle.vx_election.specs.Reading.{election_of}
-use Rattle.vx_layout.specs.declared.pages.PagePlan.{PagePlan}
-use Rattle.vx_layout.specs.declared.plan.CardPlan.{CardPlan}
-use Rattle.vx_layout.specs.declared.fault.LayoutFault.{LayoutFault}
-use Rattle.vx_layout.specs.Plan.{plan_of}
-use Rattle.vx_scan_model.specs.Printed.{PrintedPage, bitmap_of}
-use Rattle.vx_pbm.specs.Raw.{p4_of}
-use Rattle.vx_io.specs.Outside.{Files, IsPrefix, Took}
-use Rattle.vx_app.specs.declared.command.Command.{Command}
-use Rattle.vx_app.specs.declared.command.Command.TheVariants.{Print}
+use Rattle.vx_io.specs.Outside.{IsPrefix, Took}
 use Rattle.vx_app.specs.declared.status.Status.{Status}
 use Rattle.vx_app.specs.declared.status.Status.TheVariants as answer
 
@@ -69,28 +60,6 @@ election_from (Ok bytes) = election_read (election_of bytes)
 abbrev pub election_in : Option (List ℕ) → Result Election Status
 election_in file = election_from (input_of 1 file)
 
--- a page of a card's plan as it is printed
-abbrev pub printed_page : Kind → Bool → ℕ → PagePlan → PrintedPage
-printed_page kind test card plan = record { card = card; page = plan.page; kind = kind; test = test }
-
--- a page is printed: its raw bitmap is written
-abbrev pub page_act : Election → Kind → Bool → ℕ → PagePlan → Act
-page_act election kind test card plan = Write (p4_of (bitmap_of election plan (printed_page kind test card plan)))
-
--- `print` of a card of an election, by its plan: a page after the other
-abbrev pub card_outcome : Election → Kind → Bool → ℕ → Result CardPlan LayoutFault → Outcome
-card_outcome election kind test card (Err fault) = stopped (answer.Layout card fault)
-card_outcome election kind test card (Ok plan) = record { acts = map (page_act election kind test card) plan.pages; status = answer.Ok }
-
--- `print` of a card, by what stands under the election's name
-abbrev pub print_outcome : Kind → Bool → ℕ → Option (List ℕ) → Outcome
-print_outcome kind test card file =
-    goes_on (election_in file) (λ election. card_outcome election kind test card (plan_of election card))
-
--- what a command does, by its words, the files and the records of the journal
-abbrev pub outcome_of : Command → List (List ℕ) → Files → List (List ℕ) → Outcome
-outcome_of (Print card kind test) words files records = print_outcome kind test card (files (slice_index_or words 1 []))
-
 -- the sink has taken the texts of the first acts and a front of the next one's
 pub record WroteUpTo (place : ℕ) (acts : List Act) (old new : Option (List ℕ)) : Type 0 where
   pub part : List ℕ
@@ -109,13 +78,6 @@ breaks_off answer.ReadFault = true
 breaks_off answer.WriteFault = true
 breaks_off answer.NoMemory = true
 breaks_off status = false
-
--- a command that answers so has written nothing
-abbrev pub writes_nothing : Status → Bool
-writes_nothing answer.Ok = false
-writes_nothing answer.WriteFault = false
-writes_nothing answer.NoMemory = false
-writes_nothing status = true
 
 -- the acts are done up to some place; all of them, with the outcome's status, unless the command
 -- broke off

@@ -9,6 +9,8 @@ use Rattle.vx_election.specs.declared.fault.ElectionFault.{ElectionFault}
 use Rattle.vx_election.specs.declared.fault.ElectionFault.TheVariants as refused
 use Rattle.vx_layout.specs.declared.fault.LayoutFault.{LayoutFault}
 use Rattle.vx_layout.specs.declared.fault.LayoutFault.TheVariants as layout
+use Rattle.vx_pbm.specs.declared.fault.PbmFault.{PbmFault}
+use Rattle.vx_pbm.specs.declared.fault.PbmFault.TheVariants as pbm
 use Rattle.vx_app.specs.declared.status.Status.{Status}
 use Rattle.vx_app.specs.declared.status.Status.TheVariants as answer
 
@@ -37,3 +39,8 @@ refusal_status_of fault = answer.Election fault
 abbrev pub layout_status_of : ℕ → LayoutFault → Status
 layout_status_of card layout.OutOfMemory = answer.NoMemory
 layout_status_of card fault = answer.Layout card fault
+
+-- the status of a scan input that leaves the grammar of bitmaps
+abbrev pub pbm_status_of : ℕ → PbmFault → Status
+pbm_status_of word pbm.OutOfMemory = answer.NoMemory
+pbm_status_of word fault = answer.Pbm word fault

@@ -1,11 +1,12 @@
 ghost use Rattle.std.specs.Prelude.{◌≡◌};
-ghost use Rattle.vx_app.specs.Stop.{layout_status_of, refusal_status_of, stop_status_of, taking_status_of};
+ghost use Rattle.vx_app.specs.Stop.{layout_status_of, pbm_status_of, refusal_status_of, stop_status_of, taking_status_of};
 
 use crate::pages::Stop;
 use crate::status::Status;
 use vx_election::ElectionFault;
 use vx_io::TakeFault;
 use vx_layout::LayoutFault;
+use vx_pbm::PbmFault;
 
 /// The status of an input that wasn't taken.
 pub fn taking_status(word: u32, fault: TakeFault) -> Status
@@ -46,5 +47,15 @@ pub fn stop_status(stop: Stop) -> Status
     match stop {
         Stop::WriteFault => Status::WriteFault,
         Stop::NoMemory => Status::NoMemory,
+    }
+}
+
+/// The status of a scan input that leaves the grammar of bitmaps.
+pub fn pbm_status(word: u32, fault: PbmFault) -> Status
+    ensures { result ≡ pbm_status_of word fault }
+{
+    match fault {
+        PbmFault::OutOfMemory => Status::NoMemory,
+        fault => Status::Pbm(word, fault),
     }
 }

@@ -5,7 +5,8 @@ ghost use Rattle.vx_code.specs.Code.{IsInRange};
 ghost use Rattle.vx_scan_model.specs.Printed.{code_of};
 ghost use Rattle.vx_io.specs.Outside.{Took, TookFront};
 ghost use Rattle.vx_pbm.specs.Raw.{p4_of};
-ghost use Rattle.vx_app.specs.Outcome.{text_of, printed_page, page_act};
+ghost use Rattle.vx_app.specs.Outcome.{text_of};
+ghost use Rattle.vx_app.specs.Printing.{printed_page, page_act};
 ghost use Rattle.vx_app.specs.Stop.{HasStopCause};
 
 use std::alloc::{AllocError, Global};

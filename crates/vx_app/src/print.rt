@@ -2,8 +2,10 @@ ghost use Rattle.std.specs.Prelude.{◌≡◌, ◌≢◌, true, ◌≤◌, Ok, I
 ghost use Rattle.vx_election.specs.Valid.{IsValid};
 ghost use Rattle.vx_layout.specs.Plan.{plan_of};
 ghost use Rattle.vx_io.specs.Outside.{Rose};
-ghost use Rattle.vx_app.specs.Outcome.{card_outcome, print_outcome, writes_nothing};
+ghost use Rattle.vx_app.specs.Printing.{card_outcome, print_outcome};
+ghost use Rattle.vx_app.specs.Work.{writes_nothing};
 ghost use Rattle.vx_app.specs.Print.{IsWritten};
+ghost use Rattle.vx_app.specs.declared.command.Command.TheVariants as CommandOf;
 
 use crate::causes::{layout_status, stop_status};
 use crate::pages::{Ballot, print_pages};
@@ -25,7 +27,7 @@ fn print_plan<S: Sink>(
     requires election { IsValid election.now }
     requires plan { plan_of election.now ballot.card ≡ Ok plan }
     ensures written { IsWritten (card_outcome election.now ballot.kind ballot.test ballot.card (Ok plan)) (S.taken out.old) (S.taken out.new) result }
-    ensures nothing { writes_nothing result ≡ true → S.taken out.new ≡ S.taken out.old }
+    ensures nothing { writes_nothing (CommandOf.Print ballot.card ballot.kind ballot.test) result ≡ true → S.taken out.new ≡ S.taken out.old }
     ensures no_usage { result ≢ Status.Usage }
     ensures no_read_fault { result ≢ Status.ReadFault }
     ensures later { S.faults out.old ≤ S.faults out.new }
@@ -46,7 +48,7 @@ fn print_card<S: Sink>(
 ) -> Status
     requires { IsValid election.now }
     ensures written { IsWritten (card_outcome election.now ballot.kind ballot.test ballot.card (plan_of election.now ballot.card)) (S.taken out.old) (S.taken out.new) result }
-    ensures nothing { writes_nothing result ≡ true → S.taken out.new ≡ S.taken out.old }
+    ensures nothing { writes_nothing (CommandOf.Print ballot.card ballot.kind ballot.test) result ≡ true → S.taken out.new ≡ S.taken out.old }
     ensures no_usage { result ≢ Status.Usage }
     ensures no_read_fault { result ≢ Status.ReadFault }
     ensures later { S.faults out.old ≤ S.faults out.new }
@@ -68,7 +70,7 @@ pub fn print<I: Inputs, S: Sink>(
 ) -> Status
     ensures written { IfSome (I.held inputs.old) (λ files.
         IsWritten (print_outcome ballot.kind ballot.test ballot.card (files election.now)) (S.taken out.old) (S.taken out.new) result) }
-    ensures nothing { writes_nothing result ≡ true → S.taken out.new ≡ S.taken out.old }
+    ensures nothing { writes_nothing (CommandOf.Print ballot.card ballot.kind ballot.test) result ≡ true → S.taken out.new ≡ S.taken out.old }
     ensures no_usage { result ≢ Status.Usage }
     ensures held { I.held inputs.new ≡ I.held inputs.old }
     ensures inputs_later { I.faults inputs.old ≤ I.faults inputs.new }

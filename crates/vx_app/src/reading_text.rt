@@ -43,7 +43,7 @@ fn state_word(state: State) -> &'static str
 }
 
 /// Adds the first line of a reading.
-fn push_page(text: &mut String, number: u32, code: PageCode) -> Result<(), OutOfMemory>
+fn push_page(text: &mut String, number: u64, code: PageCode) -> Result<(), OutOfMemory>
     ensures { OnOk result (string_bytes text.new ≡ string_bytes text.old ++ page_line number code) }
 {
     let (card, page) = (code.card, code.page);
@@ -98,7 +98,7 @@ fn push_bubbles(
 /// Adds the block of a reading of a page with these bubbles.
 fn push_block(
     text: &mut String,
-    number: u32,
+    number: u64,
     bubbles: &[Bubble],
     reading: &PageReading,
 ) -> Result<(), OutOfMemory>
@@ -118,7 +118,7 @@ fn push_block(
 }
 
 /// Adds the line of a fault, unless it is want of memory.
-fn push_fault(text: &mut String, number: u32, fault: PageFault) -> Result<(), OutOfMemory>
+fn push_fault(text: &mut String, number: u64, fault: PageFault) -> Result<(), OutOfMemory>
     ensures known { OnOk result (fault ≢ PageFault.OutOfMemory) }
     ensures line { OnOk result (string_bytes text.new ≡ string_bytes text.old ++ fault_line number fault) }
 {
@@ -145,7 +145,7 @@ fn push_image(
     text: &mut String,
     election: &Election,
     plans: &CardPlans,
-    number: u32,
+    number: u64,
     page: &BitView<'_>,
 ) -> Result<(), OutOfMemory>
     requires election { IsValid election.now }
@@ -167,7 +167,7 @@ pub(crate) fn append_image(
     alloc: Global,
     election: &Election,
     plans: &CardPlans,
-    number: u32,
+    number: u64,
     page: &BitView<'_>,
     into: &mut Bytes,
 ) -> Result<(), OutOfMemory>

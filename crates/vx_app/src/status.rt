@@ -4,6 +4,7 @@ ghost use Rattle.vx_app.specs.Status.{number_of};
 use std::fmt;
 use vx_election::ElectionFault;
 use vx_layout::LayoutFault;
+use vx_pbm::PbmFault;
 
 /// What a command answers. Words are counted from 0.
 #[derive(Debug, Drop)]
@@ -20,6 +21,8 @@ pub enum Status {
     Election(ElectionFault),
     /// The first card that can't be laid out, and why.
     Layout(u32, LayoutFault),
+    /// The scan input of that word leaves the grammar of bitmaps.
+    Pbm(u32, PbmFault),
     /// The inputs failed.
     ReadFault,
     /// The sink failed.
@@ -40,6 +43,7 @@ impl Status {
             Status::TooLong(_, _) => 3,
             Status::Election(_) => 4,
             Status::Layout(_, _) => 5,
+            Status::Pbm(_, _) => 6,
             Status::ReadFault => 10,
             Status::WriteFault => 11,
             Status::NoMemory => 13,
@@ -62,6 +66,7 @@ impl fmt::Display for Status {
             Status::TooLong(word, size) => write!(f, "too long {word} {size}"),
             Status::Election(fault) => write!(f, "election {fault}"),
             Status::Layout(card, fault) => write!(f, "layout {card} {fault}"),
+            Status::Pbm(word, fault) => write!(f, "pbm {word} {fault}"),
             Status::ReadFault => f.write_str("read fault"),
             Status::WriteFault => f.write_str("write fault"),
             Status::NoMemory => f.write_str("no memory"),

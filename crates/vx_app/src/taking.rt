@@ -12,7 +12,7 @@ use vx_election::{Election, read_election};
 use vx_io::{Inputs, take};
 
 /// The most bytes that an input may have.
-const INPUT_LIMIT: u64 = 67_108_864;
+pub const INPUT_LIMIT: u64 = 67_108_864;
 
 /// The election that bytes define, or the status of a command that needs it.
 fn read_bytes(alloc: Global, bytes: &[u8]) -> Result<Election, Status>

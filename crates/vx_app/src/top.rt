@@ -2,12 +2,14 @@ ghost use Rattle.std.specs.Prelude.{◌≡◌, ◌≢◌, ◌≤◌, ◌↔◌, 
 ghost use Rattle.vx_io.specs.Outside.{Files, Rose};
 ghost use Rattle.vx_app.specs.declared.command.Command.{Command as CommandOf};
 ghost use Rattle.vx_app.specs.Command.{NoCommand, Spells};
-ghost use Rattle.vx_app.specs.Outcome.{outcome_of, writes_nothing, IsDone};
+ghost use Rattle.vx_app.specs.Outcome.{IsDone};
+ghost use Rattle.vx_app.specs.Work.{outcome_of, writes_nothing};
 ghost use Rattle.vx_app.specs.Print.{IsWritten};
 
 use crate::command::{Command, parse};
 use crate::pages::Ballot;
 use crate::print::print;
+use crate::read::read;
 use crate::status::Status;
 use std::alloc::Global;
 use std::thread::Threads;
@@ -24,7 +26,7 @@ fn obey<I: Inputs, S: Sink>(
     requires { Spells words.now command }
     ensures written { IfSome (I.held inputs.old) (λ files.
         IsWritten (outcome_of command words.now files []) (S.taken out.old) (S.taken out.new) result) }
-    ensures nothing { writes_nothing result ≡ true → S.taken out.new ≡ S.taken out.old }
+    ensures nothing { writes_nothing command result ≡ true → S.taken out.new ≡ S.taken out.old }
     ensures no_usage { result ≢ Status.Usage }
     ensures held { I.held inputs.new ≡ I.held inputs.old }
     ensures inputs_later { I.faults inputs.old ≤ I.faults inputs.new }
@@ -34,8 +36,10 @@ fn obey<I: Inputs, S: Sink>(
 {
     match command {
         Command::Print { card, kind, test } => {
-            print(alloc, words.word(1), Ballot { card, kind, test }, inputs, out)
+            let ballot = Ballot { card, kind, test };
+            print(alloc, words.word(1), ballot, inputs, out)
         }
+        Command::Read => read(alloc, words, inputs, out),
     }
 }
 
@@ -59,7 +63,9 @@ pub fn run<R: Threads + Sync, I: Inputs, S: Sink, K: Keeper>(
         (command : CommandOf) → Spells words.now command →
         IsDone (outcome_of command words.now files records)
         (S.taken out.old) (S.taken out.new) (K.held _keeper.old) (K.held _keeper.new) result }
-    ensures nothing_written { writes_nothing result ≡ true → S.taken out.new ≡ S.taken out.old }
+    // What stops the command before its first act comes before anything is written.
+    ensures nothing_written { (command : CommandOf) → Spells words.now command → writes_nothing command result ≡ true → S.taken out.new ≡ S.taken out.old }
+    ensures usage_writes_nothing { result ≡ Status.Usage → S.taken out.new ≡ S.taken out.old }
     ensures read_fault { result ≡ Status.ReadFault → Rose (I.faults inputs.old) (I.faults inputs.new) }
     ensures write_fault { result ≡ Status.WriteFault → Rose (S.faults out.old) (S.faults out.new) }
     ensures inputs_held { I.held inputs.new ≡ I.held inputs.old }

@@ -1,5 +1,5 @@
 use Rattle.std.proofs.lemmas.Result.{err_from_is_err_and}
-use Rattle.vx_app.specs.Outcome.{page_act}
+use Rattle.vx_app.specs.Printing.{page_act}
 use Rattle.vx_app.proofs.PageTexts.{front-more}
 use Rattle.vx_app.proofs.pages.print_pages.Goals as goal
 

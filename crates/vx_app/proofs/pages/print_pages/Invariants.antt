@@ -1,7 +1,8 @@
 use Rattle.std.proofs.Common.{◌≤◌, map, take}
 use Rattle.std.specs.List.{flat_map}
 use Rattle.vx_io.specs.Outside.{Took}
-use Rattle.vx_app.specs.Outcome.{text_of, page_act}
+use Rattle.vx_app.specs.Outcome.{text_of}
+use Rattle.vx_app.specs.Printing.{page_act}
 use Rattle.vx_app.proofs.pages.print_pages.Given as goal
 
 -- the pages so far are written

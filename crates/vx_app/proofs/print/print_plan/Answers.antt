@@ -3,7 +3,7 @@ use Rattle.std.specs.Prelude.{All}
 use Rattle.vx_layout.specs.declared.pages.PagePlan.{PagePlan}
 use Rattle.vx_code.specs.Code.{IsInRange}
 use Rattle.vx_scan_model.specs.Printed.{code_of}
-use Rattle.vx_app.specs.Outcome.{printed_page}
+use Rattle.vx_app.specs.Printing.{printed_page}
 use Rattle.vx_app.proofs.PageTexts.{codes-in_range}
 use Rattle.vx_app.proofs.print.print_plan.Goals as goal
 

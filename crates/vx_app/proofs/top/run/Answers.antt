@@ -1,6 +1,7 @@
 use Rattle.std.proofs.Common.{◌≡◌, [], Option, IfSome, subst}
 use Rattle.vx_io.specs.Outside.{Files}
-use Rattle.vx_app.specs.Outcome.{Outcome, outcome_of}
+use Rattle.vx_app.specs.Outcome.{Outcome}
+use Rattle.vx_app.specs.Work.{outcome_of}
 use Rattle.vx_app.specs.Print.{IsWritten}
 use Rattle.vx_app.proofs.Acts.{done_writing}
 use Rattle.vx_app.proofs.Prints.{same_outcome, command_appends_nothing}

@@ -3,7 +3,7 @@ use Rattle.std.specs.Prelude.{codes}
 use Rattle.std.specs.Fmt.{decimal}
 use Rattle.vx_app.specs.Command.{kind_word}
 use Rattle.vx_app.proofs.Commands.{four_words}
-use Rattle.vx_app.proofs.command.parse.Goals as goal
+use Rattle.vx_app.proofs.command.parse_print.Goals as goal
 
 pub returns : goal.returns
 returns c =
