@@ -34,7 +34,8 @@ fn obey<I: Inputs, S: Sink>(
 {
     match command {
         Command::Print { card, kind, test } => {
-            print(alloc, words.word(1), Ballot { card, kind, test }, inputs, out)
+            let ballot = Ballot { card, kind, test };
+            print(alloc, words.word(1), ballot, inputs, out)
         }
     }
 }
