@@ -37,13 +37,6 @@ module _ {A : Type 0} (act : A → Act) where
       ∙ ap (λ (s : List ℕ). texts (take i xs) ++ s) (append-nil (text_of (act (get_or xs i x))))
       ∙ ap (λ (y : A). texts (take i xs) ++ text_of (act y)) (sym is)
 
-  -- one more was written
-  pub took-more : (a b c : Option (List ℕ)) (xs : List A) (i : ℕ) (x : A) → i < length xs → x ≡ get_or xs i x → Took a b (flat_map text_of (map act (take i xs))) → Took b c (text_of (act x)) → Took a c (flat_map text_of (map act (take (i + 1) xs)))
-  unfolding texts
-  took-more a b c xs i x inside is before here =
-      let Taken : List ℕ → Type 0 = λ s. Took a c s in
-      subst Taken (sym (texts-more xs i x inside is)) (Took-append a b c (texts (take i xs)) (text_of (act x)) before here)
-
   -- one more was written in part
   pub front-more : (a b c : Option (List ℕ)) (xs : List A) (i : ℕ) (x : A) → i < length xs → x ≡ get_or xs i x → Took a b (flat_map text_of (map act (take i xs))) → TookFront b c (text_of (act x)) → TookFront a c (flat_map text_of (map act xs))
   unfolding texts

@@ -1,4 +1,4 @@
--- Laws of outcomes: what a command does that goes on or stops, and that words have one outcome.
+-- Laws of outcomes: no command appends a record, and words have one outcome.
 use Rattle.std.proofs.Common.{◌≡◌, ◌+◌, ◌++◌, ℕ, Bool, false, List, [], ◌∷◌, map, length, drop, Option, Some, None, Result, Ok, Err, IfSome, refl, sym, ap, subst, ◌∙◌, get_or}
 use Rattle.std.specs.List.{flat_map, range_with_len}
 use Rattle.vx_plane.specs.Plane.{Page}
@@ -11,10 +11,8 @@ use Rattle.vx_election.specs.declared.election.Election.{Election}
 use Rattle.vx_layout.specs.declared.pages.PagePlan.{PagePlan}
 use Rattle.vx_layout.specs.declared.plan.CardPlan.{CardPlan}
 use Rattle.vx_layout.specs.declared.fault.LayoutFault.{LayoutFault}
-use Rattle.vx_layout.specs.declared.fault.LayoutFault.TheVariants.{ContestTooTall, TextTooLong, TooManyPages, NoCard, OutOfMemory}
-use Rattle.vx_layout.specs.Plan.{plan_of, Answers}
+use Rattle.vx_layout.specs.Plan.{plan_of}
 use Rattle.vx_io.specs.Outside.{Files}
-use Rattle.vx_io.proofs.Laws.{Took-nil, TookFront-nil}
 use Rattle.vx_app.specs.declared.command.Command.{Command}
 use Rattle.vx_app.specs.declared.command.Command.TheVariants.{Print, Read}
 use Rattle.vx_app.specs.declared.status.Status.{Status}
@@ -26,36 +24,6 @@ use Rattle.vx_app.specs.Work.{outcome_of}
 use Rattle.vx_app.specs.Stop.{layout_status_of}
 use Rattle.vx_app.specs.Print.{Gives, IsWritten}
 use Rattle.vx_app.proofs.Commands.{same_card, same_kind, not_both}
-
--- a command that stops here, and has written nothing
-pub stops : (outcome : Outcome) (taken : Option (List ℕ)) (status : Status) → (breaks_off status ≡ false → outcome ≡ stopped status) → IsWritten outcome taken taken status
-stops outcome taken status is = record {
-  front = TookFront-nil taken _;
-  whole = λ ended. rw (is ended) (Took-nil taken);
-  same_status = λ ended. sym (ap (λ (o : Outcome). o.status) (is ended));
-}
-
-module _ {A : Type 0} (step : Option (List ℕ) → Result A Status) (rest : A → Outcome) where
-  -- a command that goes on with what a step gave
-  pub goes_on-ok : (told : Option Files) (name : List ℕ) (given : A) (taken now : Option (List ℕ)) (status : Status) → IfSome told (λ files. Gives (Ok given) (step (files name))) → IsWritten (rest given) taken now status → IfSome told (λ files. IsWritten (goes_on (step (files name)) rest) taken now status)
-  goes_on-ok None name given taken now status is written = tt
-  goes_on-ok (Some files) name given taken now status is written =
-      let Written : Result A Status → Type 0 = λ s. IsWritten (goes_on s rest) taken now status in
-      subst Written (sym is) written
-
-  -- one that stops where a step gave nothing
-  pub goes_on-err : (told : Option Files) (name : List ℕ) (taken : Option (List ℕ)) (status : Status) → IfSome told (λ files. Gives {A = A} (Err status) (step (files name))) → IfSome told (λ files. IsWritten (goes_on (step (files name)) rest) taken taken status)
-  goes_on-err None name taken status is = tt
-  goes_on-err (Some files) name taken status is =
-      stops _ taken status (λ ended. ap (λ (s : Result A Status). goes_on s rest) (is ended))
-
--- `print` of a card that can't be laid out
-pub refused_card : (election : Election) (kind : Kind) (test : Bool) (card : ℕ) (fault : LayoutFault) (plan : Result CardPlan LayoutFault) (taken : Option (List ℕ)) → Answers {A = CardPlan} (Err fault) plan → IsWritten (card_outcome election kind test card plan) taken taken (layout_status_of card fault)
-refused_card election kind test card (ContestTooTall id rows) plan taken is = stops _ taken _ (λ ended. ap (card_outcome election kind test card) is)
-refused_card election kind test card (TextTooLong id size) plan taken is = stops _ taken _ (λ ended. ap (card_outcome election kind test card) is)
-refused_card election kind test card (TooManyPages count) plan taken is = stops _ taken _ (λ ended. ap (card_outcome election kind test card) is)
-refused_card election kind test card (NoCard cards) plan taken is = stops _ taken _ (λ ended. ap (card_outcome election kind test card) is)
-refused_card election kind test card OutOfMemory plan taken is = stops _ taken NoMemory (λ ended. cc)
 
 pages_append_nothing : (election : Election) (kind : Kind) (test : Bool) (card : ℕ) (pages : List PagePlan) → flat_map records_of (map (page_act election kind test card) pages) ≡ []
 pages_append_nothing election kind test card [] = refl

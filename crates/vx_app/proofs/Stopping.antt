@@ -1,13 +1,23 @@
--- Laws of inputs that are taken, or that stop a command.
-use Rattle.std.proofs.Common.{◌≡◌, ℕ, List, length, Bool, true, false, Option, Some, None, Result, Ok, Err, ap, ◌∙◌, arith}
+-- Laws of commands that stop, and of inputs that are taken or stop them.
+use Rattle.std.proofs.Common.{◌≡◌, ℕ, List, length, Bool, true, false, Option, Some, None, Result, Ok, Err, ap, sym, ◌∙◌, arith}
 use Rattle.std.specs.Prelude.{nat_lt, if◌then◌else◌}
 use Rattle.vx_io.specs.Take.{Takes}
 use Rattle.vx_io.specs.declared.taking.TakeFault.{TakeFault}
 use Rattle.vx_io.specs.declared.taking.TakeFault.TheVariants as take
 use Rattle.vx_app.specs.declared.status.Status.{Status}
 use Rattle.vx_app.specs.declared.status.Status.TheVariants as answer
-use Rattle.vx_app.specs.Outcome.{breaks_off, input_limit, input_of}
+use Rattle.vx_io.proofs.Laws.{Took-nil, TookFront-nil}
+use Rattle.vx_app.specs.Outcome.{Outcome, stopped, breaks_off, input_limit, input_of}
+use Rattle.vx_app.specs.Print.{IsWritten}
 use Rattle.vx_app.specs.Stop.{taking_status_of}
+
+-- a command that stops here, and has written nothing
+pub stops : (outcome : Outcome) (taken : Option (List ℕ)) (status : Status) → (breaks_off status ≡ false → outcome ≡ stopped status) → IsWritten outcome taken taken status
+stops outcome taken status is = record {
+  front = TookFront-nil taken _;
+  whole = λ ended. rw (is ended) (Took-nil taken);
+  same_status = λ ended. sym (ap (λ (o : Outcome). o.status) (is ended));
+}
 
 abbrev limited : ℕ → List ℕ → Bool → Result (List ℕ) Status
 limited word bytes over = if over then Err (answer.TooLong word (length bytes)) else Ok bytes

@@ -24,8 +24,8 @@ use Rattle.vx_app.specs.Read.{after, image_acts, unless_faulty, scan_outcome, fi
 use Rattle.vx_app.specs.Stop.{pbm_status_of, stop_status_of, taking_status_of}
 use Rattle.vx_app.specs.declared.pages.Stop.{Stop}
 use Rattle.vx_app.specs.declared.pages.Stop.TheVariants as stop
-use Rattle.vx_app.proofs.Prints.{stops, scan_rest}
-use Rattle.vx_app.proofs.Stopping.{input_stops, input_given}
+use Rattle.vx_app.proofs.Prints.{scan_rest}
+use Rattle.vx_app.proofs.Stopping.{stops, input_stops, input_given}
 
 -- pages before those of images
 abbrev pub behind : List Page → Images → Images

@@ -40,12 +40,7 @@ fn print_plan<S: Sink>(
 }
 
 /// Plans a card of the election and prints its pages.
-fn print_card<S: Sink>(
-    alloc: Global,
-    election: &Election,
-    ballot: Ballot,
-    out: &mut S,
-) -> Status
+fn print_card<S: Sink>(alloc: Global, election: &Election, ballot: Ballot, out: &mut S) -> Status
     requires { IsValid election.now }
     ensures written { IsWritten (card_outcome election.now ballot.kind ballot.test ballot.card (plan_of election.now ballot.card)) (S.taken out.old) (S.taken out.new) result }
     ensures nothing { writes_nothing (CommandOf.Print ballot.card ballot.kind ballot.test) result ≡ true → S.taken out.new ≡ S.taken out.old }

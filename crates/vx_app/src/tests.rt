@@ -67,10 +67,24 @@ fn prints_the_town_s_card(rt: HostRuntime) -> Result<(), Fail> {
     assert_eq!(rt; answer.text.len() as u64, WHOLE);
     assert!(rt; answer.text.as_slice().starts_with(b"P4\n1700 2200\n"));
     // A mark's corner, the corners of the first bubble's outline, a dot of the title, a code box.
-    for (x, y) in [(40, 54), (75, 65), (245, 463), (254, 463), (290, 354), (188, 1870)] {
+    for (x, y) in [
+        (40, 54),
+        (75, 65),
+        (245, 463),
+        (254, 463),
+        (290, 354),
+        (188, 1870),
+    ] {
         assert!(rt; is_dark(answer.text.as_slice(), x, y), "{x} {y}");
     }
-    for (x, y) in [(39, 54), (76, 65), (244, 463), (250, 476), (292, 354), (236, 1870)] {
+    for (x, y) in [
+        (39, 54),
+        (76, 65),
+        (244, 463),
+        (250, 476),
+        (292, 354),
+        (236, 1870),
+    ] {
         assert!(rt; !is_dark(answer.text.as_slice(), x, y), "{x} {y}");
     }
     Ok(())
@@ -89,9 +103,7 @@ fn with_columns(alloc: Global, contests: u32) -> Result<String, AllocError> {
             r#"{comma}{{"id":"c{number}","type":"candidate","districtId":"d","title":"Council","seats":26,"candidates":[],"allowWriteIns":true}}"#
         )?;
     }
-    text.push_str(
-        r#"],"ballotStyles":[{"id":"s","precincts":["p"],"districts":["d"]}]}"#,
-    )?;
+    text.push_str(r#"],"ballotStyles":[{"id":"s","precincts":["p"],"districts":["d"]}]}"#)?;
     Ok(text)
 }
 
@@ -114,13 +126,19 @@ fn a_failing_call_is_that_device_s_fault(rt: HostRuntime) -> Result<(), Fail> {
         let cut = attempt(&rt, TOWN, &PRINT, &[], &[call], WHOLE)?;
         assert_eq!(rt; cut.status.as_str(), "write fault", "call {call}");
         assert_eq!(rt; cut.text.len() as u64, written, "call {call}");
-        assert!(rt; whole.text.as_slice().starts_with(cut.text.as_slice()), "call {call}");
+        assert!(rt;
+            whole.text.as_slice().starts_with(cut.text.as_slice()),
+            "call {call}"
+        );
     }
     for room in [1000, PAGE + 1000] {
         let full = attempt(&rt, TOWN, &PRINT, &[], &[], room)?;
         assert_eq!(rt; full.status.as_str(), "write fault", "room {room}");
         assert_eq!(rt; full.text.len() as u64, room);
-        assert!(rt; whole.text.as_slice().starts_with(full.text.as_slice()), "room {room}");
+        assert!(rt;
+            whole.text.as_slice().starts_with(full.text.as_slice()),
+            "room {room}"
+        );
     }
     Ok(())
 }
@@ -167,7 +185,14 @@ fn words_are_a_command_or_usage(rt: HostRuntime) -> Result<(), Fail> {
     assert_eq!(rt; absent.status.as_str(), "no input 1");
     assert!(rt; absent.text.is_empty());
     for (card, refusal) in [("1", "layout 1 4 1"), ("1023", "layout 1023 4 1")] {
-        let answer = attempt(&rt, TOWN, &["print", "e", card, "precinct"], &[], &[], WHOLE)?;
+        let answer = attempt(
+            &rt,
+            TOWN,
+            &["print", "e", card, "precinct"],
+            &[],
+            &[],
+            WHOLE,
+        )?;
         assert_eq!(rt; answer.status.as_str(), refusal);
         assert!(rt; answer.text.is_empty(), "{card}");
     }
