@@ -1,0 +1,4 @@
+pub mod Painted
+pub mod Shapes
+pub mod Outlines
+pub mod Lines

@@ -4,15 +4,20 @@ ghost use Rattle.vx_code.specs.Code.{IsInRange, boxes_of};
 ghost use Rattle.vx_layout.specs.Print.{print_of};
 ghost use Rattle.vx_election.specs.Valid.{IsValid};
 
-use std::alloc::{AllocError, Global};
+use crate::boxes::paint_boxes;
+use crate::marks::paint_marks;
+use crate::outline::paint_bubbles;
+use crate::text::paint_texts;
+use std::alloc::Global;
 use vx_bits::{BitPage, OutOfMemory};
-use vx_code::PageCode;
+use vx_code::{PageCode, boxes_of};
 use vx_election::Election;
+use vx_grid::{PAGE_HEIGHT, PAGE_WIDTH};
 use vx_layout::PagePlan;
 
 /// The printed page of a plan with the boxes of its code: 1700 by 2200 pixels.
 pub fn paint(
-    _alloc: Global,
+    alloc: Global,
     _election: &Election,
     plan: &PagePlan,
     code: &PageCode,
@@ -21,5 +26,10 @@ pub fn paint(
     requires code { IsInRange code.now }
     ensures { IfOk result (λ page. page ≡ page_of 1700 2200 (print_of plan.now (boxes_of code.now))) }
 {
-    Err(AllocError)
+    let mut page = BitPage::new(alloc, PAGE_WIDTH, PAGE_HEIGHT)?;
+    paint_marks(&mut page);
+    paint_boxes(&mut page, &boxes_of(code));
+    paint_bubbles(&mut page, plan.bubbles.as_slice());
+    paint_texts(&mut page, plan.texts.as_slice());
+    Ok(page)
 }

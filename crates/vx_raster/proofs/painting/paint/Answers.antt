@@ -1,0 +1,18 @@
+use Rattle.std.proofs.Common.{◌≡◌, ap, ◌∙◌}
+use Rattle.vx_plane.specs.Plane.{Page, page_of, nowhere, painted, any_of}
+use Rattle.vx_grid.specs.Marks.{timing_marks}
+use Rattle.vx_code.specs.Code.{boxes_of}
+use Rattle.vx_layout.specs.Print.{code_pixels, bubble_pixels, line_pixels, print_of}
+use Rattle.vx_raster.proofs.Painted.{painted-in_turn}
+use Rattle.vx_raster.proofs.painting.paint.Goals as goal
+
+pub returns : goal.returns
+unfolding print_of
+returns c =
+    let plan = c.args.plan.now in
+    painted-in_turn 1700 2200 c.in_ok-page.page _ _ _ _ timing_marks (code_pixels (boxes_of c.args.code.now)) (any_of plan.bubbles bubble_pixels) (any_of plan.texts line_pixels)
+    c.in_ok-page.ensures
+    c.paint_marks.ensures
+    (rw c.boxes_of.ensures.exact at c.paint_boxes.ensures)
+    (rw c.as_slice.ensures at c.paint_bubbles.ensures)
+    (rw c.as_slice-2.ensures at c.paint_texts.ensures)
