@@ -90,7 +90,13 @@ fn push_bubbles(
     ensures { OnOk result (string_bytes text.new ≡ string_bytes text.old ++ bubble_lines bubbles.now scores.now states.now) }
 {
     for number in 0..bubbles.len() {
-        push_bubble(text, number, bubbles[number], scores[number], states[number])?;
+        push_bubble(
+            text,
+            number,
+            bubbles[number],
+            scores[number],
+            states[number],
+        )?;
     }
     Ok(())
 }
