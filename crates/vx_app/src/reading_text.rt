@@ -1,10 +1,10 @@
-ghost use Rattle.std.specs.Prelude.{◌≡◌, ◌≢◌, ◌++◌, OnOk, OnErr, length, string_bytes};
+ghost use Rattle.std.specs.Prelude.{◌≡◌, ◌≢◌, ◌++◌, OnOk, IfOk, length, string_bytes};
 ghost use Rattle.vx_election.specs.Valid.{IsValid};
 ghost use Rattle.vx_scan_model.specs.Reading.{ArePlansOf};
 ghost use Rattle.vx_page.specs.Named.{named_plan};
 ghost use Rattle.vx_app.specs.Command as command;
 ghost use Rattle.vx_app.specs.ReadingText as reading;
-ghost use Rattle.vx_app.specs.ReadingText.{page_line, border_line, bubble_line, bubble_lines, block_text, fault_line, image_text};
+ghost use Rattle.vx_app.specs.ReadingText.{page_line, border_line, bubble_line, bubble_lines, block_text, fault_line, image_text as image_text_of};
 
 use std::alloc::Global;
 use vx_bits::{BitView, Bytes, OutOfMemory};
@@ -90,7 +90,13 @@ fn push_bubbles(
     ensures { OnOk result (string_bytes text.new ≡ string_bytes text.old ++ bubble_lines bubbles.now scores.now states.now) }
 {
     for number in 0..bubbles.len() {
-        push_bubble(text, number, bubbles[number], scores[number], states[number])?;
+        push_bubble(
+            text,
+            number,
+            bubbles[number],
+            scores[number],
+            states[number],
+        )?;
     }
     Ok(())
 }
@@ -150,7 +156,7 @@ fn push_image(
 ) -> Result<(), OutOfMemory>
     requires election { IsValid election.now }
     requires plans { ArePlansOf election.now plans.now }
-    ensures { OnOk result (string_bytes text.new ≡ string_bytes text.old ++ image_text election.now number page.now) }
+    ensures { OnOk result (string_bytes text.new ≡ string_bytes text.old ++ image_text_of election.now number page.now) }
 {
     match read_page(alloc, election, plans, page) {
         Ok(reading) => {
@@ -161,22 +167,20 @@ fn push_image(
     }
 }
 
-/// Appends what `read` writes of the image with a number, counted from 1: the block of its reading,
-/// or the line of its fault. After want of memory `into` is as before.
-pub(crate) fn append_image(
+/// What `read` writes of the image with a number, counted from 1: the block of its reading, or the
+/// line of its fault.
+pub fn image_text(
     alloc: Global,
     election: &Election,
     plans: &CardPlans,
     number: u64,
     page: &BitView<'_>,
-    into: &mut Bytes,
-) -> Result<(), OutOfMemory>
+) -> Result<Bytes, OutOfMemory>
     requires election { IsValid election.now }
     requires plans { ArePlansOf election.now plans.now }
-    ensures ok { OnOk result (into.new ≡ into.old ++ image_text election.now number page.now) }
-    ensures err { OnErr result (into.new ≡ into.old) }
+    ensures { IfOk result (λ text. text ≡ image_text_of election.now number page.now) }
 {
     let mut text = String::new(alloc);
     push_image(alloc, &mut text, election, plans, number, page)?;
-    into.extend_from_slice(text.as_bytes())
+    Ok(Bytes::from_vec(text.into_bytes()))
 }
