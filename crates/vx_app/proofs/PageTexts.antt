@@ -15,7 +15,7 @@ use Rattle.vx_code.specs.Code.{IsInRange}
 use Rattle.vx_scan_model.specs.Printed.{code_of}
 use Rattle.vx_scan_model.proofs.Printed.{planned-IsNumbered, IsNumbered-IsInRange}
 use Rattle.vx_io.specs.Outside.{Took, TookFront}
-use Rattle.vx_io.proofs.Laws.{Took-append, TookFront-append, TookFront-longer}
+use Rattle.vx_io.proofs.Laws.{TookFront-append, TookFront-longer}
 use Rattle.vx_app.specs.Outcome.{Act, text_of}
 use Rattle.vx_app.specs.Printing.{printed_page}
 

@@ -1,5 +1,5 @@
 -- Laws of plans that are made card after card.
-use Rattle.std.proofs.Common.{◌≡◌, ℕ, zero, suc, ◌+◌, ◌<◌, ◌≤◌, ◌++◌, ◌∷◌, [], List, length, get_or, Bool, false, Option, Some, None, Result, Ok, Err, ap, ap₂, sym, subst, ◌∙◌, refl, arith, inl, inr, add-one}
+use Rattle.std.proofs.Common.{◌≡◌, ℕ, zero, suc, ◌+◌, ◌<◌, ◌≤◌, ◌++◌, ◌∷◌, [], List, length, get_or, false, Option, Some, None, Ok, Err, ap, ap₂, sym, ◌∙◌, refl, arith, inl, inr}
 use Rattle.std.specs.List.{range_with_len}
 use Rattle.std.proofs.lemmas.Bool.{cases_lt}
 use Rattle.std.proofs.lemmas.List.{length-append, get_or_append_left, get_or-append-add}
@@ -9,7 +9,6 @@ use Rattle.vx_layout.specs.declared.plan.CardPlan.{CardPlan}
 use Rattle.vx_layout.specs.declared.fault.LayoutFault.{LayoutFault}
 use Rattle.vx_layout.specs.declared.fault.LayoutFault.TheVariants as layout
 use Rattle.vx_layout.specs.Plan.{plan_of, Answers}
-use Rattle.vx_scan_model.specs.Reading.{ArePlansOf}
 use Rattle.vx_app.specs.declared.status.Status.{Status}
 use Rattle.vx_app.specs.declared.status.Status.TheVariants as answer
 use Rattle.vx_app.specs.Outcome.{Outcome, stopped, breaks_off}

@@ -1,5 +1,5 @@
 -- Laws of outcomes: no command appends a record, and words have one outcome.
-use Rattle.std.proofs.Common.{◌≡◌, ◌+◌, ◌++◌, ℕ, Bool, false, List, [], ◌∷◌, map, length, drop, Option, Some, None, Result, Ok, Err, IfSome, refl, sym, ap, subst, ◌∙◌, get_or}
+use Rattle.std.proofs.Common.{◌≡◌, ◌+◌, ◌++◌, ℕ, Bool, List, [], ◌∷◌, map, length, drop, Option, Some, None, Result, Ok, Err, refl, ap, ◌∙◌, get_or}
 use Rattle.std.specs.List.{flat_map, range_with_len}
 use Rattle.vx_plane.specs.Plane.{Page}
 use Rattle.vx_styles.specs.Cards.{cards_of}
@@ -16,13 +16,10 @@ use Rattle.vx_io.specs.Outside.{Files}
 use Rattle.vx_app.specs.declared.command.Command.{Command}
 use Rattle.vx_app.specs.declared.command.Command.TheVariants.{Print, Read}
 use Rattle.vx_app.specs.declared.status.Status.{Status}
-use Rattle.vx_app.specs.declared.status.Status.TheVariants.{NoMemory}
 use Rattle.vx_app.specs.Command.{Spells}
-use Rattle.vx_app.specs.Outcome.{Outcome, records_of, stopped, goes_on, input_of, election_in, breaks_off}
+use Rattle.vx_app.specs.Outcome.{Outcome, records_of, goes_on, input_of, election_in}
 use Rattle.vx_app.specs.Printing.{page_act, card_outcome, print_outcome}
 use Rattle.vx_app.specs.Work.{outcome_of}
-use Rattle.vx_app.specs.Stop.{layout_status_of}
-use Rattle.vx_app.specs.Print.{Gives, IsWritten}
 use Rattle.vx_app.proofs.Commands.{same_card, same_kind, not_both}
 
 pages_append_nothing : (election : Election) (kind : Kind) (test : Bool) (card : ℕ) (pages : List PagePlan) → flat_map records_of (map (page_act election kind test card) pages) ≡ []

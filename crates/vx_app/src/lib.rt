@@ -25,3 +25,6 @@ pub use top::run;
 
 #[cfg(test)]
 mod tests;
+
+#[cfg(test)]
+mod scan_tests;

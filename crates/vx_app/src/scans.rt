@@ -12,11 +12,10 @@ ghost use Rattle.vx_app.specs.declared.command.Command.TheVariants as CommandOf;
 
 use crate::causes::{pbm_status, stop_status, taking_status};
 use crate::pages::Stop;
-use crate::reading_text::append_image;
+use crate::reading_text::image_text;
 use crate::status::Status;
 use crate::taking::INPUT_LIMIT;
 use std::alloc::Global;
-use vx_bits::Bytes;
 use vx_election::Election;
 use vx_io::{Inputs, Sink, Words, give, take};
 use vx_layout::CardPlans;
@@ -38,8 +37,7 @@ fn read_image<S: Sink>(
     ensures later { S.faults out.old ≤ S.faults out.new }
     ensures cause { IfErr result (HasStopCause (S.faults out.old) (S.faults out.new)) }
 {
-    let mut text = Bytes::new(alloc);
-    append_image(alloc, election, plans, number, &image.view(), &mut text)?;
+    let text = image_text(alloc, election, plans, number, &image.view())?;
     give(out, text.as_slice())?;
     Ok(())
 }
