@@ -29,13 +29,13 @@ pub one_planned : (election : Election) (plans : List CardPlan) (card : ℕ) (pl
 one_planned election plans card plan before is = record {
   all = omega (arith, before.all, length-append plans (plan ∷ []));
   each = λ n d h.
-  elim (cases_lt n card) [
-    | inl earlier ↦ before.each n d earlier ∙ ap Ok (sym (get_or_append_left plans (plan ∷ []) d n (omega (arith, before.all))))
-    | inr last ↦
-        let here : n ≡ card = omega arith in
-        let at : n ≡ length plans + 0 = omega (arith, before.all) in
-        ap (plan_of election) here ∙ is ∙ ap Ok (sym (ap (λ i. get_or (plans ++ plan ∷ []) i d) at ∙ get_or-append-add plans (plan ∷ []) 0 d))
-  ];
+      elim (cases_lt n card) [
+        | inl earlier ↦ before.each n d earlier ∙ ap Ok (sym (get_or_append_left plans (plan ∷ []) d n (omega (arith, before.all))))
+        | inr last ↦
+            let here : n ≡ card = omega arith in
+            let at : n ≡ length plans + 0 = omega (arith, before.all) in
+            ap (plan_of election) here ∙ is ∙ ap Ok (sym (ap (λ i. get_or (plans ++ plan ∷ []) i d) at ∙ get_or-append-add plans (plan ∷ []) 0 d))
+      ];
 }
 
 -- where the cards from one on can all be planned, nothing stops
@@ -66,7 +66,7 @@ no_plan = record { card = 0; pages = []; hollow = 0 }
 pub all_planned : (election : Election) (plans : List CardPlan) (count card : ℕ) → count ≡ length (cards_of election) → card ≡ count → ArePlanned election plans card → PlansCards election (Ok plans)
 all_planned election plans count card counted whole planned = (
   record { all = omega (arith, planned.all, counted, whole); each = λ n d h. planned.each n d (omega (arith, planned.all)) },
-  λ outcome. ap (λ (s : Option Status). unless_stopped s outcome) (go_on election 0 (length (cards_of election)) (λ k low high. (get_or plans k no_plan, planned.each k no_plan (omega (arith, counted, whole)))))
+  λ outcome. ap (λ (s : Option Status). unless_stopped s outcome) (go_on election 0 (length (cards_of election)) (λ k low high. (get_or plans k no_plan, planned.each k no_plan (omega (arith, counted, whole))))),
 )
 
 stopping : (election : Election) (plans : List CardPlan) (count card : ℕ) (fault : LayoutFault) → count ≡ length (cards_of election) → card < count → ArePlanned election plans card → plan_of election card ≡ Err fault → (outcome : Outcome) → breaks_off (answer.Layout card fault) ≡ false → once_planned election outcome ≡ stopped (answer.Layout card fault)

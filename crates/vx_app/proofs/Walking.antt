@@ -242,19 +242,19 @@ module _ (election : Election) (words : List (List ℕ)) (told : Option Files) (
       behind_two = omega (arith, before.behind_two);
       few = omega (arith, before.few, before.behind_two, short, fits);
       left = λ files is.
-      let left = before.left files is in
-      let acts : List Act = image_acts election number (images_of bytes).pages in
-      let Took_of : List ℕ → Type 0 = λ t. Took taken taken_then t in
-      record {
-        acts = left.acts ++ acts;
-        is =
-          left.is
-          ∙ ap (after left.acts) (given files is
-          ∙ ap (λ (f : Option PbmFault). after acts (unless_faulty word f (scans_outcome election files (word + 1) (number + length (images_of bytes).pages) (drop (word + 1) words)))) read.1
-          ∙ ap (λ n. after acts (scans_outcome election files (word + 1) n (drop (word + 1) words))) (sym read.0))
-          ∙ after_both left.acts acts _;
-        took = subst Took_of (sym (flat_map-append text_of left.acts acts)) (Took-append taken taken_now taken_then _ _ left.took read.2);
-      };
+          let left = before.left files is in
+          let acts : List Act = image_acts election number (images_of bytes).pages in
+          let Took_of : List ℕ → Type 0 = λ t. Took taken taken_then t in
+          record {
+            acts = left.acts ++ acts;
+            is =
+                left.is
+                ∙ ap (after left.acts) (given files is
+                ∙ ap (λ (f : Option PbmFault). after acts (unless_faulty word f (scans_outcome election files (word + 1) (number + length (images_of bytes).pages) (drop (word + 1) words)))) read.1
+                ∙ ap (λ n. after acts (scans_outcome election files (word + 1) n (drop (word + 1) words))) (sym read.0))
+                ∙ after_both left.acts acts _;
+            took = subst Took_of (sym (flat_map-append text_of left.acts acts)) (Took-append taken taken_now taken_then _ _ left.took read.2);
+          };
     }
 
 -- all scans are read

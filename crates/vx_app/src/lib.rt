@@ -24,7 +24,8 @@ pub use status::Status;
 pub use top::run;
 
 #[cfg(test)]
-mod tests;
-
+mod read_tests;
 #[cfg(test)]
 mod scan_tests;
+#[cfg(test)]
+mod tests;

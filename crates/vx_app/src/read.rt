@@ -42,12 +42,7 @@ fn read_planned<I: Inputs, S: Sink>(
 
 /// Does the command `read`: takes the election under its name, plans all its cards, and writes what
 /// each image of the scans is read as, or its fault.
-pub fn read<I: Inputs, S: Sink>(
-    alloc: Global,
-    words: &Words,
-    inputs: &mut I,
-    out: &mut S,
-) -> Status
+pub fn read<I: Inputs, S: Sink>(alloc: Global, words: &Words, inputs: &mut I, out: &mut S) -> Status
     requires some { 1 < length words.now }
     requires few { length words.now ≤ 66 }
     ensures written { IfSome (I.held inputs.old) (λ files.

@@ -1,7 +1,6 @@
 use Rattle.std.proofs.Common.{◌≡◌, ◌≤◌, ◌+◌, subst, length, arith, rules, List, Err}
 use Rattle.vx_styles.specs.Cards.{cards_of}
 use Rattle.vx_layout.specs.declared.plan.CardPlan.{CardPlan}
-
 use Rattle.vx_app.specs.Read.{PlansCards}
 use Rattle.vx_layout.proofs.Cards.{few-cards}
 use Rattle.vx_app.proofs.Planned.{ArePlanned, one_planned, all_planned, card_stops}

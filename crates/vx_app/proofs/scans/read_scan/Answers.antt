@@ -39,8 +39,7 @@ images-preserved g c =
     let Exact : Option Page → Type 0 = λ found. Steps c.images.reader (Ok found) c.next.new.self in
     let exact : next_of c.images.reader ≡ Ok (Some (c.in-Ok-Some.image, c.next.new.self)) = subst Exact c.in-Ok-Some.field-0-is c.in-Ok-Some.ensures.exact in
     let Left : Option Page → Type 0 = λ found. Walks c.images.reader (Ok found) c.next.new.self in
-    let left : images_left c.images.reader ≡ with_page c.in-Ok-Some.image (images_left c.next.new.self) = subst Left c.in-Ok-Some.field-0-is c.in-Ok-Some.ensures.images in
-    (
-  one_read c.args.election.now c.args.bytes.now c.args.first _ _ _ c.images.reader c.next.new.self c.images.number _ c.images.invariant.0 exact left c.in-Ok.ensures.written,
-  omega (arith, c.images.invariant.1, c.read_image.ensures.later)
-)
+    let left : images_left c.images.reader ≡ with_page c.in-Ok-Some.image (images_left c.next.new.self) = subst Left c.in-Ok-Some.field-0-is c.in-Ok-Some.ensures.images in (
+      one_read c.args.election.now c.args.bytes.now c.args.first _ _ _ c.images.reader c.next.new.self c.images.number _ c.images.invariant.0 exact left c.in-Ok.ensures.written,
+      omega (arith, c.images.invariant.1, c.read_image.ensures.later),
+    )
