@@ -60,16 +60,3 @@ painted-cut_line page line n l beyond =
 pub painted-whole_line : (page : Page) (line : TextLine) (n : ℕ) → n ≡ length (chars line.text) → painted page (in_any n (character_pixels line)) ≡ painted page (line_pixels line)
 unfolding line_pixels
 painted-whole_line page line n e = ap (λ k. painted page (in_any k (character_pixels line))) e
-
-is_one : (n : ℕ) → n ≡ 1 → n == 1 ≡ true
-is_one n h = grind (arith, nat_tests)
-
-is_none : (n : ℕ) → (n ≡ 1 → ⊥) → n == 1 ≡ false
-is_none n h = grind (arith, nat_tests)
-
--- a dot is dark where its bit, shifted down, is 1
-pub dark_bit : (bits row : ℕ) → bit_and (bits / 2 ^ row) 1 ≡ 1 → bit_at bits row == 1 ≡ true
-dark_bit bits row h = is_one (bit_at bits row) (sym (shr_and_one bits row) ∙ h)
-
-pub light_bit : (bits row : ℕ) → (bit_and (bits / 2 ^ row) 1 ≡ 1 → ⊥) → bit_at bits row == 1 ≡ false
-light_bit bits row h = is_none (bit_at bits row) (λ e. h (shr_and_one bits row ∙ e))
