@@ -1,12 +1,13 @@
 -- Laws of the runs of dots in a column.
-use Rattle.std.proofs.Common.{◌≡◌, ℕ, zero, suc, ◌+◌, ◌-◌, ◌*◌, ◌/◌, ◌%◌, ◌^◌, ◌==◌, ◌<◌, ◌≤◌, ◌⊎◌, ⊎_elim, Bool, true, false, cond, ◌||◌, ℤ, pos, ◌+ℤ◌, w32, refl, div-le_self, ap, ap₂, sym, ◌∙◌, arith}
+use Rattle.std.proofs.Common.{◌≡◌, ℕ, zero, suc, ◌+◌, ◌-◌, ◌*◌, ◌/◌, ◌%◌, ◌^◌, ◌==◌, ◌<◌, ◌≤◌, ⊎_elim, Bool, false, cond, ◌||◌, ℤ, pos, w32, div-le_self, ap, ap₂, sym, ◌∙◌, arith}
+use Rattle.std.proofs.Math.Bool.{or-false, or_assoc}
 use Rattle.std.specs.Int.{bit_at, trailing_zeros, trailing_ones}
 use Rattle.std.proofs.lemmas.Bool.{cases_lt}
 use Rattle.std.proofs.lemmas.Int.{ints}
 use Rattle.std.proofs.lemmas.Nat.{shr-shr}
 use Rattle.std.proofs.lemmas.Nat.Bits.{bit_at-zero, bit_at_above, bit_at-trailing_zeros, bit_at-trailing_ones}
 use Rattle.vx_plane.specs.Plane.{Pixels, Page, rectangle, nowhere, union, painted, in_any}
-use Rattle.vx_plane.proofs.Pages.{in_any-more, painted-same, painted-union}
+use Rattle.vx_plane.proofs.Pages.{painted-same, painted-union}
 use Rattle.vx_raster.specs.Dots.{bit_pixels, IsFirstRun}
 
 -- a bit of a number that is shifted down
@@ -44,14 +45,6 @@ first_run-counted n light dark some seven is_light is_dark =
     (ap (λ i. bit_at (n / 2 ^ light) i) is_dark ∙ ones.1)
     (λ i h. ones.2 i (omega arith))
 
-or_false : (a : Bool) → a || false ≡ a
-or_false true = refl
-or_false false = refl
-
-or_assoc : (a b c : Bool) → (a || b) || c ≡ a || (b || c)
-or_assoc true b c = refl
-or_assoc false b c = refl
-
 -- light dots have no place
 in_any-lights : (bits x y top n : ℕ) (u v : ℤ) → ((i : ℕ) → i < n → bit_at bits (top + i) ≡ 0) → in_any (top + n) (bit_pixels bits x y) u v ≡ in_any top (bit_pixels bits x y) u v
 in_any-lights bits x y top zero u v lights =
@@ -63,7 +56,7 @@ in_any-lights bits x y top (suc n) u v lights =
     ap (λ b. cond (b == 1) (rectangle (pos x) (pos (y + 2 * (top + n))) 2 2) nowhere u v) (lights n (omega arith)) in
     ap (λ k. in_any k (bit_pixels bits x y) u v) e
     ∙ (ap₂ (λ (a b : Bool). a || b) (in_any-lights bits x y top n u v (λ i h. lights i (omega arith))) light
-    ∙ or_false (in_any top (bit_pixels bits x y) u v))
+    ∙ or-false (in_any top (bit_pixels bits x y) u v))
 
 no_rows : (x y : ℕ) (u v : ℤ) → rectangle (pos x) (pos y) 2 0 u v ≡ false
 no_rows x y u v = grind (arith, ints)
@@ -76,7 +69,7 @@ in_any-darks : (bits x y top n : ℕ) (u v : ℤ) → ((i : ℕ) → i < n → b
 in_any-darks bits x y top zero u v darks =
     let e : top + 0 ≡ top = omega arith in
     ap (λ k. in_any k (bit_pixels bits x y) u v) e
-    ∙ sym (ap (λ (t : Bool). in_any top (bit_pixels bits x y) u v || t) (no_rows x (y + 2 * top) u v) ∙ or_false (in_any top (bit_pixels bits x y) u v))
+    ∙ sym (ap (λ (t : Bool). in_any top (bit_pixels bits x y) u v || t) (no_rows x (y + 2 * top) u v) ∙ or-false (in_any top (bit_pixels bits x y) u v))
 in_any-darks bits x y top (suc n) u v darks =
     let e : top + suc n ≡ suc (top + n) = omega arith in
     let dark : bit_pixels bits x y (top + n) u v ≡ rectangle (pos x) (pos (y + 2 * (top + n))) 2 2 u v =

@@ -1,4 +1,4 @@
-use Rattle.std.proofs.Common.{◌≡◌, ◌+◌, ◌/◌, ◌^◌, ap, ◌∙◌}
+use Rattle.std.proofs.Common.{◌+◌, ◌/◌, ◌^◌, ap, ◌∙◌}
 use Rattle.std.proofs.lemmas.Nat.{shr-shr}
 use Rattle.vx_raster.proofs.Runs.{painted-run, run-within, painted-column}
 use Rattle.vx_raster.proofs.text.paint_column.Goals as goal
