@@ -1,10 +1,8 @@
 -- Laws of lines of text.
-use Rattle.std.proofs.Common.{◌≡◌, ℕ, zero, suc, ◌+◌, ◌*◌, ◌/◌, ◌^◌, ◌==◌, bit_and, ◌<◌, ◌≤◌, List, length, get_or, chars, Bool, true, false, cond, ◌||◌, ⊎_elim, ◌⊎◌, inl, inr, ℤ, pos, ◌<ℤ◌, refl, ap, ap₂, sym, ◌∙◌, arith}
+use Rattle.std.proofs.Common.{◌≡◌, ℕ, zero, suc, ◌+◌, ◌*◌, ◌<◌, ◌≤◌, length, get_or, chars, Bool, true, false, cond, ◌||◌, ⊎_elim, inl, ℤ, pos, ◌<ℤ◌, refl, ap, ap₂, sym, ◌∙◌, arith}
+use Rattle.std.proofs.Math.Bool.{or-false}
 use Rattle.std.proofs.lemmas.Bool.{cases_lt}
-use Rattle.std.specs.Int.{bit_at}
-use Rattle.std.proofs.lemmas.Bool.Decides.{nat_tests}
 use Rattle.std.proofs.lemmas.Int.{ints}
-use Rattle.std.proofs.lemmas.Nat.Bits.{shr_and_one}
 use Rattle.std.proofs.lemmas.List.{get_or_default}
 use Rattle.vx_plane.specs.Plane.{Pixels, Page, rectangle, nowhere, painted, in_any}
 use Rattle.vx_plane.proofs.Pages.{painted-same, rectangle-outside}
@@ -22,17 +20,13 @@ in_any-none : (n : ℕ) (family : ℕ → Pixels) (u v : ℤ) → ((k : ℕ) →
 in_any-none zero family u v none = refl
 in_any-none (suc n) family u v none = ap₂ (λ (a b : Bool). a || b) (in_any-none n family u v none) (none n)
 
-or_false : (a : Bool) → a || false ≡ a
-or_false true = refl
-or_false false = refl
-
 -- the sets of a family from one on don't have a place
 in_any-rest : (n m : ℕ) (family : ℕ → Pixels) (u v : ℤ) → n ≤ m → ((k : ℕ) → n ≤ k → family k u v ≡ false) → in_any n family u v ≡ in_any m family u v
 in_any-rest n zero family u v le none = let e : n ≡ 0 = omega arith in ap (λ k. in_any k family u v) e
 in_any-rest n (suc m) family u v le none =
     ⊎_elim
     (λ (before : n < suc m).
-    sym (ap (λ (t : Bool). in_any m family u v || t) (none m (omega arith)) ∙ or_false (in_any m family u v) ∙ sym (in_any-rest n m family u v (omega arith) none)))
+    sym (ap (λ (t : Bool). in_any m family u v || t) (none m (omega arith)) ∙ or-false (in_any m family u v) ∙ sym (in_any-rest n m family u v (omega arith) none)))
     (λ (last : suc m ≤ n). let e : n ≡ suc m = omega arith in ap (λ k. in_any k family u v) e)
     (cases_lt n (suc m))
 
@@ -60,16 +54,3 @@ painted-cut_line page line n l beyond =
 pub painted-whole_line : (page : Page) (line : TextLine) (n : ℕ) → n ≡ length (chars line.text) → painted page (in_any n (character_pixels line)) ≡ painted page (line_pixels line)
 unfolding line_pixels
 painted-whole_line page line n e = ap (λ k. painted page (in_any k (character_pixels line))) e
-
-is_one : (n : ℕ) → n ≡ 1 → n == 1 ≡ true
-is_one n h = grind (arith, nat_tests)
-
-is_none : (n : ℕ) → (n ≡ 1 → ⊥) → n == 1 ≡ false
-is_none n h = grind (arith, nat_tests)
-
--- a dot is dark where its bit, shifted down, is 1
-pub dark_bit : (bits row : ℕ) → bit_and (bits / 2 ^ row) 1 ≡ 1 → bit_at bits row == 1 ≡ true
-dark_bit bits row h = is_one (bit_at bits row) (sym (shr_and_one bits row) ∙ h)
-
-pub light_bit : (bits row : ℕ) → (bit_and (bits / 2 ^ row) 1 ≡ 1 → ⊥) → bit_at bits row == 1 ≡ false
-light_bit bits row h = is_none (bit_at bits row) (λ e. h (shr_and_one bits row ∙ e))

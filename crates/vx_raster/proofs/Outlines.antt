@@ -1,11 +1,10 @@
 -- The rectangles of the outline of a bubble are its outline.
 use Rattle.std.proofs.Common.{◌≡◌, ℕ, ◌+◌, ◌-◌, ◌<◌, ◌≤◌, List, [], ◌∷◌, Bool, true, false, ◌&&◌, ◌||◌, not, nat_le, ◌⊎◌, inl, inr, ℤ, pos, negsuc, ◌+ℤ◌, ◌-ℤ◌, int_le, int_lt, ◌<ℤ◌, ◌≤ℤ◌, refl, ap, ap₂, sym, ◌∙◌, arith}
-use Rattle.std.proofs.lemmas.Bool.{cases_lt}
+use Rattle.std.proofs.lemmas.Bool.{cases_lt, and_parts}
 use Rattle.std.proofs.lemmas.Bool.Decides.{nat_tests}
 use Rattle.std.proofs.lemmas.Int.{ints}
-use Rattle.vx_plane.specs.Plane.{Pixels, Page, rows_of, page_of, dark_at, rectangle, any_of, placed}
-use Rattle.vx_plane.proofs.Pages.{dark_at-inside, rectangle-outside}
-use Rattle.vx_grid.specs.Grid.{x_of, y_of}
+use Rattle.vx_plane.specs.Plane.{Page, rows_of, page_of, dark_at, rectangle, any_of, placed}
+use Rattle.vx_plane.proofs.Pages.{dark_at-inside}
 use Rattle.vx_layout.specs.Print.{ellipse, bubble_box, outline}
 use Rattle.vx_raster.specs.declared.stamp.Patch.{Patch}
 use Rattle.vx_raster.specs.declared.outline.TheConstants.{OUTLINE}
@@ -47,17 +46,13 @@ unfolding rows_of outline
 same_pages = refl
 
 -- outside of it both have no place
-both : (a b : Bool) → a && b ≡ true → (a ≡ true) × (b ≡ true)
-both true b h = (refl, h)
-both false b h = absurd (cc)
-
 patch-outside : (width height : ℕ) (patch : Patch) (a b : ℤ) → nat_le (patch.left + patch.width) width && nat_le (patch.top + patch.height) height ≡ true → IsOutside width height a b → patch_pixels 0 0 patch a b ≡ false
 patch-outside width height patch a b within out = grind (arith, ints, nat_tests)
 
 shape-outside : (width height : ℕ) (shape : List Patch) (a b : ℤ) → fits width height shape ≡ true → IsOutside width height a b → any_of shape (patch_pixels 0 0) a b ≡ false
 shape-outside width height [] a b within out = refl
 shape-outside width height (patch ∷ rest) a b within out =
-    let parts : (nat_le (patch.left + patch.width) width && nat_le (patch.top + patch.height) height ≡ true) × (fits width height rest ≡ true) = both _ _ within in
+    let parts : (nat_le (patch.left + patch.width) width && nat_le (patch.top + patch.height) height ≡ true) × (fits width height rest ≡ true) = and_parts _ _ within in
     ap₂ (λ (p q : Bool). p || q)
     (patch-outside width height patch a b parts.0 out)
     (shape-outside width height rest a b parts.1 out)

@@ -1,5 +1,6 @@
 -- Laws of painting one shape after the other.
 use Rattle.std.proofs.Common.{◌≡◌, ℕ, ◌+◌, ◌<◌, List, length, take, get_or, Bool, true, false, cond, ◌||◌, ℤ, pos, refl, ap, sym, ◌∙◌}
+use Rattle.std.proofs.Math.Bool.{or-false}
 use Rattle.vx_plane.specs.Plane.{Pixels, Page, page_of, dark_at, nowhere, union, painted, in_any, any_of}
 use Rattle.vx_plane.proofs.Pages.{page_of-same, dark_at-inside, painted-union, in_any-more, painted-none, painted-same, painted-any_of_more, painted-in_any_more}
 
@@ -21,17 +22,13 @@ painted-next_of_family start before after n family so_far next =
     ∙ (ap (λ (p : Page). painted p (family n)) so_far
     ∙ sym (painted-in_any_more start n family))
 
-or_false : (a : Bool) → a || false ≡ a
-or_false true = refl
-or_false false = refl
-
 -- a shape of a family that has no place
 pub painted-none_of_family : (start : Page) (n : ℕ) (family : ℕ → Pixels) → ((u v : ℤ) → family n u v ≡ false) → painted start (in_any n family) ≡ painted start (in_any (n + 1) family)
 painted-none_of_family start n family none =
     painted-same start _ _ (λ x y l h.
     sym (in_any-more n family (pos x) (pos y)
     ∙ (ap (λ (t : Bool). in_any n family (pos x) (pos y) || t) (none (pos x) (pos y))
-    ∙ or_false (in_any n family (pos x) (pos y)))))
+    ∙ or-false (in_any n family (pos x) (pos y)))))
 
 -- the shapes of a family that are there where a test says so
 abbrev pub chosen : (ℕ → Bool) → (ℕ → Pixels) → ℕ → Pixels

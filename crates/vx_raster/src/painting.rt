@@ -15,7 +15,8 @@ use vx_election::Election;
 use vx_grid::{PAGE_HEIGHT, PAGE_WIDTH};
 use vx_layout::PagePlan;
 
-/// The printed page of a plan with the boxes of its code: 1700 by 2200 pixels.
+/// The printed page of a plan with the boxes of its code: 1700 by 2200 pixels. What the plan puts off
+/// the page is left out.
 pub fn paint(
     alloc: Global,
     _election: &Election,

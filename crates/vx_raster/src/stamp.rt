@@ -19,10 +19,15 @@ pub(crate) fn stamp(page: &mut BitPage, x: u64, y: u64, shape: &[Patch])
     requires y { y < 2 ^ 40 }
     ensures { page.new ≡ painted page.old (any_of shape.now (patch_pixels x y)) }
 {
-    // A page that nothing was painted on yet is whole too.
+    // `width` says that a page is what its dark places make: the loop begins with that.
     let _columns = page.width();
     for patch in shape {
-        let Patch { left, top, width, height } = *patch;
+        let Patch {
+            left,
+            top,
+            width,
+            height,
+        } = *patch;
         page.darken(x + u64::from(left), y + u64::from(top), width, height);
     }
 }

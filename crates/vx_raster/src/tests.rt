@@ -14,8 +14,18 @@ const TOWN: &str =
 // A page with a bubble and a line, and with a bubble and a line that lie off the page.
 fn plan_of(alloc: Global, election: &Election) -> Result<PagePlan, Fail> {
     let bubbles = vec![in alloc;
-        Bubble { contest: 0, option: 0, col: 4, row: 8 },
-        Bubble { contest: 0, option: 1, col: u32::MAX, row: u32::MAX },
+        Bubble {
+            contest: 0,
+            option: 0,
+            col: 4,
+            row: 8
+        },
+        Bubble {
+            contest: 0,
+            option: 1,
+            col: u32::MAX,
+            row: u32::MAX
+        },
     ]?;
     let near = TextLine {
         x: 290,

@@ -1,32 +1,38 @@
 ghost use Rattle.std.specs.Prelude.{◌≡◌, ◌<◌, ◌^◌};
 ghost use Rattle.vx_plane.specs.Plane.{painted, any_of, in_any};
 ghost use Rattle.vx_layout.specs.Print.{glyph_pixels, line_pixels};
-ghost use Rattle.vx_raster.specs.Dots.{bit_pixels};
+ghost use Rattle.vx_raster.specs.Dots.{bit_pixels, IsFirstRun};
 
-use crate::stamp::{Patch, stamp};
 use vx_bits::BitPage;
 use vx_font::dots;
 use vx_layout::TextLine;
 
-/// A dot of a glyph.
-static DOT: [Patch; 1] = [Patch {
-    left: 0,
-    top: 0,
-    width: 2,
-    height: 2,
-}];
+/// The first run of dark dots of a column, bit 0 at the top: how many light dots stand before it,
+/// and how many dots it has.
+fn first_run(bits: u32) -> (u32, u32)
+    requires some { 0 < bits }
+    requires seven { bits < 2 ^ 7 }
+    ensures { IsFirstRun bits result.0 result.1 }
+{
+    let light = bits.trailing_zeros();
+    let dark = (bits >> light).trailing_ones();
+    (light, dark)
+}
 
-/// Paints the dots of a glyph's column, bit 0 at the top.
+/// Paints the dots of a glyph's column, 2 by 2 pixels each, run after run from the top.
 fn paint_column(page: &mut BitPage, x: u64, y: u64, bits: u8)
-    requires x { x < 2 ^ 34 }
     requires y { y < 2 ^ 34 }
+    requires seven { bits < 2 ^ 7 }
     ensures { page.new ≡ painted page.old (in_any 7 (bit_pixels bits x y)) }
 {
     let _columns = page.width();
-    for row in 0..7 {
-        if (bits >> row) & 1 == 1 {
-            stamp(page, x, y + 2 * row, &DOT);
-        }
+    let mut rest = u32::from(bits);
+    let mut top = 0;
+    while rest != 0 {
+        let (light, dark) = first_run(rest);
+        page.darken(x, y + 2 * u64::from(top + light), 2, 2 * dark);
+        top += light + dark;
+        rest >>= light + dark;
     }
 }
 

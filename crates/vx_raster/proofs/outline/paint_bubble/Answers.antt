@@ -1,4 +1,4 @@
-use Rattle.std.proofs.Common.{◌-◌, ◌∙◌, arith, pos}
+use Rattle.std.proofs.Common.{◌∙◌, arith, pos}
 use Rattle.vx_plane.proofs.Pages.{painted-same}
 use Rattle.vx_grid.specs.Grid.{x_of, y_of}
 use Rattle.vx_layout.specs.Print.{bubble_pixels}

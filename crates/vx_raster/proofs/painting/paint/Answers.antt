@@ -1,5 +1,4 @@
-use Rattle.std.proofs.Common.{◌≡◌, ap, ◌∙◌}
-use Rattle.vx_plane.specs.Plane.{Page, page_of, nowhere, painted, any_of}
+use Rattle.vx_plane.specs.Plane.{any_of}
 use Rattle.vx_grid.specs.Marks.{timing_marks}
 use Rattle.vx_code.specs.Code.{boxes_of}
 use Rattle.vx_layout.specs.Print.{code_pixels, bubble_pixels, line_pixels, print_of}
