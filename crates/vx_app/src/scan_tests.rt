@@ -67,10 +67,18 @@ fn tag_on(election: &Election, is_other: bool) -> u32
     }
 }
 
-/// A page of the town as it is printed.
-fn paint_page(alloc: Global, painted: Painted) -> Result<BitPage, Fail> {
-    let election = read_election(alloc, TOWN.as_bytes()).map_err(|_| "no election")?;
-    let plan = plan_card(alloc, &election, 0).map_err(|_| "no plan")?;
+/// The town's election.
+fn town(alloc: Global) -> Result<Election, Fail>
+    ensures { IfOk result IsValid }
+{
+    Ok(read_election(alloc, TOWN.as_bytes()).map_err(|_| "no election")?)
+}
+
+/// A page of the first card of an election as it is printed.
+fn paint_card_page(alloc: Global, election: &Election, painted: Painted) -> Result<BitPage, Fail>
+    requires { IsValid election.now }
+{
+    let plan = plan_card(alloc, election, 0).map_err(|_| "no plan")?;
     let page = plan.pages.as_slice().get(painted.page).ok_or("no page")?;
     let code = PageCode {
         version: 1,
@@ -78,14 +86,20 @@ fn paint_page(alloc: Global, painted: Painted) -> Result<BitPage, Fail> {
         kind: Kind::Precinct,
         card: painted.card % 1024,
         page: painted.number % 64,
-        tag: tag_on(&election, painted.is_other),
+        tag: tag_on(election, painted.is_other),
     };
-    Ok(paint(alloc, &election, page, &code)?)
+    Ok(paint(alloc, election, page, &code)?)
+}
+
+/// A page of the town as it is printed.
+fn paint_page(alloc: Global, painted: Painted) -> Result<BitPage, Fail> {
+    let election = town(alloc)?;
+    paint_card_page(alloc, &election, painted)
 }
 
 /// What `read` writes of a scan of the town, as image 1.
 fn read(alloc: Global, scan: &BitPage) -> Result<Bytes, Fail> {
-    let election = read_election(alloc, TOWN.as_bytes()).map_err(|_| "no election")?;
+    let election = town(alloc)?;
     let plans = plans_of(alloc, &election)?;
     Ok(image_text(alloc, &election, &plans, 1, &scan.view())?)
 }
