@@ -19,7 +19,7 @@ fn page_with_marks(
         let left = (40 + 48 * column.min(33)).saturating_add(right);
         let top = (54 + 52 * row.min(40)).saturating_add(down);
         if left <= 4000 && top <= 4000 && left + 36 <= page.width() && top + 12 <= page.height() {
-            page.darken(left, top, 36, 12);
+            page.darken(left.into(), top.into(), 36, 12);
         }
     }
     Ok(page)

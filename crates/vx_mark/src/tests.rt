@@ -19,8 +19,8 @@ fn scan(alloc: Global, u: u32, v: u32, other_u: u32, other_v: u32) -> Result<Cou
     requires other_bottom { other_v ≤ 190 }
 {
     let mut page = BitPage::new(alloc, 400, 200)?;
-    page.darken(u - 18, v - 6, 36, 12);
-    page.darken(other_u - 18, other_v - 6, 36, 12);
+    page.darken(u64::from(u - 18), u64::from(v - 6), 36, 12);
+    page.darken(u64::from(other_u - 18), u64::from(other_v - 6), 36, 12);
     Ok(Counter::new(alloc, &page.view())?)
 }
 
