@@ -1,5 +1,5 @@
 -- Laws of packed pixels that are made dark eight at a time.
-use Rattle.std.proofs.Common.{◌≡◌, ◌≢◌, ◌⊎◌, ℕ, ◌+◌, ◌-◌, ◌*◌, ◌/◌, ◌%◌, ◌^◌, ◌<◌, ◌≤◌, ◌==◌, ◌&&◌, ◌||◌, min, max, nat_le, nat_lt, Bool, true, false, List, length, get_or, set, bit_or, ap, ap₂, sym, subst, ◌∙◌, refl, inl, inr, pos, arith, get_or-set_same, get_or-set_other, pow_mono, mul-le-mul}
+use Rattle.std.proofs.Common.{◌≡◌, ◌≢◌, ◌⊎◌, ℕ, ◌+◌, ◌-◌, ◌*◌, ◌/◌, ◌%◌, ◌^◌, ◌<◌, ◌≤◌, ◌==◌, ◌&&◌, ◌||◌, min, max, nat_le, nat_lt, Bool, true, false, List, length, get_or, set, bit_or, ap, ap₂, sym, subst, ◌∙◌, refl, inl, inr, pos, arith, get_or-set_same, get_or-set_other, length-set, pow_mono, mul-le-mul}
 use Rattle.std.specs.Int.{bit_at}
 use Rattle.std.proofs.lemmas.Bool.{cases_eq, cases_lt}
 use Rattle.std.proofs.lemmas.Int.{ints}
@@ -7,7 +7,7 @@ use Rattle.std.proofs.lemmas.Nat.Bits.{bit_at-lt, bit_at_or, bit_at_mask_inside,
 use Rattle.vx_plane.specs.Plane.{Page, rectangle, painted}
 use Rattle.vx_plane.specs.Count.{one_if}
 use Rattle.vx_plane.proofs.Pages.{page_of-same, dark_at-inside}
-use Rattle.vx_bits.specs.Packed.{stride_of, packed_pixel, packed_pixels, packed_page}
+use Rattle.vx_bits.specs.Packed.{stride_of, packed_pixel, packed_pixels, packed_page, IsMask}
 
 -- a power of 2 up to 256 as a shift of a number of 32 bits
 pub shifted : (n : ℕ) → n ≤ 8 → 1 * 2 ^ n % 4294967296 ≡ 2 ^ n
@@ -100,7 +100,7 @@ span y v a b size width left right u less same more wide inside order end =
       ]
     ]
 
-rows_apart : (y v size : ℕ) → v < y → v * size + size ≤ y * size
+pub rows_apart : (y v size : ℕ) → v < y → v * size + size ≤ y * size
 rows_apart y v size h = let most : (v + 1) * size ≤ y * size = mul-le-mul (omega arith) (omega arith) in omega arith
 
 -- filling a span of a row paints it
@@ -121,3 +121,45 @@ packed-fill_at width height left right y size before rows after whole page sized
     let down : height ≡ page.height = ap (λ (p : Page). p.height) e in
     ap (packed_page width height) new
     ∙ packed-fill width height left right y before after page e order (omega arith) (omega arith) (rw (sized, old) at filled)
+
+to_end : (old : Bool) (from to k n : ℕ) → to ≤ 8 * (k + 1) → (old || (nat_le from n && nat_lt n (min to (8 * (k + 1))))) ≡ (old || (nat_le from n && nat_lt n to))
+to_end true from to k n h = refl
+to_end false from to k n h = grind arith
+
+-- a byte with the bits of a mask besides fills a span that lies in it
+pub filled-byte : (rows : List ℕ) (base left right mask : ℕ) → base + left / 8 < length rows → left < right → right ≤ 8 * (left / 8) + 8 → ((i : ℕ) → i < 8 → bit_at mask (7 - i) ≡ one_if (nat_le (left % 8) i && nat_lt i (right - 8 * (left / 8)))) → (start x : ℕ) → packed_pixel (set rows (base + left / 8) (bit_or (get_or rows (base + left / 8) 0) mask)) start x ≡ (packed_pixel rows start x || (nat_le (8 * base + left) (8 * start + x) && nat_lt (8 * start + x) (8 * base + right)))
+filled-byte rows base left right mask inside order end bits start x =
+    let k : ℕ = base + left / 8 in
+    let first : (8 * base + left) / 8 ≡ k = omega arith in
+    let none : (s y : ℕ) → packed_pixel rows s y ≡ (packed_pixel rows s y || (nat_le (8 * base + left) (8 * s + y) && nat_lt (8 * s + y) (min (8 * base + right) (8 * k)))) = λ s y.
+    rw first at (filled-none rows (8 * base + left) (8 * base + right) s y) in
+    filled-more rows rows (8 * base + left) (8 * base + right) k (left % 8) (right - 8 * (left / 8)) mask inside (omega arith) (omega arith) (omega arith) (omega arith) bits none start x
+    ∙ to_end (packed_pixel rows start x) (8 * base + left) (8 * base + right) k (8 * start + x) (omega arith)
+
+-- the pixels before byte k are filled
+pub record Filled (rows before : List ℕ) (from to k : ℕ) : Type 0 where
+  pub size : length rows ≡ length before
+  pub pixels : (start x : ℕ) → packed_pixel rows start x ≡ (packed_pixel before start x || (nat_le from (8 * start + x) && nat_lt (8 * start + x) (min to (8 * k))))
+
+-- a byte that has its bits is filled besides
+pub Filled-more : (rows before after : List ℕ) (from to k first last mask : ℕ) → Filled rows before from to k → after ≡ set rows k (bit_or (get_or rows k 0) mask) → k < length before → from / 8 ≤ k → 8 * k < to → first ≡ from - 8 * k → last ≡ min (to - 8 * k) 8 → IsMask mask first last → Filled after before from to (k + 1)
+Filled-more rows before after from to k first last mask filled is inside low high f l bits =
+    let Now : List ℕ → Type 0 = λ r. Filled r before from to (k + 1) in
+    subst Now (sym is) (record {
+      size = omega (arith, filled.size, length-set rows k (bit_or (get_or rows k 0) mask));
+      pixels = filled-more rows before from to k first last mask (omega (arith, filled.size)) low high f l bits filled.pixels;
+    })
+
+-- before the first byte nothing is filled
+pub Filled-none : (before : List ℕ) (from to : ℕ) → Filled before before from to (from / 8)
+Filled-none before from to = record { size = refl; pixels = filled-none before from to }
+
+-- behind the last byte all is filled
+pub Filled-all : (rows before : List ℕ) (from to k : ℕ) → Filled rows before from to k → to ≤ 8 * k → (start x : ℕ) → packed_pixel rows start x ≡ (packed_pixel before start x || (nat_le from (8 * start + x) && nat_lt (8 * start + x) to))
+Filled-all rows before from to k filled past start x =
+    let most : min to (8 * k) ≡ to = omega arith in
+    filled.pixels start x ∙ ap (λ m. packed_pixel before start x || (nat_le from (8 * start + x) && nat_lt (8 * start + x) m)) most
+
+-- a whole byte
+pub whole_mask : IsMask 255 0 8
+whole_mask i h = mask_bit 0 8 i (omega arith) (omega arith) h

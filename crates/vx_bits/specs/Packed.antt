@@ -1,6 +1,6 @@
 -- Pixels packed eight to a byte, the most significant bit first, each row padded to a byte: the
 -- raster of a raw PBM image.
-use Rattle.std.specs.Prelude.{◌≡◌, ◌<◌, ◌≤◌, ℕ, ◌+◌, ◌-◌, ◌*◌, ◌/◌, ◌%◌, ◌==◌, List, map, length, Bool, false, pos, slice_index, slice_index_or}
+use Rattle.std.specs.Prelude.{◌≡◌, ◌<◌, ◌≤◌, ℕ, ◌+◌, ◌-◌, ◌*◌, ◌/◌, ◌%◌, ◌==◌, ◌&&◌, nat_le, nat_lt, List, map, length, Bool, false, pos, slice_index, slice_index_or}
 use Rattle.std.specs.Int.{bit_at}
 use Rattle.std.specs.List.{range_with_len}
 use Rattle.vx_plane.specs.Plane.{Pixels, Page, page_of}
@@ -34,6 +34,10 @@ pub record IsPackedPage (width height : ℕ) (bytes : List ℕ) : Type 0 where
 -- the first pixels of one packed row
 unfoldable pub unpacked : ℕ → List ℕ → List Bool
 unpacked width bytes = map (λ x. packed_pixel bytes 0 x) (range_with_len 0 width)
+
+-- a byte of which the pixels from place `first` on and before place `last` are dark
+abbrev pub IsMask : ℕ → ℕ → ℕ → Type 0
+IsMask byte first last = (i : ℕ) → i < 8 → bit_at byte (7 - i) ≡ one_if (nat_le first i && nat_lt i last)
 
 -- the byte k of a packed row: eight pixels, the first of them the highest bit, light past the row's end
 abbrev pub packed_byte : List Bool → ℕ → ℕ

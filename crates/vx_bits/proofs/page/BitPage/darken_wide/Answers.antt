@@ -1,7 +1,7 @@
 use Rattle.std.proofs.Common.{◌≡◌, sym, ap, ◌∙◌, pos, ◌+◌, ◌-◌, arith}
 use Rattle.vx_plane.specs.Plane.{Page, rectangle, painted}
 use Rattle.vx_plane.proofs.Pages.{painted-no_rows, painted-row_more}
-use Rattle.vx_bits.proofs.page.BitPage.darken_rows.Goals as goal
+use Rattle.vx_bits.proofs.page.BitPage.darken_wide.Goals as goal
 
 pub loop-y-init : goal.loop-y-init
 loop-y-init c =
