@@ -1,4 +1,4 @@
-use Rattle.std.proofs.Common.{◌≡◌, ◌≤◌, ◌++◌, ◌∷◌, [], ℕ, List, length, take, string_bytes, sym, ap, ◌∙◌, append_assoc, arith}
+use Rattle.std.proofs.Common.{◌≤◌, ◌++◌, ◌∷◌, [], ℕ, List, length, take, string_bytes, sym, ap, ◌∙◌, append_assoc, arith}
 use Rattle.std.proofs.lemmas.List.{take_all}
 use Rattle.vx_app.specs.ReadingText.{place_word, border_line}
 use Rattle.vx_app.proofs.ReadingTexts.{laid_places, flat_map-take_more, border_line-laid, OnOk-pushed}
