@@ -60,7 +60,7 @@ def seconds(command):
 
 
 def compare(name, runs, room):
-    """Prints what a page takes in two programs, VX first, and the ratio of the instructions.
+    """Prints what a page takes in two programs, VX first, and gives the ratio of the instructions.
 
     `runs` has two pairs of a number of pages and a command for each program, the fewer pages first.
     The instructions are those of the pages that the second has more; the time is that of the second
@@ -71,4 +71,6 @@ def compare(name, runs, room):
     for who, first, second in zip((name, "plain C"), short, long):
         counts.append((instructions(second, room) - instructions(first, room)) / (many - few))
         print("%s: %d instructions a page, %.0f pages a second" % (who, counts[-1], many / seconds(second)))
-    print("%.2f times the instructions" % (counts[0] / counts[1]))
+    ratio = counts[0] / counts[1]
+    print("%.2f times the instructions" % ratio)
+    return ratio
