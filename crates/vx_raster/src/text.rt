@@ -3,6 +3,7 @@ ghost use Rattle.vx_plane.specs.Plane.{painted, any_of, in_any};
 ghost use Rattle.vx_layout.specs.Print.{glyph_pixels, line_pixels};
 ghost use Rattle.vx_raster.specs.Dots.{bit_pixels, IsFirstRun};
 
+use crate::stamp::{Patch, stamp};
 use vx_bits::BitPage;
 use vx_font::dots;
 use vx_layout::TextLine;
@@ -21,6 +22,7 @@ fn first_run(bits: u32) -> (u32, u32)
 
 /// Paints the dots of a glyph's column, 2 by 2 pixels each, run after run from the top.
 fn paint_column(page: &mut BitPage, x: u64, y: u64, bits: u8)
+    requires x { x < 2 ^ 34 }
     requires y { y < 2 ^ 34 }
     requires seven { bits < 2 ^ 7 }
     ensures { page.new ≡ painted page.old (in_any 7 (bit_pixels bits x y)) }
@@ -30,7 +32,13 @@ fn paint_column(page: &mut BitPage, x: u64, y: u64, bits: u8)
     let mut top = 0;
     while rest != 0 {
         let (light, dark) = first_run(rest);
-        page.darken(x, y + 2 * u64::from(top + light), 2, 2 * dark);
+        let run = [Patch {
+            left: 0,
+            top: 0,
+            width: 2,
+            height: 2 * dark,
+        }];
+        stamp(page, x, y + 2 * u64::from(top + light), &run);
         top += light + dark;
         rest >>= light + dark;
     }
