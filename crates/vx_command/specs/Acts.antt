@@ -25,9 +25,17 @@ abbrev pub records_of : Act → List (List ℕ)
 records_of (Append body) = body ∷ []
 records_of act = []
 
+-- a command whose work is these acts
+abbrev pub work : List Act → Outcome
+work acts = record { acts = acts; ends = Ok tt }
+
 -- a command that ends here, its work done
 abbrev pub finished : Outcome
-finished = record { acts = []; ends = Ok tt }
+finished = work []
+
+-- a command whose work is to write one text
+abbrev pub writing : List ℕ → Outcome
+writing text = work (Write text ∷ [])
 
 -- a command that halts here
 abbrev pub halted : Halt → Outcome
@@ -47,6 +55,14 @@ abbrev pub input_of : ℕ → ℕ → Option (List ℕ) → Result (List ℕ) Ha
 input_of word limit None = Err (halt.NoInput word)
 input_of word limit (Some bytes) = if nat_lt limit (length bytes) then Err (halt.TooLong word (length bytes)) else Ok bytes
 
+-- a command that takes the input of a word and goes on with what that gives it
+abbrev pub taking : {A : Type 0} → ℕ → Result A Halt → (A → Outcome) → Outcome
+taking word given rest = after (Take word ∷ []) (goes_on given rest)
+
 -- a command that takes the input of a word and goes on with its bytes
 abbrev pub once_taken : ℕ → ℕ → Option (List ℕ) → (List ℕ → Outcome) → Outcome
-once_taken word limit file rest = after (Take word ∷ []) (goes_on (input_of word limit file) rest)
+once_taken word limit file rest = taking word (input_of word limit file) rest
+
+-- the most bytes that an input may have
+abbrev pub input_limit : ℕ
+input_limit = 67108864

@@ -1,5 +1,5 @@
 -- How far a command has come when it answers: which acts are done, and what stands of the next one.
-use Rattle.std.specs.Prelude.{◌≡◌, ◌⊎◌, ℕ, List, [], ◌∷◌, ◌++◌, Option, Some, Result, Ok, Err, MatchOption}
+use Rattle.std.specs.Prelude.{◌≡◌, ◌⊎◌, ℕ, List, [], ◌∷◌, ◌++◌, Option, None, Some, Result, Ok, Err, MatchOption}
 use Rattle.std.specs.List.{flat_map}
 use Rattle.vx_io.specs.Outside.{IsPrefix, Took}
 use Rattle.vx_command.specs.declared.halt.Halt.{Halt}
@@ -49,3 +49,13 @@ pub record IsDone (outcome : Outcome) (taken taken_now : Option (List ℕ)) (hel
 -- the same of a command that has no act of the keeper: whatever a keeper holds, it holds still
 abbrev pub IsWritten : Outcome → Option (List ℕ) → Option (List ℕ) → Result (Unit {0}) Halt → Type 0
 IsWritten outcome taken taken_now answer = (held : Option (List (List ℕ))) → IsDone outcome taken taken_now held held answer
+
+-- A command has come to the rest of its acts: however far that rest is done from here, so far the whole is done.
+abbrev pub ComesTo : Outcome → Outcome → Option (List ℕ) → Option (List ℕ) → Option (List (List ℕ)) → Option (List (List ℕ)) → Type 0
+ComesTo whole rest taken taken_now held held_now =
+    (taken_then : Option (List ℕ)) (held_then : Option (List (List ℕ))) (answer : Result (Unit {0}) Halt) →
+    IsDone rest taken_now taken_then held_now held_then answer → IsDone whole taken taken_then held held_then answer
+
+-- the same of a command that has no act of the keeper
+abbrev pub WritesTo : Outcome → Outcome → Option (List ℕ) → Option (List ℕ) → Type 0
+WritesTo whole rest taken taken_now = (held : Option (List (List ℕ))) → ComesTo whole rest taken taken_now held held
