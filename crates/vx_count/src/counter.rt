@@ -1,4 +1,4 @@
-ghost use Rattle.std.specs.Prelude.{◌≡◌, ◌≤◌, ◌+ℤ◌, IfOk, pos};
+ghost use Rattle.std.specs.Prelude.{◌≡◌, ◌+◌, ◌≤◌, ◌<◌, ◌+ℤ◌, IfOk, pos};
 ghost use Rattle.vx_plane.specs.Plane.{dark_at};
 ghost use Rattle.vx_plane.specs.Count.{count_in};
 ghost use Rattle.vx_grid.specs.Places.{IsWithin};
@@ -101,5 +101,32 @@ impl Counter {
             dark += dark_in_row(&page, start, rect.width);
         }
         dark
+    }
+
+    /// The number of dark pixels of a rectangle that lies on the page.
+    pub fn dark_in_frame(&self, left: u32, top: u32, width: u32, height: u32) -> u32
+        requires columns { left + width ≤ self.now.width }
+        requires rows { top + height ≤ self.now.height }
+        ensures { result ≡ count_in (pos left) (pos top) width height (dark_at self.now) }
+    {
+        let _columns = self.width;
+        let _rows = self.height;
+        self.dark_in(Rect {
+            left: left as i32,
+            top: top as i32,
+            width,
+            height,
+        })
+    }
+
+    /// The number of dark pixels among 1 to 57 that lie side by side in a row of the page.
+    pub fn run(&self, left: u32, row: u32, width: u32) -> u32
+        requires some { 1 ≤ width }
+        requires few { width ≤ 57 }
+        requires columns { left + width ≤ self.now.width }
+        requires rows { row < self.now.height }
+        ensures { result ≡ count_in (pos left) (pos row) width 1 (dark_at self.now) }
+    {
+        self.dark_in_frame(left, row, width, 1)
     }
 }
