@@ -1,7 +1,7 @@
 ghost use Rattle.std.specs.Prelude.{◌≡◌, ◌+◌, ◌*◌, ◌<◌, ◌≤◌, IfOk, OnOk, pos};
 ghost use Rattle.vx_plane.specs.Plane.{page_of, dark_at};
 ghost use Rattle.vx_plane.specs.Count.{count_in};
-ghost use Rattle.vx_count.specs.Sums.{IsSummed};
+ghost use Rattle.vx_count.specs.Sums.{AreFirstSums, blocks_of};
 
 use crate::packed::PackedRows;
 use std::alloc::{AllocError, Global};
@@ -38,8 +38,8 @@ impl Model for RowSums {
 /// Adds the sums of a row behind those of the rows before it.
 fn push_sums(sums: &mut Vec<u16>, rows: &PackedRows, row: u32) -> Result<(), AllocError>
     requires row { row < rows.now.height }
-    requires before { IsSummed rows.now row sums.old.items }
-    ensures { OnOk result (IsSummed rows.now (row + 1) sums.new.items) }
+    requires above { AreFirstSums rows.now (row * blocks_of rows.now) sums.old.items }
+    ensures { OnOk result (AreFirstSums rows.now ((row + 1) * blocks_of rows.now) sums.new.items) }
 {
     let mut dark = 0;
     for k in 0..rows.width() / BLOCK {
@@ -49,6 +49,18 @@ fn push_sums(sums: &mut Vec<u16>, rows: &PackedRows, row: u32) -> Result<(), All
     Ok(())
 }
 
+/// The sums of all rows.
+fn sums_of(alloc: Global, rows: &PackedRows) -> Result<Vec<u16>, AllocError>
+    ensures { IfOk result (λ sums. AreFirstSums rows.now (rows.now.height * blocks_of rows.now) sums.items) }
+{
+    let size = rows.height() as usize * (rows.width() / BLOCK) as usize;
+    let mut sums = Vec::with_capacity(alloc, size)?;
+    for row in 0..rows.height() {
+        push_sums(&mut sums, rows, row)?;
+    }
+    Ok(sums)
+}
+
 impl RowSums {
     /// The sums of a copy of a page of at most 4096 columns.
     pub fn new(alloc: Global, page: &BitView<'_>) -> Result<RowSums, AllocError>
@@ -56,11 +68,8 @@ impl RowSums {
         ensures { IfOk result (λ sums. sums ≡ page.now) }
     {
         let rows = PackedRows::new(alloc, page)?;
+        let sums = sums_of(alloc, &rows)?;
         let blocks = (rows.width() / BLOCK) as usize;
-        let mut sums = Vec::with_capacity(alloc, blocks * rows.height() as usize)?;
-        for row in 0..rows.height() {
-            push_sums(&mut sums, &rows, row)?;
-        }
         Ok(RowSums { rows, blocks, sums })
     }
 
@@ -83,8 +92,8 @@ impl RowSums {
     /// The number of dark pixels of a row before a block of columns.
     fn before_block(&self, row: u32, block: u32) -> u32
         requires row { row < self.now.height }
-        requires block { block * 1024 ≤ self.now.width }
-        ensures { result ≡ count_in (pos 0) (pos row) (block * 1024) 1 (dark_at self.now) }
+        requires block { 1024 * block ≤ self.now.width }
+        ensures { result ≡ count_in (pos 0) (pos row) (1024 * block) 1 (dark_at self.now) }
     {
         if block == 0 {
             return 0;
@@ -129,6 +138,7 @@ impl RowSums {
         requires high { height ≤ 4096 }
         ensures { result ≡ count_in (pos left) (pos top) width height (dark_at self.now) }
     {
+        let _height = self.height();
         let mut dark = 0;
         for j in 0..height {
             dark += self.run(left, top + j, width);
@@ -144,7 +154,7 @@ impl RowSums {
         requires high { height ≤ 4096 }
         ensures { result ≡ count_in (pos left) (pos top) width height (dark_at self.now) }
     {
-        let _width = self.width();
+        let (_width, _height) = (self.width(), self.height());
         let mut dark = 0;
         for j in 0..height {
             dark += self.before(top + j, left + width) - self.before(top + j, left);
