@@ -37,6 +37,7 @@ impl Counter {
         requires height { page.now.height ≤ 4096 }
         ensures { IfOk result (λ counter. counter ≡ page.now) }
     {
+        let _width = page.width();
         Ok(Counter {
             sums: RowSums::new(alloc, page)?,
             turned: false,
@@ -108,8 +109,8 @@ impl Counter {
         requires height { rect.height ≤ 4096 }
         ensures { result ≡ count_in rect.left rect.top rect.width rect.height (dark_at self.now) }
     {
-        let columns = cut_at_frame(rect.left, rect.width, self.width());
-        let rows = cut_at_frame(rect.top, rect.height, self.height());
+        let columns = cut_at_frame(rect.left, rect.width, self.sums.width());
+        let rows = cut_at_frame(rect.top, rect.height, self.sums.height());
         self.dark_in_frame(columns.first, rows.first, columns.count, rows.count)
     }
 }

@@ -1,6 +1,6 @@
-ghost use Rattle.std.specs.Prelude.{◌≤◌};
+ghost use Rattle.std.specs.Prelude.{◌≡◌, ◌≤◌};
 ghost use Rattle.vx_grid.specs.Places.{IsWithin};
-ghost use Rattle.vx_count.specs.Cut.{IsCut};
+ghost use Rattle.vx_count.specs.Cut.{IsCut, frame_before};
 
 /// The columns, or the rows, of a rectangle that lie in a frame.
 #[derive(Clone, Copy)]
@@ -11,17 +11,26 @@ pub(crate) struct Cut {
     pub count: u32,
 }
 
+/// How many of a frame's columns, or rows, lie before a place.
+fn before(place: i32, frame: u32) -> u32
+    ensures { result ≡ frame_before place frame }
+{
+    if place < 0 {
+        0
+    } else {
+        (place as u32).min(frame)
+    }
+}
+
 /// Cuts the `size` columns, or rows, from `from` on at a frame that has `frame` of them.
 pub(crate) fn cut_at_frame(from: i32, size: u32, frame: u32) -> Cut
     requires from { IsWithin 10000 from }
     requires size { size ≤ 4096 }
-    requires frame { frame ≤ 4096 }
     ensures { IsCut from size frame result.first result.count }
 {
-    let first = from.max(0).min(frame as i32);
-    let end = (from + size as i32).max(0).min(frame as i32);
+    let first = before(from, frame);
     Cut {
-        first: first as u32,
-        count: (end - first) as u32,
+        first,
+        count: before(from + size as i32, frame) - first,
     }
 }
