@@ -1,4 +1,4 @@
-//! What every crate may stand on: lists of bytes, want of memory, and what a refusal is.
+//! What every crate may stand on: lists, want of memory, and what a refusal is.
 //!
 //! `OutOfMemory` is std's error of an allocation that failed. A call whose answer is defined by a
 //! function meets `Gives` of `specs/Refusals.antt`: it answers what the definition says, or a
@@ -6,8 +6,10 @@
 #![tactic(auto)]
 
 mod bytes;
+mod list;
 
 pub use bytes::Bytes;
+pub use list::ListOf;
 pub use std::alloc::AllocError as OutOfMemory;
 
 #[cfg(test)]
