@@ -49,6 +49,13 @@ impl MemSink {
     {
         self.bytes.as_slice()
     }
+
+    /// How many bytes more there is room for.
+    fn left(&self) -> usize
+        ensures { result ≡ self.now.room - length self.now.taken }
+    {
+        self.room - self.bytes.len()
+    }
 }
 
 impl Sink for MemSink {
@@ -67,7 +74,7 @@ impl Sink for MemSink {
         ensures nothing { OnErr result (self.new.taken ≡ self.old.taken) }
         ensures counted { self.new ≡ record self.old { taken = self.new.taken; tally = counted self.old.tally (is_err result) } }
     {
-        let left = self.room - self.bytes.len();
+        let left = self.left();
         let failed = self.fails.has(self.tally.number_of_next()) || left == 0;
         self.tally.count(failed);
         if failed {
