@@ -4,15 +4,13 @@
 //! `Page` of `vx_plane`: a width, a height and rows of truth values. Padding bits aren't seen.
 #![tactic(auto)]
 
-mod bytes;
 mod packed;
 mod page;
 mod view;
 
-pub use bytes::Bytes;
 pub use page::BitPage;
-pub use std::alloc::AllocError as OutOfMemory;
 pub use view::BitView;
+pub use vx_base::{Bytes, OutOfMemory};
 
 #[cfg(test)]
 mod tests {

@@ -15,7 +15,7 @@ use crate::named::Named;
 use crate::references::references_of;
 use serde_json::Value;
 use std::alloc::Global;
-use vx_bits::OutOfMemory;
+use vx_base::OutOfMemory;
 use vx_json::{Path, Text};
 
 /// How many characters a label may have.

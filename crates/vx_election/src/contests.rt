@@ -20,7 +20,7 @@ use crate::members::{
 use crate::names;
 use serde_json::Value;
 use std::alloc::Global;
-use vx_bits::OutOfMemory;
+use vx_base::OutOfMemory;
 use vx_json::{Path, Text, need, string_of};
 
 /// The members that each contest begins with.

@@ -11,7 +11,7 @@ use serde_json::Value;
 use std::alloc::Global;
 use std::collections::BTreeMap;
 use std::marker::Model;
-use vx_bits::OutOfMemory;
+use vx_base::OutOfMemory;
 use vx_json::{Path, Text, string_of};
 
 /// The ids of a list in order, with a map from each to its first place.

@@ -13,7 +13,7 @@ use serde_json::Value;
 use std::alloc::Global;
 use std::collections::BTreeSet;
 use std::marker::Model;
-use vx_bits::OutOfMemory;
+use vx_base::OutOfMemory;
 use vx_json::{Path, Text};
 
 /// Places of a list in order, each once, with the set of them.

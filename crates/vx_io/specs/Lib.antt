@@ -1,4 +1,5 @@
 pub mod Fakes
 pub mod Keeping
+pub mod Laws
 pub mod Outside
 pub mod Take

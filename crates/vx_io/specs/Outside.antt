@@ -1,8 +1,6 @@
 -- What the outside holds, told or not told, and when it may refuse a call.
-use Rattle.std.specs.Prelude.{◌≡◌, ◌⊎◌, ◌+◌, ◌-◌, ◌^◌, ◌<◌, ◌≤◌, ℕ, List, [], ◌∷◌, ◌++◌, length, take, drop, min, Option, None, Some, Result, Err, MatchOption, IfSome, IsErr, slice_get}
+use Rattle.std.specs.Prelude.{◌≡◌, ◌⊎◌, ◌+◌, ◌-◌, ◌^◌, ◌<◌, ◌≤◌, ℕ, Bool, true, false, List, [], ◌∷◌, ◌++◌, length, take, drop, min, Option, None, Some, MatchOption, IfSome, slice_get}
 use Rattle.std.specs.Option.{option_map}
-use Rattle.vx_io.specs.declared.outside.KeeperError.{KeeperError}
-use Rattle.vx_io.specs.declared.outside.KeeperError.TheVariants.{Failed}
 
 -- the bytes under each name
 abbrev pub Files : Type 0
@@ -12,15 +10,11 @@ Files = List ℕ → Option (List ℕ)
 abbrev pub Rose : ℕ → ℕ → Type 0
 Rose before now = min (before + 1) (2 ^ 64 - 1) ≤ now
 
--- a count of faults never falls, and a refusal shows in it
-pub record HasCause {T E : Type 0} (before now : ℕ) (result : Result T E) : Type 0 where
+-- a device's count of faults over a call: it rises where the device failed and stands still where it didn't
+pub record CountsFaults (failed : Bool) (before now : ℕ) : Type 0 where
   pub later : before ≤ now
-  pub failed : IsErr result → Rose before now
-
--- the same of a keeper, whose want of memory is no fault
-pub record HasKeeperCause {T : Type 0} (before now : ℕ) (result : Result T KeeperError) : Type 0 where
-  pub later : before ≤ now
-  pub failed : result ≡ Err Failed → Rose before now
+  pub rose : failed ≡ true → Rose before now
+  pub still : failed ≡ false → now ≡ before
 
 -- an answer to the question for a size
 abbrev pub IsSizeOf : Option Files → List ℕ → Option ℕ → Type 0
@@ -35,6 +29,10 @@ IsThere told name at =
 abbrev pub ReadsFrom : Option Files → List ℕ → ℕ → List ℕ → Type 0
 ReadsFrom told name at piece =
     IfSome told (λ files. IfSome (files name) (λ bytes. piece ≡ take (length piece) (drop at bytes)))
+
+-- so many bytes at the front of a buffer may be new; what lies behind them is as before
+abbrev pub IsSameBehind : ℕ → List ℕ → List ℕ → Type 0
+IsSameBehind count old new = drop count new ≡ drop count old
 
 -- a list begins another
 pub record IsPrefix (front whole : List ℕ) : Type 0 where

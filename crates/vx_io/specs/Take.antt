@@ -1,7 +1,15 @@
 -- What taking an input whole may answer.
-use Rattle.std.specs.Prelude.{◌≡◌, ◌<◌, ◌≤◌, ℕ, List, length, Option, None, Some, Result, Ok, Err, IsSomeAnd}
+use Rattle.std.specs.Prelude.{◌≡◌, ◌<◌, ◌≤◌, ℕ, Bool, true, false, List, length, Option, None, Some, Result, Ok, Err, IsSomeAnd}
 use Rattle.vx_io.specs.declared.taking.TakeFault.{TakeFault}
 use Rattle.vx_io.specs.declared.taking.TakeFault.TheVariants.{Failed, NoInput, TooLong, OutOfMemory}
+
+-- the answer is a fault of the inputs
+abbrev pub take_failed : {T : Type 0} → Result T TakeFault → Bool
+take_failed (Ok x) = false
+take_failed (Err Failed) = true
+take_failed (Err NoInput) = false
+take_failed (Err (TooLong size)) = false
+take_failed (Err OutOfMemory) = false
 
 -- an answer that fits what is held under the name, and the limit
 abbrev pub Takes : Option (List ℕ) → ℕ → Result (List ℕ) TakeFault → Type 0

@@ -1,5 +1,5 @@
-ghost use Rattle.std.specs.Prelude.{OnOk, OnErr};
-ghost use Rattle.vx_io.specs.Outside.{HasCause, Took, TookFront};
+ghost use Rattle.std.specs.Prelude.{OnOk, OnErr, is_err};
+ghost use Rattle.vx_io.specs.Outside.{CountsFaults, Took, TookFront};
 
 use crate::outside::{Failed, Sink};
 
@@ -7,7 +7,7 @@ use crate::outside::{Failed, Sink};
 pub fn give<S: Sink>(out: &mut S, text: &[u8]) -> Result<(), Failed>
     ensures given { OnOk result (Took (S.taken out.old) (S.taken out.new) text.now) }
     ensures refused { OnErr result (TookFront (S.taken out.old) (S.taken out.new) text.now) }
-    ensures cause { HasCause (S.faults out.old) (S.faults out.new) result }
+    ensures cause { CountsFaults (is_err result) (S.faults out.old) (S.faults out.new) }
 {
     let mut at = 0;
     while at < text.len() {

@@ -1,19 +1,20 @@
 //! The outside as three traits, and what stands behind them.
 //!
 //! `Inputs` are named files, a `Sink` takes bytes, a `Keeper` keeps records. Each means what it
-//! holds, told or not told, and a count of faults: a call answers `Failed` only where that count
-//! rose in the call. `MemInputs`, `MemSink` and `MemKeeper` hold everything in memory and fail
-//! exactly at the listed calls; `StdInputs` and `StdSink` are the real files and the real standard
-//! output. `take` reads an input whole and `give` writes a text whole. `Words` are the words of a
-//! command.
+//! holds, told or not told, and a count of faults: in a call that answers `Failed` the count rises,
+//! in any other it stands still. `MemInputs`, `MemSink` and `MemKeeper` hold everything in memory and
+//! fail at the listed calls and at no other, but that a full sink fails too; `StdInputs` and
+//! `StdSink` are the real files and the real standard output. `take` reads an input whole and `give`
+//! writes a text whole. `Words` are the words of a command.
 //!
-//! The definitions stand in `specs/`: `Outside.antt` has what the outside holds and when it may
-//! refuse, `Take.antt` what `take` may answer, `Fakes.antt` and `Keeping.antt` which calls fail in
-//! memory and what a call leaves. `proofs/Laws.antt` has the laws for callers: what was taken one
-//! text after another, fronts of a text, counts of faults.
+//! The definitions stand in `specs/`: `Outside.antt` has what the outside holds and what a call
+//! counts, `Take.antt` what `take` may answer, `Fakes.antt` and `Keeping.antt` which calls fail in
+//! memory and what a call leaves. `Laws.antt` has the laws for callers, which the functions of `laws`
+//! promise: fronts of a text, what was taken text after text, counts of faults.
 #![tactic(auto)]
 
 mod giving;
+mod laws;
 mod lists;
 mod mem_inputs;
 mod mem_keeper;
@@ -26,6 +27,7 @@ mod tally;
 mod words;
 
 pub use giving::give;
+pub use laws::{faults_counted, fronts_of_texts, texts_taken};
 pub use lists::{Calls, KeeperCalls, NamedBytes, Records};
 pub use mem_inputs::MemInputs;
 pub use mem_keeper::MemKeeper;

@@ -1,6 +1,6 @@
 ghost use Rattle.std.specs.Prelude.{◌≡◌, ◌<◌, ◌≤◌, Some, length, take, min, IfOk, is_err};
 ghost use Rattle.vx_io.specs.Fakes.{HeldInputs, counted, files_of, is_listed};
-ghost use Rattle.vx_io.specs.Outside.{HasCause, IsSizeOf, IsThere, ReadsFrom};
+ghost use Rattle.vx_io.specs.Outside.{CountsFaults, IsSameBehind, IsSizeOf, IsThere, ReadsFrom};
 
 use crate::lists::{Calls, NamedBytes};
 use crate::outside::{Failed, Inputs};
@@ -27,6 +27,7 @@ impl Model for MemInputs {
 fn copy_front(from: &[u8], to: &mut [u8]) -> usize
     ensures count { result ≡ min (length from.now) (length to.old) }
     ensures copied { take result to.new ≡ take result from.now }
+    ensures behind { IsSameBehind result to.old to.new }
 {
     let count = from.len().min(to.len());
     to[..count].copy_from_slice(&from[..count]);
@@ -47,7 +48,7 @@ impl MemInputs {
 
     /// Counts a call, and a fault where it is listed.
     fn call(&mut self) -> Result<(), Failed>
-        ensures cause { HasCause self.old.tally.faults self.new.tally.faults result }
+        ensures cause { CountsFaults (is_err result) self.old.tally.faults self.new.tally.faults }
         ensures failed { is_err result ≡ is_listed self.old.fails self.old.tally }
         ensures counted { self.new ≡ record self.old { tally = counted self.old.tally (is_err result) } }
     {
@@ -65,7 +66,7 @@ impl Inputs for MemInputs {
     fn size(&mut self, name: &str) -> Result<Option<u64>, Failed>
         ensures size { IfOk result (IsSizeOf (Some (files_of self.old.files)) name.now) }
         ensures held { files_of self.new.files ≡ files_of self.old.files }
-        ensures cause { HasCause self.old.tally.faults self.new.tally.faults result }
+        ensures cause { CountsFaults (is_err result) self.old.tally.faults self.new.tally.faults }
         ensures failed { is_err result ≡ is_listed self.old.fails self.old.tally }
         ensures counted { self.new ≡ record self.old { tally = counted self.old.tally (is_err result) } }
     {
@@ -81,8 +82,9 @@ impl Inputs for MemInputs {
         requires there { IsThere (Some (files_of self.old.files)) name.now at }
         ensures within { IfOk result (λ count. (0 < count) × (count ≤ length buf.new)) }
         ensures read { IfOk result (λ count. ReadsFrom (Some (files_of self.old.files)) name.now at (take count buf.new)) }
+        ensures behind { IfOk result (λ count. IsSameBehind count buf.old buf.new) }
         ensures held { files_of self.new.files ≡ files_of self.old.files }
-        ensures cause { HasCause self.old.tally.faults self.new.tally.faults result }
+        ensures cause { CountsFaults (is_err result) self.old.tally.faults self.new.tally.faults }
         ensures failed { is_err result ≡ is_listed self.old.fails self.old.tally }
         ensures counted { self.new ≡ record self.old { tally = counted self.old.tally (is_err result) } }
     {

@@ -1,7 +1,7 @@
 ghost use Rattle.std.specs.Prelude.{◌≡◌, ◌<◌, ◌++◌, ◌∷◌, [], Some, None, length, IfOk, OnOk, OnErr, is_err, is_some};
 ghost use Rattle.vx_io.specs.Fakes.{HeldKeeper, counted, kept_of_next};
 ghost use Rattle.vx_io.specs.Keeping.{Stores, has_failed};
-ghost use Rattle.vx_io.specs.Outside.{IsCountOf, IsIndexOf, IsRecordAt, Appends, MayAppend, HasCause, HasKeeperCause};
+ghost use Rattle.vx_io.specs.Outside.{IsCountOf, IsIndexOf, IsRecordAt, Appends, MayAppend, CountsFaults};
 
 use crate::lists::{KeeperCalls, Records};
 use crate::outside::{Failed, Keeper, KeeperError};
@@ -46,7 +46,7 @@ impl MemKeeper {
 
     /// Counts a call, and a fault where it is listed.
     fn call(&mut self) -> Result<(), Failed>
-        ensures cause { HasCause self.old.tally.faults self.new.tally.faults result }
+        ensures cause { CountsFaults (is_err result) self.old.tally.faults self.new.tally.faults }
         ensures failed { is_err result ≡ is_some (kept_of_next self.old.fails self.old.tally) }
         ensures counted { self.new ≡ record self.old { tally = counted self.old.tally (is_err result) } }
     {
@@ -78,7 +78,7 @@ impl Keeper for MemKeeper {
     fn count(&mut self) -> Result<u64, KeeperError>
         ensures count { IfOk result (IsCountOf (Some self.old.records)) }
         ensures held { self.new.records ≡ self.old.records }
-        ensures cause { HasKeeperCause self.old.tally.faults self.new.tally.faults result }
+        ensures cause { CountsFaults (has_failed result) self.old.tally.faults self.new.tally.faults }
         ensures failed { is_err result ≡ is_some (kept_of_next self.old.fails self.old.tally) }
         ensures refused { OnErr result (result ≡ Err KeeperError.Failed) }
         ensures counted { self.new ≡ record self.old { tally = counted self.old.tally (is_err result) } }
@@ -92,7 +92,7 @@ impl Keeper for MemKeeper {
         ensures fetched { OnOk result (IsRecordAt (Some self.old.records) index into.new) }
         ensures refused { OnErr result (into.new ≡ []) }
         ensures held { self.new.records ≡ self.old.records }
-        ensures cause { HasKeeperCause self.old.tally.faults self.new.tally.faults result }
+        ensures cause { CountsFaults (has_failed result) self.old.tally.faults self.new.tally.faults }
         ensures failed { has_failed result ≡ is_some (kept_of_next self.old.fails self.old.tally) }
         ensures counted { self.new ≡ record self.old { tally = counted self.old.tally (has_failed result) } }
     {
@@ -106,7 +106,7 @@ impl Keeper for MemKeeper {
         ensures appended { OnOk result (Appends (Some self.old.records) (Some self.new.records) body.now) }
         ensures failed { result ≡ Err KeeperError.Failed → MayAppend (Some self.old.records) (Some self.new.records) body.now }
         ensures refused { result ≡ Err KeeperError.OutOfMemory → self.new.records ≡ self.old.records }
-        ensures cause { HasKeeperCause self.old.tally.faults self.new.tally.faults result }
+        ensures cause { CountsFaults (has_failed result) self.old.tally.faults self.new.tally.faults }
         ensures stores { Stores (kept_of_next self.old.fails self.old.tally) self.old.records self.new.records body.now result }
         ensures counted { self.new ≡ record self.old { records = self.new.records; tally = counted self.old.tally (has_failed result) } }
     {

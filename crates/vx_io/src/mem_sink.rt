@@ -1,6 +1,6 @@
 ghost use Rattle.std.specs.Prelude.{◌≡◌, ◌<◌, ◌≤◌, ◌-◌, ◌++◌, ◌||◌, ◌==◌, [], Some, length, take, min, IfOk, OnErr, is_err};
 ghost use Rattle.vx_io.specs.Fakes.{HeldSink, counted, is_listed};
-ghost use Rattle.vx_io.specs.Outside.{HasCause, TookFront, TookPiece};
+ghost use Rattle.vx_io.specs.Outside.{CountsFaults, TookFront, TookPiece};
 
 use crate::lists::Calls;
 use crate::outside::{Failed, Sink};
@@ -49,6 +49,13 @@ impl MemSink {
     {
         self.bytes.as_slice()
     }
+
+    /// How many bytes more there is room for.
+    fn left(&self) -> usize
+        ensures { result ≡ self.now.room - length self.now.taken }
+    {
+        self.room - self.bytes.len()
+    }
 }
 
 impl Sink for MemSink {
@@ -61,13 +68,13 @@ impl Sink for MemSink {
         ensures within { IfOk result (λ count. (0 < count) × (count ≤ length piece.now)) }
         ensures took { IfOk result (TookPiece (Some self.old.taken) (Some self.new.taken) piece.now) }
         ensures refused { OnErr result (TookFront (Some self.old.taken) (Some self.new.taken) piece.now) }
-        ensures cause { HasCause self.old.tally.faults self.new.tally.faults result }
+        ensures cause { CountsFaults (is_err result) self.old.tally.faults self.new.tally.faults }
         ensures failed { is_err result ≡ (is_listed self.old.fails self.old.tally || length self.old.taken == self.old.room) }
         ensures count { IfOk result (λ count. count ≡ min (length piece.now) (self.old.room - length self.old.taken)) }
         ensures nothing { OnErr result (self.new.taken ≡ self.old.taken) }
         ensures counted { self.new ≡ record self.old { taken = self.new.taken; tally = counted self.old.tally (is_err result) } }
     {
-        let left = self.room - self.bytes.len();
+        let left = self.left();
         let failed = self.fails.has(self.tally.number_of_next()) || left == 0;
         self.tally.count(failed);
         if failed {

@@ -1,5 +1,6 @@
-ghost use Rattle.std.specs.Prelude.{◌≡◌, ◌<◌, ◌≤◌, ℕ, List, [], Option, length, take, IfOk, OnOk, OnErr, IfSome};
-ghost use Rattle.vx_io.specs.Outside.{Files, IsThere, HasCause, ReadsFrom, IsSizeOf, TookFront, TookPiece, IsCountOf, IsIndexOf, IsRecordAt, Appends, MayAppend, HasKeeperCause};
+ghost use Rattle.std.specs.Prelude.{◌≡◌, ◌<◌, ◌≤◌, ℕ, List, [], Option, length, take, IfOk, OnOk, OnErr, IfSome, is_err};
+ghost use Rattle.vx_io.specs.Keeping.{has_failed};
+ghost use Rattle.vx_io.specs.Outside.{Files, IsThere, CountsFaults, IsSameBehind, ReadsFrom, IsSizeOf, TookFront, TookPiece, IsCountOf, IsIndexOf, IsRecordAt, Appends, MayAppend};
 
 use std::alloc::AllocError;
 use vx_bits::Bytes;
@@ -50,16 +51,18 @@ pub trait Inputs {
     fn size(&mut self, name: &str) -> Result<Option<u64>, Failed>
         ensures size { IfOk result (IsSizeOf (held self.old) name.now) }
         ensures held { held self.new ≡ held self.old }
-        ensures cause { HasCause (faults self.old) (faults self.new) result };
+        ensures cause { CountsFaults (is_err result) (faults self.old) (faults self.new) };
 
-    /// Reads bytes from place `at` on into the front of `buf`, and answers how many: at least one.
+    /// Reads bytes from offset `at` on into the front of `buf`, and answers how many: at least one.
+    /// What lies behind them in `buf` is as before.
     fn read(&mut self, name: &str, at: u64, buf: &mut [u8]) -> Result<usize, Failed>
         requires room { 0 < length buf.old }
         requires there { IsThere (held self.old) name.now at }
         ensures within { IfOk result (λ count. (0 < count) × (count ≤ length buf.new)) }
         ensures read { IfOk result (λ count. ReadsFrom (held self.old) name.now at (take count buf.new)) }
+        ensures behind { IfOk result (λ count. IsSameBehind count buf.old buf.new) }
         ensures held { held self.new ≡ held self.old }
-        ensures cause { HasCause (faults self.old) (faults self.new) result };
+        ensures cause { CountsFaults (is_err result) (faults self.old) (faults self.new) };
 }
 
 /// What takes the bytes that are written.
@@ -75,7 +78,7 @@ pub trait Sink {
         ensures within { IfOk result (λ count. (0 < count) × (count ≤ length piece.now)) }
         ensures took { IfOk result (TookPiece (taken self.old) (taken self.new) piece.now) }
         ensures refused { OnErr result (TookFront (taken self.old) (taken self.new) piece.now) }
-        ensures cause { HasCause (faults self.old) (faults self.new) result };
+        ensures cause { CountsFaults (is_err result) (faults self.old) (faults self.new) };
 }
 
 /// What keeps the journal's records.
@@ -89,7 +92,7 @@ pub trait Keeper {
     fn count(&mut self) -> Result<u64, KeeperError>
         ensures count { IfOk result (IsCountOf (held self.old)) }
         ensures held { held self.new ≡ held self.old }
-        ensures cause { HasKeeperCause (faults self.old) (faults self.new) result };
+        ensures cause { CountsFaults (has_failed result) (faults self.old) (faults self.new) };
 
     /// Sets `into` to a record. After a refusal `into` is empty.
     fn fetch(&mut self, index: u64, into: &mut Bytes) -> Result<(), KeeperError>
@@ -97,7 +100,7 @@ pub trait Keeper {
         ensures fetched { OnOk result (IsRecordAt (held self.old) index into.new) }
         ensures refused { OnErr result (into.new ≡ []) }
         ensures held { held self.new ≡ held self.old }
-        ensures cause { HasKeeperCause (faults self.old) (faults self.new) result };
+        ensures cause { CountsFaults (has_failed result) (faults self.old) (faults self.new) };
 
     /// Adds a record at the end. After `Failed` it may have been added; after want of memory
     /// nothing was.
@@ -105,5 +108,5 @@ pub trait Keeper {
         ensures appended { OnOk result (Appends (held self.old) (held self.new) body.now) }
         ensures failed { result ≡ Err KeeperError.Failed → MayAppend (held self.old) (held self.new) body.now }
         ensures refused { result ≡ Err KeeperError.OutOfMemory → held self.new ≡ held self.old }
-        ensures cause { HasKeeperCause (faults self.old) (faults self.new) result };
+        ensures cause { CountsFaults (has_failed result) (faults self.old) (faults self.new) };
 }

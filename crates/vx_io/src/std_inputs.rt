@@ -1,10 +1,12 @@
 ghost use Rattle.std.specs.Prelude.{◌≡◌, ◌<◌, ◌≤◌, None, IfOk, length, take, is_err, if◌then◌else◌};
 ghost use Rattle.vx_io.specs.Fakes.{raised};
-ghost use Rattle.vx_io.specs.Outside.{HasCause, IsSizeOf, ReadsFrom};
+ghost use Rattle.vx_io.specs.Outside.{CountsFaults, IsSameBehind, IsSizeOf, ReadsFrom};
 
 use crate::outside::{Failed, Inputs};
+use crate::tally::count_fault;
 use std::fs::OpenFile;
 use std::io::{ErrorKind, Read, Seek, SeekFrom};
+use std::marker::Model;
 use std::rt::Files;
 use std::{fs, io};
 
@@ -15,20 +17,19 @@ pub struct StdInputs<'r, R: Files> {
     faults: u64,
 }
 
+impl<'r, R: Files> Model for StdInputs<'r, R> {
+    ghost use Rattle.std.specs.Prelude.{ℕ};
+
+    ghost Value = { ℕ };
+
+    ghost view = { λ inputs. inputs.faults };
+}
+
 impl<'r, R: Files> StdInputs<'r, R> {
     pub fn new(rt: &'r R) -> StdInputs<'r, R>
-        ensures { result.faults ≡ 0 }
+        ensures { result ≡ 0 }
     {
         StdInputs { rt, faults: 0 }
-    }
-
-    /// Counts a fault.
-    fn fail(&mut self) -> Failed
-        ensures raised { self.new.faults ≡ raised self.old.faults }
-        ensures later { self.old.faults ≤ self.new.faults }
-    {
-        self.faults = self.faults.saturating_add(1);
-        Failed
     }
 }
 
@@ -42,41 +43,47 @@ fn size_of_file<R: Files>(rt: &R, path: &str) -> io::Result<u64> {
     Ok(file.metadata()?.len())
 }
 
-/// Reads a file from a place on into the front of a buffer, and answers how many bytes.
+/// Reads a file from an offset on into the front of a buffer, as far as both reach, and answers how
+/// many bytes. It asks for no byte more, so that what lies behind them stays as it was.
 fn read_file<R: Files>(rt: &R, path: &str, at: u64, buf: &mut [u8]) -> io::Result<usize>
-    ensures { IfOk result (λ count. count ≤ length buf.new) }
+    ensures within { IfOk result (λ count. count ≤ length buf.new) }
+    ensures behind { IfOk result (λ count. IsSameBehind count buf.old buf.new) }
 {
     let mut file = fs::open(rt, path)?;
+    let left = file.metadata()?.len().saturating_sub(at) as usize;
+    let count = buf.len().min(left);
     file.seek(SeekFrom::Start(at))?;
-    file.read(buf)
+    file.read_exact(&mut buf[..count])?;
+    Ok(count)
 }
 
 impl<R: Files> Inputs for StdInputs<'_, R> {
     ghost held = { λ _. None };
 
-    ghost faults = { λ inputs. inputs.faults };
+    ghost faults = { λ inputs. inputs };
 
     fn size(&mut self, name: &str) -> Result<Option<u64>, Failed>
         ensures size { IfOk result (IsSizeOf None name.now) }
-        ensures cause { HasCause self.old.faults self.new.faults result }
-        ensures counted { self.new.faults ≡ (if is_err result then raised self.old.faults else self.old.faults) }
+        ensures cause { CountsFaults (is_err result) self.old self.new }
+        ensures counted { self.new ≡ (if is_err result then raised self.old else self.old) }
     {
         match size_of_file(self.rt, name) {
             Ok(size) => Ok(Some(size)),
             Err(error) if error.kind() == ErrorKind::NotFound => Ok(None),
-            Err(_) => Err(self.fail()),
+            Err(_) => Err(count_fault(&mut self.faults)),
         }
     }
 
     fn read(&mut self, name: &str, at: u64, buf: &mut [u8]) -> Result<usize, Failed>
         ensures within { IfOk result (λ count. (0 < count) × (count ≤ length buf.new)) }
         ensures read { IfOk result (λ count. ReadsFrom None name.now at (take count buf.new)) }
-        ensures cause { HasCause self.old.faults self.new.faults result }
-        ensures counted { self.new.faults ≡ (if is_err result then raised self.old.faults else self.old.faults) }
+        ensures behind { IfOk result (λ count. IsSameBehind count buf.old buf.new) }
+        ensures cause { CountsFaults (is_err result) self.old self.new }
+        ensures counted { self.new ≡ (if is_err result then raised self.old else self.old) }
     {
         match read_file(self.rt, name, at, buf) {
             Ok(count) if count > 0 => Ok(count),
-            _ => Err(self.fail()),
+            _ => Err(count_fault(&mut self.faults)),
         }
     }
 }

@@ -1,6 +1,6 @@
-ghost use Rattle.std.specs.Prelude.{◌≡◌, ◌≤◌, Some, length, IfSome, IfOk, OnOk};
-ghost use Rattle.vx_io.specs.Outside.{HasCause, IsSizeOf, ReadsFrom, Rose};
-ghost use Rattle.vx_io.specs.Take.{Takes, IsWithin};
+ghost use Rattle.std.specs.Prelude.{◌≡◌, ◌≤◌, Some, length, IfSome, IfOk, OnOk, is_err};
+ghost use Rattle.vx_io.specs.Outside.{CountsFaults, IsSizeOf, ReadsFrom};
+ghost use Rattle.vx_io.specs.Take.{Takes, IsWithin, take_failed};
 
 use crate::outside::{Failed, Inputs};
 use std::alloc::{AllocError, Global};
@@ -46,7 +46,7 @@ fn read_whole<I: Inputs>(inputs: &mut I, name: &str, buffer: &mut [u8]) -> Resul
     requires sized { IsSizeOf (I.held inputs.old) name.now (Some (length buffer.old)) }
     ensures read { OnOk result (ReadsFrom (I.held inputs.old) name.now 0 buffer.new) }
     ensures held { I.held inputs.new ≡ I.held inputs.old }
-    ensures cause { HasCause (I.faults inputs.old) (I.faults inputs.new) result }
+    ensures cause { CountsFaults (is_err result) (I.faults inputs.old) (I.faults inputs.new) }
 {
     let mut at = 0;
     while at < buffer.len() {
@@ -67,8 +67,7 @@ pub fn take<I: Inputs>(
     ensures told { IfSome (I.held inputs.old) (λ files. Takes (files name.now) limit result) }
     ensures within { IsWithin limit result }
     ensures held { I.held inputs.new ≡ I.held inputs.old }
-    ensures later { I.faults inputs.old ≤ I.faults inputs.new }
-    ensures cause { result ≡ Err TakeFault.Failed → Rose (I.faults inputs.old) (I.faults inputs.new) }
+    ensures cause { CountsFaults (take_failed result) (I.faults inputs.old) (I.faults inputs.new) }
 {
     let Some(size) = inputs.size(name)? else {
         return Err(TakeFault::NoInput);

@@ -2,7 +2,7 @@ ghost use Rattle.std.specs.Prelude.{◌≡◌, ◌++◌, [], length, chars, IfOk
 
 use std::alloc::Global;
 use std::marker::Model;
-use vx_bits::OutOfMemory;
+use vx_base::OutOfMemory;
 
 /// A text. Contracts see the list of its bytes in UTF-8.
 #[derive(Debug, Drop)]

@@ -3,7 +3,7 @@ ghost use Rattle.std.specs.Prelude.{◌≡◌, ◌++◌, ◌∷◌, [], length, 
 use crate::text::Text;
 use std::alloc::Global;
 use std::marker::Model;
-use vx_bits::OutOfMemory;
+use vx_base::OutOfMemory;
 
 /// A list of texts. It is made from a `Vec` and gives it back without taking memory.
 #[derive(Debug, Drop)]

@@ -9,7 +9,7 @@ use crate::bubbles::{Bubble, Bubbles};
 use crate::lines::TextLines;
 use crate::typing::{lay_text, rows_of};
 use std::alloc::Global;
-use vx_bits::OutOfMemory;
+use vx_base::OutOfMemory;
 use vx_election::Contest;
 
 /// What stands beside the bubble of a write-in slot.

@@ -2,7 +2,7 @@ ghost use Rattle.std.specs.Prelude.{◌≡◌, ◌++◌, ◌∷◌, [], length, 
 
 use std::alloc::Global;
 use std::marker::Model;
-use vx_bits::OutOfMemory;
+use vx_base::OutOfMemory;
 
 /// A bubble of a page: which option of which contest it stands for, and its grid point.
 #[derive(Clone, Copy, Debug, PartialEq, Eq)]

@@ -2,7 +2,7 @@ ghost use Rattle.std.specs.Prelude.{◌≡◌, ◌++◌, ◌∷◌, [], length, 
 
 use std::alloc::Global;
 use std::marker::Model;
-use vx_bits::OutOfMemory;
+use vx_base::OutOfMemory;
 use vx_json::Text;
 
 /// A line of text on a page. A character is a cell of 12 pixels.

@@ -4,7 +4,7 @@ use crate::bubbles::Bubbles;
 use crate::lines::TextLines;
 use std::alloc::Global;
 use std::marker::Model;
-use vx_bits::OutOfMemory;
+use vx_base::OutOfMemory;
 
 /// What is printed on one page of a card, but for the page code and the timing marks.
 #[derive(Debug, Drop)]

@@ -3,7 +3,7 @@ ghost use Rattle.std.specs.Prelude.{◌≡◌, ◌++◌, ◌∷◌, [], length, 
 use crate::pages::PagePlans;
 use std::alloc::Global;
 use std::marker::Model;
-use vx_bits::OutOfMemory;
+use vx_base::OutOfMemory;
 
 /// A card as planned pages.
 #[derive(Debug, Drop)]

@@ -5,7 +5,7 @@ ghost use Rattle.vx_layout.specs.Lines.{size_of, lines_at};
 
 use crate::lines::{TextLine, TextLines};
 use std::alloc::Global;
-use vx_bits::OutOfMemory;
+use vx_base::OutOfMemory;
 use vx_grid::{x_of, y_of};
 use vx_json::{Text, characters_of};
 

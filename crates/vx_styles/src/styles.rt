@@ -5,7 +5,7 @@ ghost use Rattle.vx_styles.specs.Cards.{cards_of_style, cards_from, cards_of, is
 
 use crate::card::{Card, CardList};
 use std::alloc::Global;
-use vx_bits::OutOfMemory;
+use vx_base::OutOfMemory;
 use vx_election::{Contest, Election, Indexes, Style};
 
 /// Adds the cards of a style at the end.

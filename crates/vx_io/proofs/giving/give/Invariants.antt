@@ -1,4 +1,4 @@
-use Rattle.std.proofs.Common.{length, ◌-◌, ◌≤◌, take}
+use Rattle.std.proofs.Common.{length, ◌≡◌, ◌-◌, ◌≤◌, take}
 use Rattle.vx_io.specs.Outside.{Took}
 use Rattle.vx_io.proofs.giving.give.Given as goal
 
@@ -7,7 +7,7 @@ invariant-loop-at g l =
     record {
       within : l.at ≤ length l.text;
       took : Took (g.S.Sink.taken l.fn.out) (g.S.Sink.taken l.out) (take l.at l.text);
-      later : g.S.Sink.faults l.fn.out ≤ g.S.Sink.faults l.out;
+      still : g.S.Sink.faults l.out ≡ g.S.Sink.faults l.fn.out;
     }
 
 abbrev pub decreases-loop-at : goal.decreases-loop-at

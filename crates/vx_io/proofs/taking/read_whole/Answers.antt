@@ -1,5 +1,5 @@
-use Rattle.std.proofs.Common.{arith, length, ◌≤◌}
-use Rattle.vx_io.proofs.Laws.{ReadsFrom-further, length_written}
+use Rattle.std.proofs.Common.{◌∙◌, refl, length, ◌≤◌}
+use Rattle.vx_io.proofs.Texts.{ReadsFrom-further, length_written}
 use Rattle.vx_io.proofs.taking.read_whole.Goals as goal
 
 pub loop-at-preserved : goal.loop-at-preserved
@@ -10,5 +10,5 @@ loop-at-preserved g c =
       within = length_written c.loop-at.at c.in_ok-count.count c.loop-at.buffer c.read.new.buf before.within within;
       read = ReadsFrom-further (g.I.Inputs.held c.args.inputs.now) (g.I.Inputs.held c.loop-at.inputs) c.args.name.now c.loop-at.at c.in_ok-count.count c.loop-at.buffer c.read.new.buf before.held before.within within before.read c.in_ok-count.ensures.read;
       held = cc;
-      later = omega (arith, c.read.ensures.cause.later, before.later);
+      still = c.in_ok-count.ensures.cause.still refl ∙ before.still;
     }

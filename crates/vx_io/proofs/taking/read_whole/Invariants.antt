@@ -8,7 +8,7 @@ invariant-loop-at g l =
       within : l.at ≤ length l.buffer;
       read : ReadsFrom (g.I.Inputs.held l.fn.inputs) l.name 0 (take l.at l.buffer);
       held : g.I.Inputs.held l.inputs ≡ g.I.Inputs.held l.fn.inputs;
-      later : g.I.Inputs.faults l.fn.inputs ≤ g.I.Inputs.faults l.inputs;
+      still : g.I.Inputs.faults l.inputs ≡ g.I.Inputs.faults l.fn.inputs;
     }
 
 abbrev pub decreases-loop-at : goal.decreases-loop-at

@@ -1,10 +1,10 @@
 -- Laws of what a sink has taken, of fronts of a text, of counts of faults, and of what is read.
-use Rattle.std.proofs.Common.{◌≡◌, ◌+◌, ◌-◌, ◌≤◌, ℕ, List, [], ◌++◌, length, take, drop, Option, None, Some, Result, Ok, IfSome, IsErr, refl, sym, ap, ◌∙◌, subst, arith}
+use Rattle.std.proofs.Common.{◌≡◌, ◌+◌, ◌-◌, ◌≤◌, ℕ, List, [], ◌++◌, length, take, drop, Option, None, Some, Bool, false, IfSome, refl, sym, ap, ◌∙◌, subst, arith}
 use Rattle.std.proofs.lemmas.Bool.{false≢true}
 use Rattle.std.proofs.lemmas.List.{append-nil, append_assoc, take-append-drop, take-take, drop-take, take_rest, length-append, length-take-le, take-append-le}
 use Rattle.std.proofs.Math.Seq.{take-append-add}
 use borrow.Rule.Slice.PartMut.{put_mid}
-use Rattle.vx_io.specs.Outside.{Files, Rose, HasCause, ReadsFrom, IsPrefix, Took, TookFront}
+use Rattle.vx_io.specs.Outside.{Files, CountsFaults, ReadsFrom, IsPrefix, Took, TookFront}
 
 -- a text begins itself
 pub IsPrefix-refl : (text : List ℕ) → IsPrefix text text
@@ -69,26 +69,21 @@ TookFront-longer a b s t p =
       is_prefix = IsPrefix-trans p.front s (s ++ t) p.is_prefix (IsPrefix-append s t);
     }
 
--- what has risen has risen after more calls
-pub Rose-later : (a b c : ℕ) → Rose a b → b ≤ c → Rose a c
-Rose-later a b c p q = omega (arith, p, q)
+-- a device that wasn't called counts no fault
+pub CountsFaults-nothing : (count : ℕ) → CountsFaults false count count
+CountsFaults-nothing count = record { later = omega arith; rose = λ e. absurd (false≢true e); still = λ e. refl }
 
--- what rises in a later call rises in all of them
-pub Rose-earlier : (a b c : ℕ) → a ≤ b → Rose b c → Rose a c
-Rose-earlier a b c p q = omega (arith, p, q)
+-- a call that follows others without a fault counts for all of them
+pub CountsFaults-after : (failed : Bool) (a b c : ℕ) → CountsFaults false a b → CountsFaults failed b c → CountsFaults failed a c
+CountsFaults-after failed a b c p q = subst (λ (n : ℕ). CountsFaults failed n c) (p.still refl) q
 
--- a call that follows others has the cause of all of them
-pub HasCause-after : {T E : Type 0} (a b c : ℕ) (result : Result T E) → a ≤ b → HasCause b c result → HasCause a c result
-HasCause-after a b c result p q =
-    record { later = omega (arith, p, q.later); failed = λ e. Rose-earlier a b c p (q.failed e) }
+-- a call that others without a fault follow counts for all of them
+pub CountsFaults-before : (failed : Bool) (a b c : ℕ) → CountsFaults failed a b → CountsFaults false b c → CountsFaults failed a c
+CountsFaults-before failed a b c p q = subst (λ (n : ℕ). CountsFaults failed a n) (sym (q.still refl)) p
 
--- a call that hands a refusal on has its cause
-pub HasCause-passed : {T U E F : Type 0} (a b : ℕ) (inner : Result T E) (outer : Result U F) → IsErr inner → HasCause a b inner → HasCause a b outer
-HasCause-passed a b inner outer e p = record { later = p.later; failed = λ _. p.failed e }
-
--- a call that returned needs no cause
-pub HasCause-ok : {T E : Type 0} (a b : ℕ) (x : T) → a ≤ b → HasCause {T = T} {E = E} a b (Ok x)
-HasCause-ok a b x p = record { later = p; failed = λ e. absurd (false≢true e) }
+-- a call that hands an answer on counts what it counted
+pub CountsFaults-passed : (inner outer : Bool) (a b : ℕ) → inner ≡ outer → CountsFaults inner a b → CountsFaults outer a b
+CountsFaults-passed inner outer a b e p = subst (λ (failed : Bool). CountsFaults failed a b) e p
 
 -- a front, and then more of the same text
 take_further : (text : List ℕ) (at count : ℕ) → take at text ++ take count (drop at text) ≡ take (at + count) text
