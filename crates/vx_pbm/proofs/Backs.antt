@@ -12,7 +12,8 @@ use Rattle.vx_plane.specs.Plane.{Page}
 use Rattle.vx_bits.specs.Packed.{stride_of, packed_page, packed_row}
 use Rattle.vx_pbm.specs.declared.header.Header.{Header}
 use Rattle.vx_pbm.specs.declared.fault.PbmFault.TheVariants.{SizeTooLarge, Truncated}
-use Rattle.vx_pbm.specs.Header.{◌>>=◌, is_space, gap_size, digit_count, first_number, begins_with_space, gap_at, number_at, space_at, header_at}
+use Rattle.vx_base.specs.Results.{◌>>=◌}
+use Rattle.vx_pbm.specs.Header.{is_space, gap_size, digit_count, first_number, begins_with_space, gap_at, number_at, space_at, header_at}
 use Rattle.vx_pbm.specs.Raster.{in_size, raw_raster, raw_image, is_raw}
 use Rattle.vx_pbm.specs.Raw.{p4_of}
 use Rattle.vx_pbm.specs.Images.{whole, unread_from, with_page, ended, images_left, images_of, IsWholePage}

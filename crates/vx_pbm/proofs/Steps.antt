@@ -7,7 +7,8 @@ use Rattle.vx_plane.specs.Plane.{Page}
 use Rattle.vx_pbm.specs.declared.fault.PbmFault.{PbmFault}
 use Rattle.vx_pbm.specs.declared.fault.PbmFault.TheVariants.{BadMagic, SizeTooLarge, TrailingPlain, OutOfMemory}
 use Rattle.vx_pbm.specs.declared.header.Header.{Header}
-use Rattle.vx_pbm.specs.Header.{◌>>=◌, header_at}
+use Rattle.vx_base.specs.Results.{◌>>=◌}
+use Rattle.vx_pbm.specs.Header.{header_at}
 use Rattle.vx_pbm.specs.Raster.{in_size, raw_raster, raw_image, plain_image, is_raw, is_plain}
 use Rattle.vx_pbm.specs.Images.{unread_from, goes_on, step_over, next_of}
 

@@ -6,11 +6,13 @@ use Rattle.vx_bits.specs.Packed.{stride_of}
 use Rattle.vx_pbm.specs.declared.fault.PbmFault.{PbmFault}
 use Rattle.vx_pbm.specs.declared.fault.PbmFault.TheVariants.{BadMagic, BadHeader, SizeTooLarge, Truncated, BadPixel, TrailingPlain, OutOfMemory}
 use Rattle.vx_pbm.specs.declared.header.Header.{Header}
-use Rattle.vx_pbm.specs.Header.{◌>>=◌, header_at, is_space}
+use Rattle.vx_base.specs.Results.{◌>>=◌}
+use Rattle.vx_pbm.specs.Header.{header_at, is_space}
 use Rattle.vx_pbm.specs.Raster.{in_size, raw_raster, raw_image, plain_raster, plain_image, raster_end, is_pixel, is_raw}
 use Rattle.vx_pbm.specs.Images.{Unread, goes_on, may_be_plain, step_over, next_of, Images, with_page, ended, onwards, images_within, images_left, Walks}
 use Rattle.vx_pbm.specs.Step.{Finds}
-use Rattle.vx_pbm.proofs.Parts.{bind_ok, header_size}
+use Rattle.vx_base.proofs.Results.{bind_ok}
+use Rattle.vx_pbm.proofs.Parts.{header_size}
 
 header_test : (t : Bool) (header found : Header) (fault : PbmFault) → cond t (Ok header) (Err fault) ≡ Ok found → header ≡ found
 header_test true header found fault e = cc

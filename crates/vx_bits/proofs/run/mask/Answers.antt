@@ -1,6 +1,6 @@
 use Rattle.std.proofs.Common.{◌-◌, ◌<◌, ◌^◌, arith, rules, pow_pos}
 use Rattle.vx_bits.proofs.Filling.{shifted, mask_order, mask_small, mask_bit}
-use Rattle.vx_bits.proofs.packed.mask.Goals as goal
+use Rattle.vx_bits.proofs.run.mask.Goals as goal
 
 pub overflow_sub-result : goal.overflow_sub-result
 overflow_sub-result c = rw (shifted (8 - c.args.first) (omega arith), shifted (8 - c.args.last) (omega arith)) (mask_order c.args.first c.args.last c.requires.order)
