@@ -1,5 +1,5 @@
 -- The images of bytes: raw images one after another with nothing between, or one plain image.
-use Rattle.std.specs.Prelude.{◌≡◌, ◌≢◌, ℕ, zero, suc, ◌+◌, ◌==◌, ◌&&◌, Bool, true, false, not, List, [], ◌∷◌, ◌++◌, length, drop, if◌then◌else◌, MatchBool, Option, Some, None, option_map, Result, Ok, Err}
+use Rattle.std.specs.Prelude.{◌≡◌, ℕ, zero, suc, ◌+◌, ◌==◌, ◌&&◌, Bool, true, false, not, List, [], ◌∷◌, ◌++◌, length, drop, if◌then◌else◌, MatchBool, Option, Some, None, option_map, Result, Ok, Err}
 use Rattle.vx_base.specs.Results.{◌>>=◌}
 use Rattle.vx_plane.specs.Plane.{Page, page_of, dark_at}
 use Rattle.vx_pbm.specs.declared.fault.PbmFault.{PbmFault}
@@ -130,7 +130,7 @@ Gave old (page ∷ pages) new = (between : Unread) × Steps old (Ok (Some page))
 -- a reader that gave these pages of bytes comes to their end or to a fault: these are their images
 pub record EndsWalk (bytes : List ℕ) (pages : List Page) (unread : Unread) : Type 0 where
   pub at_end : Steps unread (Ok None) unread → images_of bytes ≡ record { pages = pages; fault = None }
-  pub at_fault : (fault : PbmFault) → fault ≢ OutOfMemory → Steps unread (Err fault) unread → images_of bytes ≡ record { pages = pages; fault = Some fault }
+  pub at_fault : (fault : PbmFault) → is_no_memory fault ≡ false → Steps unread (Err fault) unread → images_of bytes ≡ record { pages = pages; fault = Some fault }
 
 -- a whole walk gives the images of the bytes
 abbrev pub WalksAllImages : Type 0

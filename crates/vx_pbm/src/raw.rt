@@ -24,7 +24,8 @@ fn append_p4(page: &BitView<'_>, into: &mut Bytes) -> Result<(), OutOfMemory>
     ensures err { OnErr result (take (length into.old) into.new ≡ into.old) }
 {
     append_header(page.width(), page.height(), into)?;
-    page.append_raster(into)
+    page.append_raster(into)?;
+    Ok(())
 }
 
 /// Appends the page as a raw bitmap (`P4`): header and raster, its padding bits 0. After want of
