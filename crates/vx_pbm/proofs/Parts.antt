@@ -1,5 +1,5 @@
 -- The parts of a header that was read.
-use Rattle.std.proofs.Common.{◌≡◌, ◌+◌, ◌<◌, ℕ, Bool, true, false, cond, List, drop, Result, Ok, Err, arith, refl, ap, sym, ◌∙◌, subst}
+use Rattle.std.proofs.Common.{◌≡◌, ◌+◌, ◌<◌, ℕ, Bool, true, false, cond, List, drop, Result, Ok, Err, arith, ap, sym, ◌∙◌, subst}
 use Rattle.vx_base.specs.Results.{◌>>=◌}
 use Rattle.vx_base.proofs.Results.{bind_ok}
 use Rattle.vx_pbm.specs.declared.header.Header.{Header}

@@ -5,7 +5,7 @@ use Rattle.std.proofs.lemmas.Bool.{eqb-false}
 use Rattle.vx_plane.specs.Plane.{Page}
 use Rattle.vx_bits.specs.Packed.{stride_of}
 use Rattle.vx_pbm.specs.declared.fault.PbmFault.{PbmFault}
-use Rattle.vx_pbm.specs.declared.fault.PbmFault.TheVariants.{BadMagic, BadHeader, SizeTooLarge, Truncated, BadPixel, TrailingPlain}
+use Rattle.vx_pbm.specs.declared.fault.PbmFault.TheVariants.{BadMagic, SizeTooLarge, Truncated, BadPixel, TrailingPlain}
 use Rattle.vx_pbm.specs.declared.header.Header.{Header}
 use Rattle.vx_base.specs.Results.{◌>>=◌}
 use Rattle.vx_pbm.specs.Header.{header_at, is_space}

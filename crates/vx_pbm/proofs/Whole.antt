@@ -1,11 +1,11 @@
 -- Whole walks.
-use Rattle.std.proofs.Common.{◌≡◌, ℕ, Bool, true, false, List, [], ◌∷◌, ◌++◌, Some, None, Err, refl, ap, sym, ◌∙◌}
+use Rattle.std.proofs.Common.{◌≡◌, ℕ, Bool, true, false, List, [], ◌∷◌, ◌++◌, Some, None, Err, ap, sym, ◌∙◌}
 use Rattle.std.proofs.lemmas.List.{append-nil}
 use Rattle.std.specs.Bool.{MatchBool}
 use Rattle.vx_plane.specs.Plane.{Page}
 use Rattle.vx_pbm.specs.declared.fault.PbmFault.{PbmFault}
 use Rattle.vx_pbm.specs.Faults.{is_no_memory}
-use Rattle.vx_pbm.specs.Images.{Unread, whole, may_be_plain, next_of, Images, with_page, ended, onwards, images_left, images_of, Steps, Gave, EndsWalk}
+use Rattle.vx_pbm.specs.Images.{Unread, whole, may_be_plain, next_of, Images, with_page, ended, onwards, images_left, images_of, Gave, EndsWalk}
 use Rattle.vx_pbm.proofs.Walks.{images_step, walks_page, walks_end}
 
 -- the pages that a reader gave are the first ones of what was left

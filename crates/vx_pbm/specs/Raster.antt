@@ -1,5 +1,5 @@
 -- The pixels behind a header, and whole images.
-use Rattle.std.specs.Prelude.{◌≡◌, ◌<◌, ◌≤◌, ℕ, ◌+◌, ◌-◌, ◌*◌, ◌==◌, ◌&&◌, ◌||◌, Bool, false, List, [], ◌∷◌, length, map, filter, drop, take, pos, slice_index_or, nat_lt, nat_le, nat_eq, codes, if◌then◌else◌, Result, Ok, Err}
+use Rattle.std.specs.Prelude.{◌<◌, ◌≤◌, ℕ, ◌+◌, ◌-◌, ◌*◌, ◌==◌, ◌&&◌, ◌||◌, Bool, false, List, [], ◌∷◌, length, map, filter, drop, take, pos, slice_index_or, nat_lt, nat_le, nat_eq, codes, if◌then◌else◌, Result, Ok, Err}
 use Rattle.std.specs.List.{starts_with}
 use Rattle.vx_base.specs.Results.{◌>>=◌}
 use Rattle.vx_plane.specs.Plane.{Pixels, Page, page_of}

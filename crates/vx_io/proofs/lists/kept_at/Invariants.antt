@@ -1,6 +1,6 @@
 use Rattle.std.proofs.Common.{◌≡◌, ◌==◌, drop}
 use Rattle.vx_io.specs.Fakes.{lookup}
-use Rattle.vx_io.proofs.lists.KeeperCalls.find.Given as goal
+use Rattle.vx_io.proofs.lists.kept_at.Given as goal
 
 abbrev pub invariant-loop-call : goal.invariant-loop-call
 invariant-loop-call l =
