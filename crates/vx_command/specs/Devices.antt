@@ -49,7 +49,7 @@ pub record TouchesNothing {A : Type 0} (answer : Result A Halt) : Type 0 where
   pub no_keeper_fault : is_keeper_fault answer ≡ false
 
 -- A command that answers so has written nothing: its election or its cards halted it, and its inputs where it takes all of them before it writes.
-abbrev pub writes_nothing : Bool → Result (Unit {0}) Halt → Bool
+abbrev pub writes_nothing : {A : Type 0} → Bool → Result A Halt → Bool
 writes_nothing takes_first (Err (NoInput word)) = word == 1
 writes_nothing takes_first (Err (TooLong word size)) = word == 1
 writes_nothing takes_first (Err (Election fault)) = true

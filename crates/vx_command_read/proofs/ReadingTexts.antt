@@ -1,31 +1,19 @@
 -- Texts that are written piece by piece.
-use Rattle.std.proofs.Common.{◌≡◌, ℕ, ◌+◌, List, [], ◌∷◌, ◌++◌, map, take, get_or, codes, cond, refl, sym, ap, ap₂, ◌∙◌, append-nil, append_assoc}
-use Rattle.std.specs.Prelude.{Some, slice_get, Result, Ok, Err, OnOk, is_ok}
+use Rattle.std.proofs.Common.{◌≡◌, ℕ, Bool, false, List, [], ◌∷◌, ◌++◌, map, take, codes, refl, sym, ap, ap₂, ◌∙◌, append_assoc}
+use Rattle.std.specs.Prelude.{Result, Ok, Err}
 use Rattle.std.specs.List.{flat_map}
-use Rattle.std.proofs.lemmas.List.{take_more}
-use Rattle.std.proofs.lemmas.List.Concat.{flat_map-append}
-use Rattle.std.proofs.lemmas.Option.{slice_get_within, get_or_from_slice_get}
+use Rattle.std.proofs.lemmas.List.Folds.{flat_map-map}
+use Rattle.vx_base.specs.Refusals.{Unless}
+use Rattle.vx_base.proofs.Results.{Unless-no}
 use Rattle.vx_plane.specs.Plane.{Page}
 use Rattle.vx_grid.specs.declared.places.Point.{Point}
 use Rattle.vx_election.specs.declared.election.Election.{Election}
-use Rattle.vx_layout.specs.declared.bubbles.Bubble.{Bubble}
+use Rattle.vx_layout.specs.declared.pages.PagePlan.{PagePlan}
 use Rattle.vx_scan_model.specs.declared.reading.PageReading.{PageReading}
 use Rattle.vx_scan_model.specs.declared.fault.PageFault.{PageFault}
-use Rattle.vx_scan_model.specs.declared.fault.PageFault.TheVariants.{FrameSize, Border, Code, OtherElection, NoCard, NoPage, OutOfMemory}
-use Rattle.vx_scan_model.specs.Reading.{reading_of, Answers}
-use Rattle.vx_page.specs.Named.{named_plan}
+use Rattle.vx_scan_model.specs.Faults.{is_no_memory}
+use Rattle.vx_scan_model.specs.Reading.{reading_of, named_plan}
 use Rattle.vx_command_read.specs.ReadingText.{line_of, place_word, border_line, block_text, fault_line, bubbles_on, reading_text, image_text}
-
--- one element more
-pub flat_map-take_more : {X : Type 0} (f : X → List ℕ) (xs : List X) (i : ℕ) (x : X) → slice_get xs i ≡ Some x → flat_map f (take (i + 1) xs) ≡ flat_map f (take i xs) ++ f x
-flat_map-take_more f xs i x h =
-    ap (flat_map f) (take_more xs i x (slice_get_within xs i x h))
-    ∙ flat_map-append f (take i xs) (get_or xs i x ∷ [])
-    ∙ ap (λ (ys : List ℕ). flat_map f (take i xs) ++ ys) (append-nil (f (get_or xs i x)) ∙ ap f (get_or_from_slice_get xs i x x h))
-
-flat_map-map : {X Y : Type 0} (f : Y → List ℕ) (g : X → Y) (xs : List X) → flat_map f (map g xs) ≡ flat_map (λ (x : X). f (g x)) xs
-flat_map-map f g [] = refl
-flat_map-map f g (x ∷ xs) = ap (λ (ys : List ℕ). f (g x) ++ ys) (flat_map-map f g xs)
 
 -- a line is its first word, the others each behind a blank, and the line end
 line_of-words : (word : List ℕ) (words : List (List ℕ)) → line_of (word ∷ words) ≡ word ++ (flat_map (λ other. 32 ∷ other) words ++ 10 ∷ [])
@@ -51,32 +39,13 @@ border_line-laid old begun now border k begins laid all =
     ∙ append_assoc old (codes "border") (laid_places border ++ 10 ∷ [])
     ∙ ap (λ (line : List ℕ). old ++ line) (sym (line_of-map (codes "border") place_word border))
 
--- a text that was pushed, or else refused
-pub OnOk-pushed : {F : Type 0} (result : Result (Unit {0}) F) (old more now all : List ℕ) → now ≡ cond (is_ok result) (old ++ more) old → old ++ more ≡ all → OnOk result (now ≡ all)
-OnOk-pushed (Ok done) old more now all h k = h ∙ k
-OnOk-pushed (Err refused) old more now all h k = tt
-
 -- what a reading's block says is what `read` writes
-pub image_text-read : (election : Election) (number : ℕ) (page : Page) (reading : PageReading) (bubbles : List Bubble) → reading_of election page ≡ Ok reading → bubbles ≡ bubbles_on (named_plan election reading.code) → block_text number bubbles reading ≡ image_text election number page
+pub image_text-read : (election : Election) (number : ℕ) (page : Page) (reading : PageReading) (plan : PagePlan) → reading_of election page ≡ Ok reading → named_plan election reading.code ≡ Ok plan → block_text number plan.bubbles reading ≡ image_text election number page
 unfolding image_text
-image_text-read election number page reading bubbles is on =
-    ap (λ (list : List Bubble). block_text number list reading) on ∙ ap (reading_text election number) (sym is)
-
-answered-fault : (fault : PageFault) (answer : Result PageReading PageFault) → Answers (Err fault) answer → (fault ≡ OutOfMemory → ⊥) → answer ≡ Err fault
-answered-fault (FrameSize width height) answer h known = h
-answered-fault (Border fault) answer h known = h
-answered-fault (Code fault) answer h known = h
-answered-fault (OtherElection tag) answer h known = h
-answered-fault (NoCard card) answer h known = h
-answered-fault (NoPage page) answer h known = h
-answered-fault OutOfMemory answer h known = absurd (known refl)
+image_text-read election number page reading plan is named =
+    ap (λ (on : Result PagePlan PageFault). block_text number (bubbles_on on) reading) (sym named) ∙ ap (reading_text election number) (sym is)
 
 -- what a fault's line says is what `read` writes
-pub image_text-fault : (election : Election) (number : ℕ) (page : Page) (fault : PageFault) → Answers (Err fault) (reading_of election page) → (fault ≡ OutOfMemory → ⊥) → fault_line number fault ≡ image_text election number page
+pub image_text-fault : (election : Election) (number : ℕ) (page : Page) (fault : PageFault) → Unless (is_no_memory fault) (reading_of election page ≡ Err fault) → is_no_memory fault ≡ false → fault_line number fault ≡ image_text election number page
 unfolding image_text
-image_text-fault election number page fault h known = ap (reading_text election number) (sym (answered-fault fault (reading_of election page) h known))
-
--- of what was written, that it is known, and what it says
-pub OnOk-both : {T F P Q R : Type 0} (result : Result T F) → (P → Q → R) → OnOk result P → OnOk result Q → OnOk result R
-OnOk-both (Ok done) f p q = f p q
-OnOk-both (Err refused) f p q = tt
+image_text-fault election number page fault is known = ap (reading_text election number) (sym (Unless-no (is_no_memory fault) known is))

@@ -13,8 +13,7 @@ use Rattle.vx_layout.specs.declared.pages.PagePlan.{PagePlan}
 use Rattle.vx_scan_model.specs.declared.reading.PageReading.{PageReading}
 use Rattle.vx_scan_model.specs.declared.fault.PageFault.{PageFault}
 use Rattle.vx_scan_model.specs.FaultTexts.{fault_text}
-use Rattle.vx_scan_model.specs.Reading.{reading_of}
-use Rattle.vx_page.specs.Named.{named_plan}
+use Rattle.vx_scan_model.specs.Reading.{reading_of, named_plan}
 use Rattle.vx_command.specs.Kinds.{kind_word}
 
 -- words as a line: a blank between two of them, and a line end

@@ -64,8 +64,10 @@ pub fn read_scan<S: Sink>(
         match reader.next() {
             Err(fault) => return Err(halt_of_bitmap(word, fault)),
             Ok(None) => return Ok(number),
-            Ok(Some(image)) => read_image(alloc, election, plans, number, image, out)?,
+            Ok(Some(image)) => {
+                read_image(alloc, election, plans, number, image, out)?;
+                number += 1;
+            }
         }
-        number += 1;
     }
 }

@@ -1,7 +1,8 @@
-ghost use Rattle.std.specs.Prelude.{◌≡◌, ◌≢◌, ◌++◌, Ok, OnOk, length, string_bytes};
+ghost use Rattle.std.specs.Prelude.{◌≡◌, ◌++◌, false, Ok, OnOk, length, string_bytes};
 ghost use Rattle.vx_base.specs.Refusals.{Gives};
 ghost use Rattle.vx_election.specs.Valid.{IsValid};
 ghost use Rattle.vx_layout.specs.Plans.{ArePlansOf};
+ghost use Rattle.vx_scan_model.specs.Faults.{is_no_memory as is_page_no_memory};
 ghost use Rattle.vx_command.specs.Steps.{is_no_memory};
 ghost use Rattle.vx_command_read.specs.ReadingText as reading;
 ghost use Rattle.vx_command_read.specs.ReadingText.{page_line, border_line, bubble_line, bubble_lines, block_text, fault_line, image_text as image_text_of};
@@ -11,7 +12,7 @@ use vx_bits::{BitView, Bytes, OutOfMemory};
 use vx_code::PageCode;
 use vx_command::{Halt, kind_word};
 use vx_election::Election;
-use vx_grid::{Border, Kind, MARKS, State};
+use vx_grid::{Border, MARKS, State};
 use vx_layout::{Bubble, CardPlans};
 use vx_page::read_planned;
 use vx_scan_model::{PageFault, PageReading};
@@ -110,7 +111,7 @@ fn push_block(
 
 /// Adds the line of a fault, unless it is want of memory.
 fn push_fault(text: &mut String, number: u64, fault: PageFault) -> Result<(), OutOfMemory>
-    ensures known { OnOk result (fault ≢ PageFault.OutOfMemory) }
+    ensures known { OnOk result (is_page_no_memory fault ≡ false) }
     ensures line { OnOk result (string_bytes text.new ≡ string_bytes text.old ++ fault_line number fault) }
 {
     match fault {

@@ -1,7 +1,9 @@
 use Rattle.std.proofs.Common.{◌≤◌, ◌++◌, ◌∷◌, [], ℕ, List, length, take, string_bytes, sym, ap, ◌∙◌, append_assoc, arith}
 use Rattle.std.proofs.lemmas.List.{take_all}
 use Rattle.vx_command_read.specs.ReadingText.{place_word, border_line}
-use Rattle.vx_command_read.proofs.ReadingTexts.{laid_places, flat_map-take_more, border_line-laid, OnOk-pushed}
+use Rattle.vx_base.proofs.Lists.{flat_map-take_more}
+use Rattle.vx_base.proofs.Results.{OnOk-pushed}
+use Rattle.vx_command_read.proofs.ReadingTexts.{laid_places, border_line-laid}
 use Rattle.vx_command_read.proofs.reading_text.push_border.Goals as goal
 
 pub loop-k-preserved : goal.loop-k-preserved
