@@ -1,12 +1,15 @@
 -- What a task may answer of an item, and the answers of all items in the items' order.
-use Rattle.std.specs.Prelude.{◌≡◌, ℕ, List, Option, Result, Ok, IfSome, slice_get}
+use Rattle.std.specs.Prelude.{◌≡◌, ℕ, List, Option, Result, Ok, All, IfOk, IfSome, slice_get}
 use Rattle.std.specs.declared.alloc.AllocError.{AllocError}
+use Rattle.std.specs.declared.alloc.Global.{Global}
+use Rattle.std.specs.declared.vec.Vec.{Vec}
 use Rattle.std.specs.Fn.{FnReturnsAt, Shared}
 use Rattle.std.specs.List.{AllZip}
 use Rattle.std.specs.Option.{IsSomeAnd}
 use denote.Ref.{Bor}
 use Rattle.vx_workers.specs.declared.places.Answered.{Answered}
 
+-- of a task and its calls
 module _ {F T U : Type 0} (calls : Shared F (Bor T × Unit {0}) (Result U AllocError)) (task : F) where
   -- the task may be called on the item
   abbrev pub MayTake : T → Type 0
@@ -27,6 +30,10 @@ module _ {F T U : Type 0} (calls : Shared F (Bor T × Unit {0}) (Result U AllocE
   -- the same, with its place
   abbrev pub IsAnswerAt : List T → Answered U → Type 0
   IsAnswerAt items done = IsAnswerOf items done.place done.answer
+
+  -- what a worker did: answers with their places, or want of memory
+  abbrev pub IsShare : List T → Result (Vec (Answered U) Global) AllocError → Type 0
+  IsShare items share = IfOk share (λ done. All (IsAnswerAt items) done.items)
 
   -- a place that is empty or has an answer of the item
   abbrev pub IsPlace : T → Option U → Type 0

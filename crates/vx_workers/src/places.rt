@@ -1,5 +1,5 @@
 ghost use Rattle.std.specs.Prelude.{◌≡◌, ◌<◌, ◌^◌, length, All, IfOk, IfSome, Some, vec_len, slice_set};
-ghost use Rattle.vx_workers.specs.Answers.{MayTake, IsAnswerOf, IsAnswerAt, ArePlaces, AnswersInOrder};
+ghost use Rattle.vx_workers.specs.Answers.{MayTake, IsAnswerOf, IsAnswerAt, IsShare, ArePlaces, AnswersInOrder};
 
 use crate::gate::Gate;
 use crate::tasks::answer_at;
@@ -24,8 +24,8 @@ pub fn put_in_order<T, U: Drop, G: Gate, F: Fn(&T) -> Result<U, OutOfMemory>>(
 ) -> Result<Vec<U>, OutOfMemory>
     requires few_items { length items.now < 2 ^ 32 }
     requires takes_each { All (MayTake F.Fn task.now) items.now }
-    requires shares { All (λ share. IfOk share (λ done. All (IsAnswerAt F.Fn task.now items.now) done.items)) shares.items }
-    ensures { IfOk result (λ answers. AnswersInOrder F.Fn task.now items.now answers.items) }
+    requires shares { All (IsShare F.Fn task.now items.now) shares.items }
+    ensures { IfOk result (λ given. AnswersInOrder F.Fn task.now items.now given.items) }
 {
     let mut places = empty_places(alloc, items, task)?;
     while let Some(share) = shares.pop() {
@@ -85,7 +85,7 @@ fn take_answers<T, U: Drop, G: Gate, F: Fn(&T) -> Result<U, OutOfMemory>>(
     requires few_items { length items.now < 2 ^ 32 }
     requires takes_each { All (MayTake F.Fn task.now) items.now }
     requires places { ArePlaces F.Fn task.now items.now places.items }
-    ensures { IfOk result (λ answers. AnswersInOrder F.Fn task.now items.now answers.items) }
+    ensures { IfOk result (λ given. AnswersInOrder F.Fn task.now items.now given.items) }
 {
     let mut answers = Vec::with_capacity(alloc, items.len())?;
     for place in 0..items.len() {

@@ -1,5 +1,5 @@
 ghost use Rattle.std.specs.Prelude.{◌≡◌, ◌<◌, ◌≤◌, ◌^◌, length, slice_get, All, IfOk, Some};
-ghost use Rattle.vx_workers.specs.Answers.{MayTake, IsAnswer, IsAnswerOf, IsAnswerAt, AnswersInOrder};
+ghost use Rattle.vx_workers.specs.Answers.{MayTake, IsAnswer, IsAnswerOf, IsShare, AnswersInOrder};
 
 use crate::gate::Gate;
 use crate::places::{Answered, put_in_order};
@@ -32,12 +32,12 @@ pub fn map_tasks<
     requires few_workers { workers ≤ 64 }
     requires few_items { length items.now < 2 ^ 32 }
     requires takes_each { All (MayTake F.Fn task.now) items.now }
-    ensures in_order { IfOk result (λ answers. AnswersInOrder F.Fn task.now items.now answers.items) }
+    ensures in_order { IfOk result (λ given. AnswersInOrder F.Fn task.now items.now given.items) }
 {
     let next = AtomicUsize::new(0);
     let worker = |_: usize| -> Result<Vec<Answered<U>>, OutOfMemory>
         requires { (length items.now < 2 ^ 32) × All (MayTake F.Fn task.now) items.now }
-        ensures { IfOk result (λ done. All (IsAnswerAt F.Fn task.entry.now items.entry.now) done.items) }
+        ensures { IsShare F.Fn task.entry.now items.entry.now result }
     { work(alloc, items, &next, gate, task) };
     let threads = items.len().min(workers as usize);
     let shares = thread::map_indices(rt, alloc, threads, &worker)?;
@@ -54,7 +54,7 @@ fn work<T, U: Drop, G: Gate, F: Fn(&T) -> Result<U, OutOfMemory>>(
 ) -> Result<Vec<Answered<U>>, OutOfMemory>
     requires few_items { length items.now < 2 ^ 32 }
     requires takes_each { All (MayTake F.Fn task.now) items.now }
-    ensures { IfOk result (λ done. All (IsAnswerAt F.Fn task.now items.now) done.items) }
+    ensures { IsShare F.Fn task.now items.now result }
 {
     match take_items(alloc, items, next, gate, task) {
         Ok(done) => Ok(done),
@@ -75,7 +75,7 @@ fn take_items<T, U: Drop, G: Gate, F: Fn(&T) -> Result<U, OutOfMemory>>(
 ) -> Result<Vec<Answered<U>>, OutOfMemory>
     requires few_items { length items.now < 2 ^ 32 }
     requires takes_each { All (MayTake F.Fn task.now) items.now }
-    ensures { IfOk result (λ done. All (IsAnswerAt F.Fn task.now items.now) done.items) }
+    ensures { IsShare F.Fn task.now items.now result }
 {
     let mut done = Vec::new(alloc);
     for _ in items {

@@ -2,7 +2,7 @@ ghost use Rattle.std.specs.Prelude.{◌≡◌, ◌<◌, ◌≤◌, ◌*◌, ◌^
 
 use super::*;
 use std::alloc::Global;
-use std::sync::atomic::{AtomicBool, Ordering};
+use std::sync::atomic::{AtomicBool, AtomicU64, Ordering};
 use std::test::Fail;
 use std::thread::Threads;
 use vx_base::OutOfMemory;
@@ -10,34 +10,39 @@ use vx_base::OutOfMemory;
 /// The turns for which a gate holds an item, each of them one load.
 const TURNS: u32 = 100_000_000;
 
-/// Holds each of two items until the other has entered.
+/// Holds the items up to number `held` until `all` items have entered.
 #[derive(Drop)]
 struct Meeting {
-    first: AtomicBool,
-    second: AtomicBool,
+    held: u32,
+    all: u64,
+    entered: AtomicU64,
     is_spent: AtomicBool,
 }
 
 impl Meeting {
-    fn new() -> Self {
+    fn new(held: u32, all: u64) -> Self {
         Meeting {
-            first: AtomicBool::new(false),
-            second: AtomicBool::new(false),
+            held,
+            all,
+            entered: AtomicU64::new(0),
             is_spent: AtomicBool::new(false),
         }
+    }
+
+    /// Each item has entered once, and none was held for all its turns.
+    fn is_met(&self) -> bool {
+        self.entered.load(Ordering::SeqCst) == self.all && !self.is_spent.load(Ordering::SeqCst)
     }
 }
 
 impl Gate for Meeting {
     fn enter(&self, call: u32) -> bool {
-        let (mine, other) = if call == 1 {
-            (&self.first, &self.second)
-        } else {
-            (&self.second, &self.first)
-        };
-        mine.store(true, Ordering::SeqCst);
+        self.entered.fetch_add(1, Ordering::SeqCst);
+        if call > self.held {
+            return true;
+        }
         for _ in 0..TURNS {
-            if other.load(Ordering::SeqCst) {
+            if self.entered.load(Ordering::SeqCst) >= self.all {
                 return true;
             }
         }
@@ -79,9 +84,18 @@ fn squares_of_three_and_of_none(rt: HostRuntime) -> Result<(), Fail> {
 
 #[test]
 fn two_items_are_done_side_by_side(rt: HostRuntime) -> Result<(), Fail> {
-    let meeting = Meeting::new();
+    let meeting = Meeting::new(2, 2);
     let answers = squares(&rt, rt.alloc(), &[5, 6], 2, &meeting)?;
     assert_eq!(rt; answers.as_slice(), [25, 36].as_slice());
-    assert!(rt; !meeting.is_spent.load(Ordering::SeqCst));
+    assert!(rt; meeting.is_met());
+    Ok(())
+}
+
+#[test]
+fn a_free_worker_takes_the_next_item(rt: HostRuntime) -> Result<(), Fail> {
+    let meeting = Meeting::new(1, 4);
+    let answers = squares(&rt, rt.alloc(), &[5, 6, 7, 8], 2, &meeting)?;
+    assert_eq!(rt; answers.as_slice(), [25, 36, 49, 64].as_slice());
+    assert!(rt; meeting.is_met());
     Ok(())
 }
