@@ -1,7 +1,7 @@
 ghost use Rattle.std.specs.Prelude.{◌≡◌, ◌+◌, ◌<◌, ◌/◌, ◌%◌, ℕ, length, ◌≢◌};
 ghost use Rattle.std.specs.Int.{bit_at};
 ghost use Rattle.vx_plane.specs.Count.{one_if};
-ghost use Rattle.vx_bits.specs.Packed.{stride_of, packed_pixel};
+ghost use Rattle.vx_bits.specs.Packed.{IsSameElsewhere, packed_pixel, stride_of};
 
 /// The number of bytes of a packed row of `width` pixels.
 pub(crate) fn stride(width: u32) -> usize
@@ -33,7 +33,7 @@ fn with_bit(byte: u8, place: u32, dark: bool) -> u8
 pub(crate) fn put(rows: &mut [u8], start: usize, x: u32, dark: bool)
     requires { start + x / 8 < length rows.old }
     ensures same { packed_pixel rows.new start x ≡ dark }
-    ensures others { (other y : ℕ) → (other + y / 8 ≡ start + x / 8 → y % 8 ≡ x % 8 → ⊥) → packed_pixel rows.new other y ≡ packed_pixel rows.old other y }
+    ensures others { IsSameElsewhere rows.old rows.new start x }
 {
     let at = start + (x / 8) as usize;
     let byte = with_bit(rows[at], 7 - x % 8, dark);

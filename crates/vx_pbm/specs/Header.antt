@@ -18,7 +18,10 @@ ends_comment byte = (byte == 10) || (byte == 13)
 abbrev pub gap_size : Bool → List ℕ → ℕ
 gap_size in_comment [] = 0
 gap_size true (byte ∷ rest) = gap_size (not (ends_comment byte)) rest + 1
-gap_size false (byte ∷ rest) = if is_space byte then gap_size false rest + 1 else if byte == 35 then gap_size true rest + 1 else 0
+gap_size false (byte ∷ rest) =
+    if is_space byte then gap_size false rest + 1
+    else if byte == 35 then gap_size true rest + 1
+    else 0
 
 -- the number of decimal digits that a text begins with
 abbrev pub digit_count : List ℕ → ℕ

@@ -21,7 +21,8 @@ fn is_pixel(byte: u8) -> bool
 fn put(page: &mut BitPage, index: u32, dark: bool)
     requires { index < page.old.height * page.old.width }
     ensures { page.new ≡ (if dark then page_of page.old.width page.old.height
-        (with_pixel (dark_at page.old) (pos (index % page.old.width)) (pos (index / page.old.width)) true) else page.old) }
+        (with_pixel (dark_at page.old) (pos (index % page.old.width)) (pos (index / page.old.width)) true)
+        else page.old) }
 {
     if dark {
         let width = page.width();
