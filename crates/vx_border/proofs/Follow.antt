@@ -41,33 +41,35 @@ point_at_before places k j p before = let apart : j ≢ k = λ e. absurd (omega 
 point_at_own : (places : List Point) (k : ℕ) (p : Point) → k < length places → point_at (set places k p) k ≡ p
 point_at_own places k p inside = get_or-set_same places k p (record { u = pos 0; v = pos 0 }) inside
 
--- where a mark is expected doesn't change
-prediction_before : (places : List Point) (k j : ℕ) (p : Point) → 0 < j → j ≤ k → prediction_of (set places k p) j ≡ prediction_of places j
-prediction_before places k j p some most = ap (expected_from j) (point_at_before places k (leader_of j) p (omega (arith, leader_before j some)))
+-- where a mark is expected is told by the places before it
+prediction_same : (n : ℕ) (places longer : List Point) → ((k : ℕ) → k < n → point_at longer k ≡ point_at places k) → (j : ℕ) → 0 < j → j ≤ n → prediction_of longer j ≡ prediction_of places j
+prediction_same n places longer same j some most = ap (expected_from j) (same (leader_of j) (omega (arith, leader_before j some)))
 
--- a followed list with one place more
-pub followed_more : (page : Page) (k : ℕ) (places : List Point) (p : Point) → 0 < k → k < length places → IsFollowed page k places → IsBest page (prediction_of places k) p → IsFollowed page (k + 1) (set places k p)
-followed_more page k places p some inside f best =
+-- a list that begins with followed places, with one place more
+pub followed_grows : (page : Page) (n : ℕ) (places longer : List Point) → 0 < n → IsFollowed page n places → ((k : ℕ) → k < n → point_at longer k ≡ point_at places k) → IsBest page (prediction_of places n) (point_at longer n) → IsFollowed page (n + 1) longer
+followed_grows page n places longer some f same best =
     let Corner : Point → Type 0 = λ x. IsCorner page x in
-    let Own : Point → Type 0 = λ x. IsBest page (prediction_of places k) x in
-    let own : IsBest page (prediction_of places k) (point_at (set places k p) k) = subst Own (sym (point_at_own places k p inside)) best in
+    let expected : (j : ℕ) → 0 < j → j ≤ n → IsBest page (prediction_of places j) (point_at longer j) → IsBest page (prediction_of longer j) (point_at longer j) =
+    λ j low high here. let Expected : Point → Type 0 = λ q. IsBest page q (point_at longer j) in subst Expected (sym (prediction_same n places longer same j low high)) here in
     record {
-      corner = subst Corner (sym (point_at_before places k 0 p some)) f.corner;
+      corner = subst Corner (sym (same 0 some)) f.corner;
       next = λ j low high.
-          elim (cases_lt j k) [
+          elim (cases_lt j n) [
             | inl before ↦
                 let Here : Point → Type 0 = λ x. IsBest page (prediction_of places j) x in
-                let here : IsBest page (prediction_of places j) (point_at (set places k p) j) = subst Here (sym (point_at_before places k j p before)) (f.next j low before) in
-                let Expected : Point → Type 0 = λ q. IsBest page q (point_at (set places k p) j) in
-                subst Expected (sym (prediction_before places k j p low (omega arith))) here
+                expected j low (omega arith) (subst Here (sym (same j before)) (f.next j low before))
             | inr not_before ↦
-                let last : k ≡ j = omega arith in
-                let Expected : Point → Type 0 = λ q. IsBest page q (point_at (set places k p) k) in
-                let expected : IsBest page (prediction_of (set places k p) k) (point_at (set places k p) k) = subst Expected (sym (prediction_before places k k p some (omega arith))) own in
-                let At : ℕ → Type 0 = λ m. IsBest page (prediction_of (set places k p) m) (point_at (set places k p) m) in
-                subst At last expected
+                let last : n ≡ j = omega arith in
+                let At : ℕ → Type 0 = λ m. IsBest page (prediction_of longer m) (point_at longer m) in
+                subst At last (expected n some (omega arith) best)
           ];
     }
+
+-- so where it is written into the list
+pub followed_more : (page : Page) (k : ℕ) (places : List Point) (p : Point) → 0 < k → k < length places → IsFollowed page k places → IsBest page (prediction_of places k) p → IsFollowed page (k + 1) (set places k p)
+followed_more page k places p some inside f best =
+    let Own : Point → Type 0 = λ x. IsBest page (prediction_of places k) x in
+    followed_grows page k places (set places k p) some f (λ j before. point_at_before places k j p before) (subst Own (sym (point_at_own places k p inside)) best)
 
 -- the element at an index, whatever stands for one past the end
 pub point_at_is : (places : List Point) (i : ℕ) (p : Point) → i < length places → p ≡ get_or places i p → point_at places i ≡ p

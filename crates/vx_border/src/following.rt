@@ -1,6 +1,4 @@
-ghost use Rattle.std.specs.Prelude.{◌≡◌, ◌<◌, ◌↔◌, ℕ, List, ◌+ℤ◌, ◌-ℤ◌, ◌≤ℤ◌, IsTrue, IfOk, OnOk, IfErr, length};
-ghost use Rattle.vx_plane.specs.Plane.{Page};
-ghost use Rattle.vx_grid.specs.declared.places.Point.{Point as PointOf};
+ghost use Rattle.std.specs.Prelude.{◌≡◌, ◌<◌, ◌↔◌, ◌+ℤ◌, ◌-ℤ◌, ◌≤ℤ◌, IsTrue, IfOk, OnOk, IfErr, length};
 ghost use Rattle.vx_grid.specs.Places.{IsWithin, IsPointWithin, AreWithin, point_at};
 ghost use Rattle.vx_border.specs.Border.{side_of as side_is, index_of as index_is, is_in_row, leader_of as leader_is, expected_from, right_of as right_is, IsFollowed, IsLack, IsBorderOf};
 ghost use Rattle.vx_mark.specs.Corner.{IsCorner};
@@ -149,10 +147,3 @@ pub fn trace(counter: &Counter) -> Result<Border, BorderFault>
         Err(BorderFault::OpenBorder(end, found))
     }
 }
-
-/// Two followed lists of the same number of marks have the same places: so a scan has one border
-/// at most, and one first mark that isn't found.
-pub fn borders_are_one()
-    ensures { (page : Page) (n : ℕ) (a b : List PointOf) → IsFollowed page n a → IsFollowed page n b →
-        (k : ℕ) → k < n → point_at a k ≡ point_at b k }
-{}

@@ -1,12 +1,15 @@
 //! The border of a scanned page: its 146 timing marks, followed round the page from the corner.
 //!
-//! What a followed list of places is, and what `trace` answers, is defined in `specs/Border.antt`;
-//! that there is at most one followed list of each length is a clause of `trace`.
+//! What a followed list of places is, and what `trace` answers, is defined in `specs/Border.antt`.
+//! That a scan has one border, or one first fault, is a law in `specs/Laws.antt`, and so is how a
+//! followed list grows.
 #![tactic(auto)]
 
 mod following;
+mod laws;
 
-pub use following::{BorderFault, borders_are_one, trace};
+pub use following::{BorderFault, trace};
+pub use laws::{a_list_is_followed, borders_are_one};
 
 #[cfg(test)]
 mod tests;

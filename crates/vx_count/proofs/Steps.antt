@@ -1,27 +1,42 @@
--- The steps of a count: one pixel more of a row, one row more of a rectangle.
-use Rattle.std.proofs.Common.{◌≡◌, ℕ, ◌+◌, ◌*◌, ◌≤◌, true, false, ℤ, pos, ◌+ℤ◌, ap, ap₂, sym, ◌∙◌, arith}
-use Rattle.vx_plane.specs.Plane.{Pixels}
-use Rattle.vx_plane.specs.Count.{one_if, count_in}
-use Rattle.vx_plane.proofs.Counts.{count_in-columns, count_in-rows, count_in-one, count_in-bound}
+-- The steps of a count: some columns more of a row, one row more of a rectangle.
+use Rattle.std.proofs.Common.{◌≡◌, ℕ, ◌+◌, ◌-◌, ◌*◌, ◌/◌, ◌%◌, ◌≤◌, pos, refl, ap, ap₂, sym, ◌∙◌, arith}
+use Rattle.vx_plane.specs.Plane.{Pixels, Page, dark_at}
+use Rattle.vx_plane.specs.Count.{count_in}
+use Rattle.vx_plane.proofs.Counts.{count_in-columns, count_in-rows, count_in-bound}
 
--- a dark pixel more, and a light one more
-pub dark_more : (u v : ℤ) (n dark : ℕ) (set : Pixels) → dark ≡ count_in u v n 1 set → set (u +ℤ pos n) v ≡ true → dark + 1 ≡ count_in u v (n + 1) 1 set
-dark_more u v n dark set e here =
-    ap₂ (λ (a b : ℕ). a + b) e (sym (count_in-one (u +ℤ pos n) v set ∙ ap one_if here)) ∙ sym (count_in-columns u v n 1 1 set)
+-- a row's count of m columns, and of n more, is that of all of them
+pub more_columns : (left right row m n all dark more : ℕ) (set : Pixels) → dark ≡ count_in (pos left) (pos row) m 1 set → more ≡ count_in (pos right) (pos row) n 1 set → right ≡ left + m → all ≡ m + n → dark + more ≡ count_in (pos left) (pos row) all 1 set
+more_columns left right row m n all dark more set e f next whole =
+    ap₂ (λ (a b : ℕ). a + b) e (f ∙ ap (λ z. count_in (pos z) (pos row) n 1 set) next)
+    ∙ sym (count_in-columns (pos left) (pos row) m n 1 set)
+    ∙ ap (λ k. count_in (pos left) (pos row) k 1 set) (sym whole)
 
-pub light_more : (u v : ℤ) (n dark : ℕ) (set : Pixels) → dark ≡ count_in u v n 1 set → set (u +ℤ pos n) v ≡ false → dark ≡ count_in u v (n + 1) 1 set
-light_more u v n dark set e here =
-    let none : count_in (u +ℤ pos n) v 1 1 set ≡ 0 = count_in-one (u +ℤ pos n) v set ∙ ap one_if here in
-    omega (arith, count_in-columns u v n 1 1 set)
+-- one row more
+pub more_rows : (left top width n dark more : ℕ) (set : Pixels) → dark ≡ count_in (pos left) (pos top) width n set → more ≡ count_in (pos left) (pos (top + n)) width 1 set → dark + more ≡ count_in (pos left) (pos top) width (n + 1) set
+more_rows left top width n dark more set e f =
+    ap₂ (λ (a b : ℕ). a + b) e f ∙ sym (count_in-rows (pos left) (pos top) width n 1 set)
 
--- a row's count in a rectangle of at most 4096 pixels each way
-pub row_fits : (u v : ℤ) (n dark : ℕ) (set : Pixels) → dark ≡ count_in u v n 1 set → n ≤ 4096 → dark ≤ 4096
-row_fits u v n dark set e h = omega (arith, count_in-bound u v n 1 4096 1 set h (omega arith))
+-- a row's count is at most its columns
+pub row_fits : (left row n dark : ℕ) (set : Pixels) → dark ≡ count_in (pos left) (pos row) n 1 set → dark ≤ n
+row_fits left row n dark set e = omega (arith, count_in-bound (pos left) (pos row) n 1 n 1 set (omega arith) (omega arith))
 
--- rows so far, and one more
-pub rows_more : (u v w : ℤ) (width n dark row : ℕ) (set : Pixels) → dark ≡ count_in u v width n set → w ≡ v +ℤ pos n → row ≡ count_in u w width 1 set → dark + row ≡ count_in u v width (n + 1) set
-rows_more u v w width n dark row set e at f =
-    ap₂ (λ (a b : ℕ). a + b) e (f ∙ ap (λ z. count_in u z width 1 set) at) ∙ sym (count_in-rows u v width n 1 set)
+-- a rectangle of at most 4096 pixels each way
+pub rows_fit : (left top width n dark : ℕ) (set : Pixels) → dark ≡ count_in (pos left) (pos top) width n set → width ≤ 4096 → n ≤ 4096 → dark ≤ 4096 * 4096
+rows_fit left top width n dark set e h k = omega (arith, count_in-bound (pos left) (pos top) width n 4096 4096 set h k)
 
-pub rows_fit : (u v : ℤ) (width n dark : ℕ) (set : Pixels) → dark ≡ count_in u v width n set → width ≤ 4096 → n ≤ 4096 → dark ≤ 4096 * 4096
-rows_fit u v width n dark set e h k = omega (arith, count_in-bound u v width n 4096 4096 set h k)
+-- the columns of a row before a place: whole blocks, then whole words
+pub block_and_words : (row x block words : ℕ) (rows page : Page) → rows ≡ page → block ≡ count_in (pos 0) (pos row) (1024 * (x / 1024)) 1 (dark_at page) → words ≡ count_in (pos (x / 1024 * 1024)) (pos row) (64 * (x % 1024 / 64)) 1 (dark_at rows) → block + words ≡ count_in (pos 0) (pos row) (x - x % 64) 1 (dark_at page)
+block_and_words row x block words rows page same e f =
+    more_columns 0 (x / 1024 * 1024) row (1024 * (x / 1024)) (64 * (x % 1024 / 64)) (x - x % 64) block words (dark_at page) e
+    (rw same at f) (omega arith) (omega arith)
+
+-- and the columns of the word that the place lies in
+pub and_rest : (row x dark rest : ℕ) (rows page : Page) → rows ≡ page → dark ≡ count_in (pos 0) (pos row) (x - x % 64) 1 (dark_at page) → rest ≡ count_in (pos (x - x % 64)) (pos row) (x % 64) 1 (dark_at rows) → dark + rest ≡ count_in (pos 0) (pos row) x 1 (dark_at page)
+and_rest row x dark rest rows page same e f =
+    more_columns 0 (x - x % 64) row (x - x % 64) (x % 64) x dark rest (dark_at page) e
+    (rw same at f) (omega arith) (omega arith)
+
+-- what is before a place and not before an earlier one lies between them
+pub between : (left width row all less : ℕ) (set : Pixels) → all ≡ count_in (pos 0) (pos row) (left + width) 1 set → less ≡ count_in (pos 0) (pos row) left 1 set → all ≡ less + count_in (pos left) (pos row) width 1 set
+between left width row all less set e f =
+    e ∙ sym (more_columns 0 left row left width (left + width) less _ set f refl (omega arith) refl)

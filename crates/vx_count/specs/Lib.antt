@@ -1,1 +1,4 @@
-pub mod Counter
+pub mod Words
+pub mod Sums
+pub mod Cut
+pub mod Turned

@@ -1,19 +1,21 @@
-ghost use Rattle.std.specs.Prelude.{◌≡◌, ◌≤◌, ◌+ℤ◌, IfOk, pos};
-ghost use Rattle.vx_plane.specs.Plane.{dark_at};
+ghost use Rattle.std.specs.Prelude.{◌≡◌, ◌+◌, ◌<◌, ◌≤◌, IfOk, pos};
+ghost use Rattle.vx_plane.specs.Plane.{page_of, dark_at};
 ghost use Rattle.vx_plane.specs.Count.{count_in};
 ghost use Rattle.vx_grid.specs.Places.{IsWithin};
+ghost use Rattle.vx_count.specs.Turned.{turned_page};
 
+use crate::cut::cut_at_frame;
+use crate::row_sums::RowSums;
 use std::alloc::{AllocError, Global};
 use std::marker::Model;
 use vx_bits::BitView;
-use vx_grid::{Point, Rect};
+use vx_grid::Rect;
 
-/// A copy of a page, of at most 4096 pixels each way, that counts.
+/// A copy of a page, of at most 4096 pixels each way, that counts, and that can be turned.
 #[derive(Drop)]
 pub struct Counter {
-    width: u32,
-    height: u32,
-    rows: Vec<u8>,
+    sums: RowSums,
+    turned: bool,
 }
 
 impl Model for Counter {
@@ -21,36 +23,11 @@ impl Model for Counter {
 
     ghost Value = { Page };
 
-    ghost use Rattle.vx_bits.specs.Packed.{packed_page};
-    ghost use Rattle.vx_count.specs.Counter.{IsCounted};
+    ghost use Rattle.vx_count.specs.Turned.{shown_page, IsKept};
 
-    ghost view = { λ a. packed_page a.width a.height a.rows.items };
+    ghost view = { λ a. shown_page a.turned a.sums };
 
-    ghost invariant = { λ a. IsCounted a.width a.height a.rows.items };
-}
-
-/// The whole number `by` steps after `from`.
-fn along(from: i32, by: u32) -> i32
-    requires from { IsWithin 10000 from }
-    requires by { by ≤ 4096 }
-    ensures { result ≡ from +ℤ pos by }
-{
-    from + by as i32
-}
-
-/// The number of dark pixels among the `width` ones from `start` on in its row.
-fn dark_in_row(page: &BitView<'_>, start: Point, width: u32) -> u32
-    requires start { IsWithin 10000 start.u }
-    requires width { width ≤ 4096 }
-    ensures { result ≡ count_in start.u start.v width 1 (dark_at page.now) }
-{
-    let mut dark = 0u32;
-    for i in 0..width {
-        if page.dark(along(start.u, i), start.v) {
-            dark += 1;
-        }
-    }
-    dark
+    ghost invariant = { λ a. IsKept a.sums };
 }
 
 impl Counter {
@@ -60,10 +37,10 @@ impl Counter {
         requires height { page.now.height ≤ 4096 }
         ensures { IfOk result (λ counter. counter ≡ page.now) }
     {
+        let _width = page.width();
         Ok(Counter {
-            width: page.width(),
-            height: page.height(),
-            rows: Vec::from_slice(alloc, page.rows())?,
+            sums: RowSums::new(alloc, page)?,
+            turned: false,
         })
     }
 
@@ -72,7 +49,7 @@ impl Counter {
         ensures value { result ≡ self.now.width }
         ensures bound { result ≤ 4096 }
     {
-        self.width
+        self.sums.width()
     }
 
     /// The page's number of rows.
@@ -80,7 +57,48 @@ impl Counter {
         ensures value { result ≡ self.now.height }
         ensures bound { result ≤ 4096 }
     {
-        self.height
+        self.sums.height()
+    }
+
+    /// Turns the page by 180 degrees; takes no memory.
+    pub fn turn(&mut self)
+        ensures { self.new ≡ turned_page self.old }
+    {
+        self.turned = !self.turned;
+    }
+
+    /// The number of dark pixels among 1 to 57 columns of a row, from column `left` on.
+    #[inline(always)]
+    pub fn run(&self, left: u32, row: u32, width: u32) -> u32
+        requires some { 1 ≤ width }
+        requires narrow { width ≤ 57 }
+        requires columns { left + width ≤ self.now.width }
+        requires row { row < self.now.height }
+        ensures { result ≡ count_in (pos left) (pos row) width 1 (dark_at self.now) }
+    {
+        if self.turned {
+            let left = self.sums.width() - left - width;
+            let row = self.sums.height() - row - 1;
+            self.sums.run(left, row, width)
+        } else {
+            self.sums.run(left, row, width)
+        }
+    }
+
+    /// The number of dark pixels in a rectangle that lies in the frame: its left column, its top
+    /// row, its sides.
+    pub fn dark_in_frame(&self, left: u32, top: u32, width: u32, height: u32) -> u32
+        requires columns { left + width ≤ self.now.width }
+        requires rows { top + height ≤ self.now.height }
+        ensures { result ≡ count_in (pos left) (pos top) width height (dark_at self.now) }
+    {
+        if self.turned {
+            let left = self.sums.width() - left - width;
+            let top = self.sums.height() - top - height;
+            self.sums.dark_in_frame(left, top, width, height)
+        } else {
+            self.sums.dark_in_frame(left, top, width, height)
+        }
     }
 
     /// The number of dark pixels in a rectangle; every place outside the page is light.
@@ -91,15 +109,8 @@ impl Counter {
         requires height { rect.height ≤ 4096 }
         ensures { result ≡ count_in rect.left rect.top rect.width rect.height (dark_at self.now) }
     {
-        let page = BitView::new(self.width, self.height, self.rows.as_slice());
-        let mut dark = 0;
-        for j in 0..rect.height {
-            let start = Point {
-                u: rect.left,
-                v: along(rect.top, j),
-            };
-            dark += dark_in_row(&page, start, rect.width);
-        }
-        dark
+        let columns = cut_at_frame(rect.left, rect.width, self.sums.width());
+        let rows = cut_at_frame(rect.top, rect.height, self.sums.height());
+        self.dark_in_frame(columns.first, rows.first, columns.count, rows.count)
     }
 }

@@ -6,7 +6,7 @@ ghost use Rattle.vx_election.specs.Faults.{fault_of};
 
 use std::alloc::AllocFailed;
 use std::fmt;
-use vx_bits::OutOfMemory as AllocError;
+use vx_base::OutOfMemory as AllocError;
 use vx_json::{JsonFault, Path, Text};
 
 /// The first fault of an election definition. A path names a member, as `contests[2].id`.

@@ -1,19 +1,15 @@
 use crate::{
-    Calls, Failed, Inputs, Keeper, KeeperCalls, KeeperError, MemInputs, MemKeeper, MemSink,
-    NamedBytes, Records, Sink, StdInputs, StdSink, TakeFault, Words, give, take,
+    Calls, Failed, Inputs, Keeper, KeeperCalls, MemInputs, MemKeeper, MemSink, NamedBytes, Records,
+    StdInputs, StdSink, TakeFault, Words, give, take,
 };
 use std::alloc::{AllocError, Global};
+use std::cell::RefCell;
+use std::fmt::Display;
 use std::process::Abort;
+use std::rt::Files;
 use std::test::Fail;
-use std::{env, fs, process};
-use vx_bits::Bytes;
-
-fn two_files(alloc: Global) -> Result<NamedBytes, AllocError> {
-    let mut files = NamedBytes::new(alloc);
-    files.push("a", Bytes::from_slice(alloc, b"ballot")?)?;
-    files.push("b", Bytes::from_slice(alloc, b"")?)?;
-    Ok(files)
-}
+use std::{env, fs, io, process};
+use vx_base::Bytes;
 
 /// The bytes taken, where they were.
 fn assert_takes(
@@ -24,7 +20,7 @@ fn assert_takes(
     text: &[u8],
 ) {
     match take(rt.alloc(), inputs, name, limit) {
-        Ok(bytes) => assert_eq!(rt; bytes.as_slice(), text),
+        Ok(bytes) => assert!(rt; bytes.as_slice() == text, "other bytes"),
         Err(fault) => panic!(rt; "{fault:?}"),
     }
 }
@@ -43,69 +39,21 @@ fn assert_refuses(
 }
 
 #[test]
-fn words_are_kept_in_order(rt: HostRuntime) -> Result<(), Fail> {
-    let mut words = Words::new(rt.alloc());
-    assert_eq!(rt; words.count(), 0);
+fn what_takes_memory_is_done_where_there_is_enough(rt: HostRuntime) -> Result<(), Fail> {
+    let alloc = rt.alloc();
+    let mut words = Words::new(alloc);
     words.push("print")?;
-    words.push("")?;
-    words.push("Zürich")?;
-    assert_eq!(rt; words.count(), 3);
-    assert_eq!(rt; words.word(0), "print");
-    assert_eq!(rt; words.word(1), "");
-    assert_eq!(rt; words.word(2), "Zürich");
-    Ok(())
-}
-
-#[test]
-fn inputs_are_taken_or_refused(rt: HostRuntime) -> Result<(), Fail> {
-    let alloc = rt.alloc();
-    let fails = Calls::from_vec(vec![in alloc; 6, 8]?);
-    let mut inputs = MemInputs::new(two_files(alloc)?, fails);
+    let mut files = NamedBytes::new(alloc);
+    files.push("a", Bytes::from_slice(alloc, b"ballot")?)?;
+    let mut inputs = MemInputs::new(files, Calls::new(alloc));
     assert_takes(&rt, &mut inputs, "a", 6, b"ballot");
-    assert_refuses(&rt, &mut inputs, "a", 5, TakeFault::TooLong(6));
-    assert_takes(&rt, &mut inputs, "b", 0, b"");
-    assert_refuses(&rt, &mut inputs, "c", 6, TakeFault::NoInput);
-    assert_refuses(&rt, &mut inputs, "a", 6, TakeFault::Failed);
-    assert_refuses(&rt, &mut inputs, "a", 6, TakeFault::Failed);
-    assert_takes(&rt, &mut inputs, "a", 6, b"ballot");
-    Ok(())
-}
-
-#[test]
-fn a_sink_takes_a_front_of_what_is_given(rt: HostRuntime) -> Result<(), Fail> {
-    let alloc = rt.alloc();
-    let mut out = MemSink::new(alloc, 10, Calls::from_vec(vec![in alloc; 2]?))?;
+    let mut out = MemSink::new(alloc, 10, Calls::new(alloc))?;
     assert_eq!(rt; give(&mut out, b"ballot"), Ok(()));
-    assert_eq!(rt; give(&mut out, b"box"), Err(Failed));
-    assert_eq!(rt; out.held(), b"ballot".as_slice());
-    assert_eq!(rt; give(&mut out, b"papers"), Err(Failed));
-    assert_eq!(rt; out.held(), b"ballotpape".as_slice());
-    assert_eq!(rt; give(&mut out, b""), Ok(()));
-    Ok(())
-}
-
-#[test]
-fn a_keeper_keeps_what_the_list_says(rt: HostRuntime) -> Result<(), Fail> {
-    let alloc = rt.alloc();
-    let fails = KeeperCalls::from_vec(vec![in alloc;
-        (2, true),
-        (3, false),
-        (4, true),
-        (6, false),
-    ]?);
-    let mut keeper = MemKeeper::new(Records::new(alloc), fails);
-    let mut body = Bytes::new(alloc);
+    let mut keeper = MemKeeper::new(Records::new(alloc), KeeperCalls::new(alloc));
     assert_eq!(rt; keeper.append(b"one"), Ok(()));
-    assert_eq!(rt; keeper.append(b"two"), Err(KeeperError::Failed));
-    assert_eq!(rt; keeper.append(b"three"), Err(KeeperError::Failed));
-    assert_eq!(rt; keeper.count(), Err(KeeperError::Failed));
-    assert_eq!(rt; keeper.count(), Ok(2));
-    assert_eq!(rt; keeper.records().len(), 2);
-    body.push(7)?;
-    assert_eq!(rt; keeper.fetch(1, &mut body), Err(KeeperError::Failed));
-    assert!(rt; body.is_empty());
-    assert_eq!(rt; keeper.fetch(1, &mut body), Ok(()));
-    assert_eq!(rt; body.as_slice(), b"two".as_slice());
+    assert_eq!(rt; keeper.records().len(), 1);
+    let mut body = Bytes::new(alloc);
+    assert_eq!(rt; keeper.fetch(0, &mut body), Ok(()));
     Ok(())
 }
 
@@ -116,7 +64,7 @@ fn real_files_are_taken_or_refused(rt: HostRuntime) -> Result<(), Fail> {
     let file = folder.join(rt.alloc(), name.as_str())?;
     fs::write(&rt, file.as_path(), b"ballot")?;
     let mut inputs = StdInputs::new(&rt);
-    let mut part = [0u8; 3];
+    let mut part = [b'-'; 6];
     assert_takes(&rt, &mut inputs, file.as_str(), 6, b"ballot");
     assert_refuses(&rt, &mut inputs, file.as_str(), 5, TakeFault::TooLong(6));
     assert_refuses(
@@ -126,17 +74,83 @@ fn real_files_are_taken_or_refused(rt: HostRuntime) -> Result<(), Fail> {
         1 << 40,
         TakeFault::Failed,
     );
-    assert_eq!(rt; inputs.read(file.as_str(), 2, &mut part), Ok(3));
-    assert_eq!(rt; part.as_slice(), b"llo".as_slice());
+    assert_eq!(rt; inputs.read(file.as_str(), 2, &mut part), Ok(4));
+    assert_eq!(rt; part.as_slice(), b"llot--".as_slice());
     assert_eq!(rt; inputs.read(file.as_str(), 6, &mut part), Err(Failed));
     fs::remove_file(&rt, file.as_path())?;
     assert_refuses(&rt, &mut inputs, file.as_str(), 6, TakeFault::NoInput);
     Ok(())
 }
 
+/// Bytes that differ from those 65,536 before them.
+fn long_text(alloc: Global, size: u32) -> Result<Vec<u8>, AllocError> {
+    let mut text = Vec::new(alloc);
+    for i in 0..size {
+        text.push((i % 251) as u8)?;
+    }
+    Ok(text)
+}
+
 #[test]
-fn standard_output_takes_a_text(rt: HostRuntime) -> Result<(), Fail> {
-    let mut out = StdSink::new(&rt);
-    assert_eq!(rt; give(&mut out, b"given\n"), Ok(()));
+fn long_files_are_taken_whole(rt: HostRuntime) -> Result<(), Fail> {
+    let folder = env::temp_dir(&rt)?;
+    let name = format!(in rt.alloc(); "vx_io_long_{}", process::id(rt.process()))?;
+    let file = folder.join(rt.alloc(), name.as_str())?;
+    let mut inputs = StdInputs::new(&rt);
+    for size in [65_537, 5_000_000] {
+        let text = long_text(rt.alloc(), size)?;
+        fs::write(&rt, file.as_path(), text.as_slice())?;
+        assert_takes(&rt, &mut inputs, file.as_str(), 1 << 26, text.as_slice());
+    }
+    fs::remove_file(&rt, file.as_path())?;
+    Ok(())
+}
+
+/// An output that keeps what is written to it, at most three bytes a time, and refuses more once it
+/// holds `room` of them.
+#[derive(Drop)]
+struct Paper {
+    bytes: RefCell<Vec<u8>>,
+    room: usize,
+}
+
+impl Print for Paper {
+    fn print<D: Display + Drop>(&self, _value: D) -> io::Result<()> {
+        Err(io::Error::from(io::ErrorKind::Unsupported))
+    }
+
+    fn println<D: Display + Drop>(&self, _value: D) -> io::Result<()> {
+        Err(io::Error::from(io::ErrorKind::Unsupported))
+    }
+
+    fn write_all(&self, _bytes: &[u8]) -> io::Result<()> {
+        Err(io::Error::from(io::ErrorKind::Unsupported))
+    }
+
+    fn write_some(&self, bytes: &[u8]) -> io::Result<usize> {
+        let Ok(mut held) = self.bytes.try_borrow_mut() else {
+            return Err(io::Error::from(io::ErrorKind::Other));
+        };
+        let count = bytes.len().min(3);
+        if held.len() >= self.room || held.extend_from_slice(&bytes[..count]).is_err() {
+            return Err(io::Error::from(io::ErrorKind::StorageFull));
+        }
+        Ok(count)
+    }
+}
+
+#[test]
+fn the_real_sink_writes_what_it_takes(rt: HostRuntime) -> Result<(), Fail> {
+    let paper = Paper {
+        bytes: RefCell::new(Vec::new(rt.alloc())),
+        room: 8,
+    };
+    let mut out = StdSink::new(&paper);
+    assert_eq!(rt; give(&mut out, b"ballot"), Ok(()));
+    assert_eq!(rt; give(&mut out, b"papers"), Err(Failed));
+    let Ok(held) = paper.bytes.try_borrow() else {
+        panic!(rt; "in use");
+    };
+    assert_eq!(rt; held.as_slice(), b"ballotpap".as_slice());
     Ok(())
 }

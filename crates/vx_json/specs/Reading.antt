@@ -1,24 +1,11 @@
 -- What a JSON value gives where a kind of value is wanted, or the fault with its path.
-use Rattle.std.specs.Prelude.{◌≡◌, ℕ, ◌&&◌, Bool, List, [], ◌∷◌, length, nat_le, chars, if◌then◌else◌, Result, Ok, Err, is_some, ok_or, option_map, option_and_then}
+use Rattle.std.specs.Prelude.{ℕ, ◌&&◌, Bool, List, [], ◌∷◌, length, nat_le, chars, if◌then◌else◌, Result, Ok, Err, is_some, ok_or, option_map, option_and_then}
 use Rattle.serde_json.specs.Data.{Data, Items, no_items, item}
 use Rattle.serde_json.specs.Find.{get, as_array, as_bool, as_number, as_object, as_str, as_u64}
 use Rattle.vx_json.specs.declared.fault.JsonFault.{JsonFault}
-use Rattle.vx_json.specs.declared.fault.JsonFault.TheVariants.{Missing, WrongKind, OutOfRange, OutOfMemory}
+use Rattle.vx_json.specs.declared.fault.JsonFault.TheVariants.{Missing, WrongKind, OutOfRange}
+use Rattle.vx_base.specs.Results.{◌>>=◌}
 use Rattle.vx_json.specs.Paths.{member_path}
-
--- one reading after another: the first fault is the answer
-infixl 10 ◌>>=◌
-abbrev pub ◌>>=◌ : {A B F : Type 0} → Result A F → (A → Result B F) → Result B F
-(Ok x) >>= f = f x
-(Err e) >>= f = Err e
-
--- what a call returned, seen by view, is what the reading gives, or memory ran out
-abbrev pub Answers : {X Y : Type 0} → (X → Y) → Result X JsonFault → Result Y JsonFault → Type 0
-Answers view (Ok x) reading = reading ≡ Ok (view x)
-Answers view (Err (Missing path)) reading = reading ≡ Err (Missing path)
-Answers view (Err (WrongKind path)) reading = reading ≡ Err (WrongKind path)
-Answers view (Err (OutOfRange path)) reading = reading ≡ Err (OutOfRange path)
-Answers view (Err OutOfMemory) reading = Unit {0}
 
 -- an object's member that has to be there
 abbrev pub need_in : Data → List ℕ → List ℕ → Result Data JsonFault

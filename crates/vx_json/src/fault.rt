@@ -4,7 +4,7 @@ ghost use Rattle.std.specs.Prelude.{◌≡◌};
 ghost use Rattle.vx_json.specs.declared.fault.JsonFault.TheVariants.{OutOfMemory};
 
 use crate::path::Path;
-use vx_bits::OutOfMemory as AllocError;
+use vx_base::OutOfMemory as AllocError;
 
 /// What is wrong with a JSON value, and where.
 #[derive(Debug, Drop)]

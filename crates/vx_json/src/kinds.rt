@@ -1,6 +1,8 @@
 ghost use Rattle.std.specs.Prelude.{◌≡◌, map};
 ghost use Rattle.serde_json.specs.View.{view};
-ghost use Rattle.vx_json.specs.Reading.{Answers, need_in, string_in, is_within, text_in, whole_in, list_in, flag_in};
+ghost use Rattle.vx_base.specs.Refusals.{Gives, GivesAs};
+ghost use Rattle.vx_json.specs.Faults.{is_no_memory};
+ghost use Rattle.vx_json.specs.Reading.{need_in, string_in, is_within, text_in, whole_in, list_in, flag_in};
 
 use crate::fault::JsonFault;
 use crate::path::Path;
@@ -15,7 +17,7 @@ pub fn need<'v>(
     path: &Path,
     name: &str,
 ) -> Result<&'v Value, JsonFault>
-    ensures { Answers (λ member. view member.now) result (need_in (view value.now) path.now name.now) }
+    ensures { GivesAs (λ member. view member.now) is_no_memory result (need_in (view value.now) path.now name.now) }
 {
     if !value.is_object() {
         return Err(JsonFault::WrongKind(path.copy(alloc)?));
@@ -28,7 +30,7 @@ pub fn need<'v>(
 
 /// The text that the value is, of any length. It lives as long as the value.
 pub fn string_of<'v>(alloc: Global, value: &'v Value, path: &Path) -> Result<&'v str, JsonFault>
-    ensures { Answers (λ text. text.now) result (string_in (view value.now) path.now) }
+    ensures { GivesAs (λ text. text.now) is_no_memory result (string_in (view value.now) path.now) }
 {
     match value.as_str() {
         Some(text) => Ok(text),
@@ -50,7 +52,7 @@ pub fn text_of(
     low: u32,
     high: u32,
 ) -> Result<Text, JsonFault>
-    ensures { Answers (λ text. text) result (text_in (view value.now) path.now low high) }
+    ensures { Gives is_no_memory result (text_in (view value.now) path.now low high) }
 {
     let text = string_of(alloc, value, path)?;
     if !is_within(u64::from(low), u64::from(high), characters_of(text) as u64) {
@@ -67,7 +69,7 @@ pub fn whole_of(
     low: u64,
     high: u64,
 ) -> Result<u64, JsonFault>
-    ensures { Answers (λ number. number) result (whole_in (view value.now) path.now low high) }
+    ensures { Gives is_no_memory result (whole_in (view value.now) path.now low high) }
 {
     let Some(number) = value.as_u64() else {
         return Err(JsonFault::WrongKind(path.copy(alloc)?));
@@ -80,7 +82,7 @@ pub fn whole_of(
 
 /// The elements of the list that the value is. They live as long as the value.
 pub fn list_of<'v>(alloc: Global, value: &'v Value, path: &Path) -> Result<&'v [Value], JsonFault>
-    ensures { Answers (λ list. map view list.now) result (list_in (view value.now) path.now) }
+    ensures { GivesAs (λ list. map view list.now) is_no_memory result (list_in (view value.now) path.now) }
 {
     match value.as_array() {
         Some(list) => Ok(list.as_slice()),
@@ -90,7 +92,7 @@ pub fn list_of<'v>(alloc: Global, value: &'v Value, path: &Path) -> Result<&'v [
 
 /// The flag that the value is.
 pub fn flag_of(alloc: Global, value: &Value, path: &Path) -> Result<bool, JsonFault>
-    ensures { Answers (λ flag. flag) result (flag_in (view value.now) path.now) }
+    ensures { Gives is_no_memory result (flag_in (view value.now) path.now) }
 {
     match value.as_bool() {
         Some(flag) => Ok(flag),

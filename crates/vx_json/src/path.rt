@@ -3,7 +3,7 @@ ghost use Rattle.vx_json.specs.Paths.{member_path, element_path};
 
 use std::alloc::Global;
 use std::marker::Model;
-use vx_bits::OutOfMemory;
+use vx_base::OutOfMemory;
 
 /// Where in a JSON value something stands: a text such as `contests[2].candidates[0].id`.
 #[derive(Debug, Drop)]

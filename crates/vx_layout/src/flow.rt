@@ -4,7 +4,7 @@ ghost use Rattle.vx_layout.specs.Flow.{top, blocks_from, end_from, CanStand, IsP
 
 use crate::block::height_of;
 use std::alloc::Global;
-use vx_bits::OutOfMemory;
+use vx_base::OutOfMemory;
 use vx_election::Contest;
 
 /// How many rows a text column has.

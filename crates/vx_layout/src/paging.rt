@@ -12,7 +12,7 @@ use crate::lines::{TextLine, TextLines};
 use crate::pages::{PagePlan, PagePlans};
 use crate::typing::front_of;
 use std::alloc::Global;
-use vx_bits::OutOfMemory;
+use vx_base::OutOfMemory;
 use vx_election::{Contest, Election};
 use vx_styles::Card;
 

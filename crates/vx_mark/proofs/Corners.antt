@@ -1,75 +1,122 @@
--- The corner of a search that goes diagonal by diagonal.
-use Rattle.std.proofs.Common.{◌≡◌, ◌+◌, ◌-◌, ◌≤◌, ◌<◌, ◌⊎◌, inl, inr, ℕ, pos, ◌+ℤ◌, ◌<ℤ◌, arith, sym, ap, ◌∙◌}
+-- The corner of a search that goes row by row.
+use Rattle.std.proofs.Common.{◌≡◌, ◌+◌, ◌-◌, ◌≤◌, ◌<◌, ◌↔◌, inl, inr, ℕ, pos, ◌+ℤ◌, ◌<ℤ◌, Option, Some, None, arith, ap, sym}
 use Rattle.std.proofs.lemmas.Int.{ints, by_lt_z}
+use Rattle.std.proofs.lemmas.Bool.{cases_lt}
 use Rattle.vx_plane.specs.Plane.{Page}
 use Rattle.vx_grid.specs.declared.places.Point.{Point}
+use Rattle.vx_mark.specs.declared.pixels.Pixel.{Pixel}
 use Rattle.vx_mark.specs.Mark.{IsAccepted}
-use Rattle.vx_mark.specs.Corner.{IsInCornerRegion, ComesBefore, IsCorner, HasDiagonal, IsFirstOfDiagonal}
-use Rattle.vx_mark.proofs.Places.{same_place, accepted_there}
+use Rattle.vx_mark.specs.Corner.{IsInCornerRegion, ComesBefore, IsCorner}
+use Rattle.vx_mark.specs.Search.{place_in, place_of, IsPast, IsFirstColumn, IsFirstOf, IsCornerAbove, IsFirstAbove, comes_first}
+use Rattle.vx_mark.proofs.Places.{same_place, accepted_there, natural}
 
--- no accepted place of the region with one sum stands in a row before v
-abbrev pub NoneAbove : Page → ℕ → ℕ → Type 0
-NoneAbove page sum v = (q : Point) → IsAccepted page q → IsInCornerRegion q → HasDiagonal sum q → q.v <ℤ pos v → ⊥
+-- what a search of a row is told of the columns before its end: those of the region whose places come
+-- before the corner of the rows above
+pub record IsEnd (above : Option Pixel) (past v end : ℕ) : Type 0 where
+  pub before : (u : ℕ) → (u < end) ↔ ((u < past) × comes_first above u v)
 
--- before the first row there is none
-pub none-above : (page : Page) (sum : ℕ) → NoneAbove page sum 14
-none-above page sum = λ q good region diagonal early. omega (arith, ints, region.top)
+-- an accepted place of the region in a row stands in a column of the search
+pub record IsInColumn (past v : ℕ) (q : Point) : Type 0 where
+  pub u : ℕ
+  pub is : q ≡ place_in u v
+  pub left : 26 ≤ u
+  pub right : u < past
 
--- a row whose place of the diagonal lies beside the region
-pub above-skip : (page : Page) (sum v : ℕ) → NoneAbove page sum v → (sum < v + 26) ⊎ (v + 116 < sum) → NoneAbove page sum (v + 1)
-above-skip page sum v before beside = λ q good region diagonal early.
-    by_lt_z q.v (pos v) (before q good region diagonal)
-    (λ later. elim beside [ inl l ↦ omega (arith, ints, region.left, diagonal) | inr r ↦ omega (arith, ints, region.right, diagonal) ])
-
--- a row whose place of the diagonal isn't accepted
-pub above-miss : (page : Page) (sum v : ℕ) (p : Point) → NoneAbove page sum v → v ≤ sum → p ≡ record { u = pos (sum - v); v = pos v } → (IsAccepted page p → ⊥) → NoneAbove page sum (v + 1)
-above-miss page sum v p before small at bad = λ q good region diagonal early.
-    by_lt_z q.v (pos v) (before q good region diagonal)
-    (λ later.
-    let row : q.v ≡ pos v = omega (arith, ints) in
-    let column : q.u ≡ pos (sum - v) = omega (arith, ints, diagonal) in
-    bad (accepted_there page q p (same_place q (record { u = pos (sum - v); v = pos v }) column row ∙ sym at) good))
-
--- a row whose place of the diagonal is accepted
-pub above-hit : (page : Page) (sum v : ℕ) (p : Point) → NoneAbove page sum v → 14 ≤ v → v < 105 → v + 26 ≤ sum → sum ≤ v + 116 → p ≡ record { u = pos (sum - v); v = pos v } → IsAccepted page p → IsFirstOfDiagonal page sum p
-above-hit page sum v p before low high left right at good =
-    let column : p.u ≡ pos (sum - v) = ap (λ (q : Point). q.u) at in
-    let row : p.v ≡ pos v = ap (λ (q : Point). q.v) at in
+in-column : (page : Page) (past v : ℕ) (q : Point) → IsPast (pos 116) 22 page.width past → IsAccepted page q → IsInCornerRegion q → q.v ≡ pos v → IsInColumn past v q
+in-column page past v q end good region row =
+    let column = natural q.u (omega (arith, ints, good.in_frame.left)) in
+    let before : q.u <ℤ pos past = (end.holds q.u (omega (arith, ints, good.in_frame.left))).1 (region.right, good.in_frame.right) in
     record {
-      accepted = good;
-      in_region = record { left = omega (arith, ints); right = omega (arith, ints); top = omega (arith, ints); bottom = omega (arith, ints) };
-      diagonal = omega (arith, ints);
-      first = λ q fine region diagonal early. before q fine region diagonal (omega (arith, ints));
+      u = column.0;
+      is = same_place q (place_in column.0 v) column.1 row;
+      left = omega (arith, ints, column.1, region.left);
+      right = omega (arith, ints, column.1);
     }
 
--- after the last row there is none on the diagonal
-pub diagonal-none : (page : Page) (sum : ℕ) → NoneAbove page sum 105 → (q : Point) → IsAccepted page q → IsInCornerRegion q → HasDiagonal sum q → ⊥
-diagonal-none page sum h q good region diagonal = h q good region diagonal (omega (arith, ints, region.bottom))
+-- a place that is found in a row is the corner of the rows up to it
+pub corner-some : (page : Page) (above : Option Pixel) (past v end u : ℕ) → IsPast (pos 116) 22 page.width past → 14 ≤ v → v ≤ 104 → IsEnd above past v end → IsFirstAbove page v above → IsFirstColumn page (record { first = 26; past = end }) v u → IsCornerAbove page (v + 1) (record { u = u; v = v })
+corner-some page above past v end u limit top bottom is before h =
+    let here = (is.before u).0 h.before in
+    let right = ((limit.holds (pos u) (omega (arith, ints))).0 (omega (arith, ints, here.0))).0 in
+    record {
+      accepted = h.accepted;
+      in_region = record { left = omega (arith, ints, h.from); right = right; top = omega (arith, ints); bottom = omega (arith, ints) };
+      above = omega arith;
+      first = λ q good region early first. by_lt_z q.v (pos v)
+          (λ l. none-above page above v u q here.1 before good region l first)
+          (λ m. none-beside page past v u end q limit h good region (omega (arith, ints)) first);
+    }
+  where
+    none-above : (page : Page) (above : Option Pixel) (v u : ℕ) (q : Point) → comes_first above u v → IsFirstAbove page v above → IsAccepted page q → IsInCornerRegion q → q.v <ℤ pos v → ComesBefore q (place_in u v) → ⊥
+    none-above page None v u q less before good region l first = before q good region l
+    none-above page (Some pixel) v u q less before good region l first = before.first q good region l (inl (elim first [ inl a ↦ omega (arith, ints) | inr b ↦ omega (arith, ints) ]))
 
--- no accepted place of the region has a sum below
-abbrev pub NoneBefore : Page → ℕ → Type 0
-NoneBefore page sum = (q : Point) → IsAccepted page q → IsInCornerRegion q → (q.u +ℤ q.v) <ℤ pos sum → ⊥
+    none-beside : (page : Page) (past v u end : ℕ) (q : Point) → IsPast (pos 116) 22 page.width past → IsFirstColumn page (record { first = 26; past = end }) v u → IsAccepted page q → IsInCornerRegion q → q.v ≡ pos v → ComesBefore q (place_in u v) → ⊥
+    none-beside page past v u end q limit h good region row first =
+        let at = in-column page past v q limit good region row in
+        let column : q.u ≡ pos at.u = ap (λ (p : Point). p.u) at.is in
+        h.first at.u at.left (elim first [ inl a ↦ omega (arith, ints) | inr b ↦ absurd (omega (arith, ints)) ]) (accepted_there page q (place_in at.u v) at.is good)
 
-pub none-before : (page : Page) → NoneBefore page 40
-none-before page = λ q good region early. omega (arith, ints, region.left, region.top)
-
-pub before-more : (page : Page) (sum : ℕ) → NoneBefore page sum → ((q : Point) → IsAccepted page q → IsInCornerRegion q → HasDiagonal sum q → ⊥) → NoneBefore page (sum + 1)
-before-more page sum before here = λ q good region early.
-    by_lt_z (q.u +ℤ q.v) (pos sum) (before q good region) (λ later. here q good region (omega (arith, ints)))
-
--- the first of the first diagonal that has one is the corner
-pub corner-found : (page : Page) (sum : ℕ) (p : Point) → NoneBefore page sum → IsFirstOfDiagonal page sum p → IsCorner page p
-corner-found page sum p before h = record {
-  accepted = h.accepted;
-  in_region = h.in_region;
-  first = λ q good region early. elim early [
-    | inl lower ↦ before q good region (omega (arith, ints, h.diagonal))
-    | inr level ↦ h.first q good region (omega (arith, ints, h.diagonal, level.0)) level.1
-  ];
+-- where none is found, the corner of the rows above stays
+pub corner-none : (page : Page) (above : Option Pixel) (past v end : ℕ) → IsPast (pos 116) 22 page.width past → IsEnd above past v end → IsFirstAbove page v above → IsFirstOf page (record { first = 26; past = end }) v None → IsFirstAbove page (v + 1) above
+corner-none page None past v end limit is before none = λ q good region early. by_lt_z q.v (pos v) (before q good region)
+    (λ m.
+    let at = in-column page past v q limit good region (omega (arith, ints)) in
+    none at.u at.left ((is.before at.u).1 (at.right, tt)) (accepted_there page q (place_in at.u v) at.is good))
+corner-none page (Some pixel) past v end limit is before none = record {
+  accepted = before.accepted;
+  in_region = before.in_region;
+  above = omega (arith, before.above);
+  first = λ q good region early first. by_lt_z q.v (pos v) (λ l. before.first q good region l first)
+      (λ m.
+      let row : q.v ≡ pos v = omega (arith, ints) in
+      let at = in-column page past v q limit good region row in
+      let column : q.u ≡ pos at.u = ap (λ (p : Point). p.u) at.is in
+      let above : pixel.v < v = before.above in
+      elim (cases_lt (at.u + v) (pixel.u + pixel.v)) [
+        | inl less ↦ none at.u at.left ((is.before at.u).1 (at.right, less)) (accepted_there page q (place_in at.u v) at.is good)
+        | inr more ↦ elim first [ inl a ↦ omega (arith, ints) | inr b ↦ omega (arith, ints) ]
+      ]);
 }
 
-pub corner-none : (page : Page) → NoneBefore page 221 → (q : Point) → IsAccepted page q → IsInCornerRegion q → ⊥
-corner-none page h q good region = h q good region (omega (arith, ints, region.right, region.bottom))
+-- the columns of the search
+pub end-most : (page : Page) (past end : ℕ) → IsPast (pos 116) 22 page.width past → end ≤ past → end ≤ 117
+end-most page past end limit le =
+    elim (cases_lt 117 end) [
+      | inl more ↦ omega (arith, ints, ((limit.holds (pos 117) (omega (arith, ints))).0 (omega (arith, ints))).0)
+      | inr few ↦ few
+    ]
+
+pub end-right : (page : Page) (past end : ℕ) → IsPast (pos 116) 22 page.width past → end ≤ past → 0 < end → end + 22 ≤ page.width
+end-right page past end limit le some =
+    let last = end - 1 in
+    omega (arith, ints, ((limit.holds (pos last) (omega (arith, ints))).0 (omega (arith, ints))).1)
+
+-- a row of the search
+pub row-last : (page : Page) (past v : ℕ) → IsPast (pos 104) 10 page.height past → v < past → (v ≤ 104) × (v + 10 < page.height)
+row-last page past v limit before =
+    let told = (limit.holds (pos v) (omega (arith, ints))).0 (omega (arith, ints)) in
+    (omega (arith, ints, told.0), omega (arith, ints, told.1))
+
+-- above the first row there is none
+pub none-above : (page : Page) → IsFirstAbove page 14 None
+none-above page = λ q good region early. omega (arith, ints, region.top)
+
+-- after the last row it is the corner of the scan
+all-above : (page : Page) (q : Point) (row past : ℕ) → IsPast (pos 104) 10 page.height past → past ≤ row → IsAccepted page q → IsInCornerRegion q → q.v <ℤ pos row
+all-above page q row past limit end good region =
+    let before : q.v <ℤ pos past = (limit.holds q.v (omega (arith, ints, good.in_frame.top))).1 (region.bottom, good.in_frame.bottom) in
+    omega (arith, ints)
+
+pub corner-missing : (page : Page) (row past : ℕ) → IsPast (pos 104) 10 page.height past → past ≤ row → IsFirstAbove page row None → (q : Point) → IsAccepted page q → IsInCornerRegion q → ⊥
+corner-missing page row past limit end h q good region = h q good region (all-above page q row past limit end good region)
+
+pub corner-found : (page : Page) (row past : ℕ) (pixel : Pixel) → IsPast (pos 104) 10 page.height past → past ≤ row → IsCornerAbove page row pixel → IsCorner page (place_of pixel)
+corner-found page row past pixel limit end h = record {
+  accepted = h.accepted;
+  in_region = h.in_region;
+  first = λ q good region first. h.first q good region (all-above page q row past limit end good region) first;
+}
 
 -- of two different places one is first
 either-first : (p q : Point) → (ComesBefore p q → ⊥) → (ComesBefore q p → ⊥) → p ≡ q

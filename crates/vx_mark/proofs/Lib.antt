@@ -1,3 +1,4 @@
 pub mod Places
-pub mod Corners
+pub mod Deficits
 pub mod Bests
+pub mod Corners

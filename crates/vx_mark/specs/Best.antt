@@ -23,3 +23,7 @@ pub record IsBest (page : Page) (predicted p : Point) : Type 0 where
   pub accepted : IsAccepted page p
   pub near : IsNear predicted p
   pub best : (q : Point) → IsAccepted page q → IsNear predicted q → IsBetter page q p → ⊥
+
+-- there is one best place near another at most
+abbrev pub BestPlaceIsOne : Type 0
+BestPlaceIsOne = (page : Page) (predicted p q : Point) → IsBest page predicted p → IsBest page predicted q → p ≡ q

@@ -1,5 +1,5 @@
 -- The corner of a scan: where its first timing mark is.
-use Rattle.std.specs.Prelude.{◌≡◌, ◌⊎◌, ℕ, pos, ◌+ℤ◌, ◌≤ℤ◌, ◌<ℤ◌}
+use Rattle.std.specs.Prelude.{◌≡◌, ◌⊎◌, pos, ◌+ℤ◌, ◌≤ℤ◌, ◌<ℤ◌}
 use Rattle.vx_plane.specs.Plane.{Page}
 use Rattle.vx_grid.specs.declared.places.Point.{Point}
 use Rattle.vx_mark.specs.Mark.{IsAccepted}
@@ -21,13 +21,6 @@ pub record IsCorner (page : Page) (p : Point) : Type 0 where
   pub in_region : IsInCornerRegion p
   pub first : (q : Point) → IsAccepted page q → IsInCornerRegion q → ComesBefore q p → ⊥
 
--- a place whose column and row have a sum
-abbrev pub HasDiagonal : ℕ → Point → Type 0
-HasDiagonal sum p = p.u +ℤ p.v ≡ pos sum
-
--- the accepted place of the region that has the least row of those with one sum
-pub record IsFirstOfDiagonal (page : Page) (sum : ℕ) (p : Point) : Type 0 where
-  pub accepted : IsAccepted page p
-  pub in_region : IsInCornerRegion p
-  pub diagonal : HasDiagonal sum p
-  pub first : (q : Point) → IsAccepted page q → IsInCornerRegion q → HasDiagonal sum q → q.v <ℤ p.v → ⊥
+-- a scan has one corner at most
+abbrev pub CornerIsOne : Type 0
+CornerIsOne = (page : Page) (p q : Point) → IsCorner page p → IsCorner page q → p ≡ q

@@ -1,5 +1,5 @@
 -- How well a place of a scan is the centre of a timing mark.
-use Rattle.std.specs.Prelude.{◌≡◌, ℕ, ◌+◌, ◌≤◌, ◌<◌, Option, Some, None, pos, ◌+ℤ◌, ◌-ℤ◌, ◌≤ℤ◌, ◌<ℤ◌}
+use Rattle.std.specs.Prelude.{ℕ, ◌+◌, ◌≤◌, pos, ◌+ℤ◌, ◌-ℤ◌, ◌≤ℤ◌, ◌<ℤ◌}
 use Rattle.vx_plane.specs.Plane.{Page, dark_at}
 use Rattle.vx_plane.specs.Count.{count_in, outside_of}
 use Rattle.vx_grid.specs.declared.places.Point.{Point}
@@ -32,8 +32,3 @@ pub record IsInFrame (page : Page) (p : Point) : Type 0 where
 pub record IsAccepted (page : Page) (p : Point) : Type 0 where
   pub in_frame : IsInFrame page p
   pub deficit : deficit_of page p ≤ 20
-
--- the deficit of an accepted place that is below a bound, or none
-abbrev pub IsDeficitBelow : Page → Point → ℕ → Option ℕ → Type 0
-IsDeficitBelow page p below None = IsAccepted page p → below ≤ deficit_of page p
-IsDeficitBelow page p below (Some d) = IsAccepted page p × (d ≡ deficit_of page p) × (d < below)

@@ -1,39 +1,80 @@
-ghost use Rattle.std.specs.Prelude.{◌≡◌, ◌≤◌, ◌<◌, pos, MatchOption};
+ghost use Rattle.std.specs.Prelude.{◌≡◌, ◌≤◌, ◌<◌, ◌+◌, ◌↔◌, ℕ, pos, MatchOption};
 ghost use Rattle.vx_grid.specs.declared.places.Point.{Point};
 ghost use Rattle.vx_mark.specs.Mark.{IsAccepted};
-ghost use Rattle.vx_mark.specs.Corner.{IsInCornerRegion, IsCorner, IsFirstOfDiagonal, HasDiagonal};
+ghost use Rattle.vx_mark.specs.Corner.{IsInCornerRegion, IsCorner};
+ghost use Rattle.vx_mark.specs.Search.{AreFew, IsFirstOf, IsFirstAbove, IsPast, comes_first};
 
-use crate::judge::accepted;
+use crate::judge::{MOST, deficit_up_to, is_row_out};
+use crate::pixels::{Pixel, Span, past_of, point};
 use vx_count::Counter;
 use vx_grid::Point;
 
-/// The place in a column and a row.
-fn place_at(u: u32, v: u32) -> Point
-    requires u { u ≤ 9000 }
-    requires v { v ≤ 9000 }
-    ensures { result ≡ record { u = pos u; v = pos v } }
+/// The first of at most 24 columns whose place in a row is accepted.
+fn first_in_group(counter: &Counter, columns: Span, v: u32) -> Option<u32>
+    requires columns { AreFew counter.now.width columns }
+    requires top { 11 ≤ v }
+    requires bottom { v + 10 < counter.now.height }
+    ensures { IsFirstOf counter.now columns v result }
 {
-    Point {
-        u: u as i32,
-        v: v as i32,
+    if is_row_out(counter, columns, v, MOST + 1) {
+        return None;
     }
-}
-
-/// Of the accepted places of the corner's region whose column and row have the sum `sum`, the one
-/// with the least row.
-fn first_on_diagonal(counter: &Counter, sum: u32) -> Option<Point>
-    requires { sum ≤ 220 }
-    ensures { MatchOption result ((q : Point) → IsAccepted counter.now q → IsInCornerRegion q → HasDiagonal sum q → ⊥) (λ p. IsFirstOfDiagonal counter.now sum p) }
-{
-    for v in 14..105 {
-        if v + 26 <= sum && sum <= v + 116 {
-            let place = place_at(sum - v, v);
-            if accepted(counter, place) {
-                return Some(place);
-            }
+    for u in columns.first..columns.past {
+        if deficit_up_to(counter, u, v, MOST + 1) <= MOST {
+            return Some(u);
         }
     }
     None
+}
+
+/// The first of the columns from 26 on and before `past` whose place in a row is accepted.
+fn first_in_row(counter: &Counter, past: u32, v: u32) -> Option<u32>
+    requires most { past ≤ 117 }
+    requires right { 0 < past → past + 22 ≤ counter.now.width }
+    requires top { 11 ≤ v }
+    requires bottom { v + 10 < counter.now.height }
+    ensures { IsFirstOf counter.now (record { first = 26; past = past }) v result }
+{
+    for group in 0..4 {
+        let first = 26 + 23 * group;
+        let columns = Span {
+            first,
+            past: past.min(first + 23),
+        };
+        let found = first_in_group(counter, columns, v);
+        if found.is_some() {
+            return found;
+        }
+    }
+    None
+}
+
+/// The end of the columns whose places in row `v` come before the corner of the rows above, up to
+/// `past`: those with a smaller sum of column and row.
+fn past_before(above: Option<Pixel>, past: u32, v: u32) -> u32
+    requires { MatchOption above (Unit {0}) (λ pixel. (pixel.u ≤ 4096) × (pixel.v ≤ 4096)) }
+    ensures most { result ≤ past }
+    ensures first { (u : ℕ) → (u < result) ↔ ((u < past) × comes_first above u v) }
+{
+    match above {
+        Some(pixel) => past.min((pixel.u + pixel.v).saturating_sub(v)),
+        None => past,
+    }
+}
+
+/// The corner of the rows up to row `v`, from that of the rows above it.
+fn corner_with_row(counter: &Counter, past: u32, v: u32, above: Option<Pixel>) -> Option<Pixel>
+    requires past { IsPast (pos 116) 22 counter.now.width past }
+    requires first { 14 ≤ v }
+    requires last { v ≤ 104 }
+    requires bottom { v + 10 < counter.now.height }
+    requires above { IsFirstAbove counter.now v above }
+    ensures { IsFirstAbove counter.now (v + 1) result }
+{
+    match first_in_row(counter, past_before(above, past, v), v) {
+        Some(u) => Some(Pixel { u, v }),
+        None => above,
+    }
 }
 
 /// The corner of a scan: of the accepted places in columns 26 to 116 and rows 14 to 104, the one
@@ -41,11 +82,13 @@ fn first_on_diagonal(counter: &Counter, sum: u32) -> Option<Point>
 pub fn first_corner(counter: &Counter) -> Option<Point>
     ensures { MatchOption result ((q : Point) → IsAccepted counter.now q → IsInCornerRegion q → ⊥) (λ p. IsCorner counter.now p) }
 {
-    for sum in 40..221 {
-        let first = first_on_diagonal(counter, sum);
-        if first.is_some() {
-            return first;
-        }
+    let past = past_of(116, 22, counter.width());
+    let mut corner = None;
+    for v in 14..past_of(104, 10, counter.height()) {
+        corner = corner_with_row(counter, past, v, corner);
     }
-    None
+    match corner {
+        Some(pixel) => Some(point(pixel)),
+        None => None,
+    }
 }

@@ -3,79 +3,117 @@ ghost use Rattle.vx_grid.specs.declared.places.Point.{Point};
 ghost use Rattle.vx_grid.specs.Places.{IsWithin};
 ghost use Rattle.vx_mark.specs.Mark.{IsAccepted};
 ghost use Rattle.vx_mark.specs.Best.{IsNear, IsBest};
-ghost use Rattle.vx_mark.specs.Search.{IsBestSeen, IsBound};
+ghost use Rattle.vx_mark.specs.Search.{place_in, HasFootprint, AreColumns, AreRows, IsRow, IsCap, IsBestSeen, bound_of};
 
-use crate::judge::{MOST, deficit_below};
+use crate::judge::{MOST, accepted_deficit, deficit_up_to, is_row_out};
+use crate::pixels::{Pixel, Span, first_of, past_of, point};
 use vx_count::Counter;
 use vx_grid::Point;
 
 /// An accepted place and its deficit.
 #[derive(Clone, Copy)]
 pub(crate) struct Found {
-    place: Point,
-    deficit: u32,
+    pub(crate) pixel: Pixel,
+    pub(crate) deficit: u32,
 }
 
-/// The place in column `i` and row `j` of those near a predicted one, both from 0.
-fn near(predicted: Point, i: u32, j: u32) -> Point
-    requires u { IsWithin 9000 predicted.u }
-    requires v { IsWithin 9000 predicted.v }
-    requires i { i < 21 }
-    requires j { j < 13 }
-    ensures { result ≡ record { u = (predicted.u -ℤ pos 10) +ℤ pos i; v = (predicted.v -ℤ pos 6) +ℤ pos j } }
+/// The columns within 10 of a predicted place at which a footprint lies in the frame.
+fn columns_near(counter: &Counter, predicted: Point) -> Span
+    requires { IsWithin 9000 predicted.u }
+    ensures { AreColumns counter.now predicted result }
 {
-    Point {
-        u: predicted.u - 10 + i as i32,
-        v: predicted.v - 6 + j as i32,
+    Span {
+        first: first_of(predicted.u - 10, 23),
+        past: past_of(predicted.u + 10, 22, counter.width()),
     }
 }
 
-/// The deficit that a place has to stay below to be better than the best before it.
-fn bound_after(best: Option<Found>) -> u32
-    requires { MatchOption best (Unit {0}) (λ found. found.deficit ≤ 20) }
-    ensures bound { IsBound result best }
+/// The rows within 6 of a predicted place at which a footprint lies in the frame.
+fn rows_near(counter: &Counter, predicted: Point) -> Span
+    requires { IsWithin 9000 predicted.v }
+    ensures { AreRows counter.now predicted result }
+{
+    Span {
+        first: first_of(predicted.v - 6, 11),
+        past: past_of(predicted.v + 6, 10, counter.height()),
+    }
+}
+
+/// A bound that the best place near a predicted one stays below: one above the deficit of the
+/// predicted place where that is accepted.
+fn first_bound(counter: &Counter, predicted: Point) -> u32
+    requires u { IsWithin 9000 predicted.u }
+    requires v { IsWithin 9000 predicted.v }
+    ensures cap { IsCap counter.now predicted result }
     ensures most { result ≤ 21 }
 {
-    match best {
-        Some(found) => found.deficit,
+    match accepted_deficit(counter, predicted) {
+        Some(deficit) => deficit + 1,
         None => MOST + 1,
     }
 }
 
-/// The best place up to the one in column `i` and row `j`, from the best before it. A place as good
-/// as the best before stands behind it in the order.
-fn better(counter: &Counter, predicted: Point, i: u32, j: u32, best: Option<Found>) -> Option<Found>
-    requires u { IsWithin 9000 predicted.u }
-    requires v { IsWithin 9000 predicted.v }
-    requires i { i < 21 }
-    requires j { j < 13 }
-    requires before { IsBestSeen counter.now predicted i j best }
-    ensures { IsBestSeen counter.now predicted (i + 1) j result }
+/// The deficit that a place has to stay below to be better than the best before it.
+#[inline(always)]
+fn bound_after(cap: u32, best: Option<Found>) -> u32
+    ensures { result ≡ bound_of cap best }
 {
-    let place = near(predicted, i, j);
-    let below = bound_after(best);
-    match deficit_below(counter, place, below) {
-        Some(deficit) => Some(Found { place, deficit }),
-        None => best,
+    match best {
+        Some(found) => found.deficit,
+        None => cap,
     }
 }
 
-/// The best place up to the end of row `j`, from the best before that row.
+/// The best place up to the one in column `u` and row `v`, from the best before it. A place as good
+/// as the best before stands behind it in the order.
+#[inline(always)]
+fn better(
+    counter: &Counter,
+    predicted: Point,
+    cap: u32,
+    u: u32,
+    v: u32,
+    best: Option<Found>,
+) -> Option<Found>
+    requires cap { cap ≤ 21 }
+    requires near { IsNear predicted (place_in u v) }
+    requires here { HasFootprint counter.now u v }
+    requires before { IsBestSeen counter.now predicted cap u v best }
+    ensures { IsBestSeen counter.now predicted cap (u + 1) v result }
+{
+    let below = bound_after(cap, best);
+    let deficit = deficit_up_to(counter, u, v, below);
+    if deficit < below {
+        Some(Found {
+            pixel: Pixel { u, v },
+            deficit,
+        })
+    } else {
+        best
+    }
+}
+
+/// The best place up to the end of row `v`, from the best before that row.
 fn best_with_row(
     counter: &Counter,
     predicted: Point,
-    j: u32,
+    cap: u32,
+    columns: Span,
+    v: u32,
     before: Option<Found>,
 ) -> Option<Found>
-    requires u { IsWithin 9000 predicted.u }
-    requires v { IsWithin 9000 predicted.v }
-    requires j { j < 13 }
-    requires before { IsBestSeen counter.now predicted 0 j before }
-    ensures { IsBestSeen counter.now predicted 0 (j + 1) result }
+    requires cap { cap ≤ 21 }
+    requires columns { AreColumns counter.now predicted columns }
+    requires row { IsRow counter.now predicted v }
+    requires before { IsBestSeen counter.now predicted cap 0 v before }
+    ensures { IsBestSeen counter.now predicted cap 0 (v + 1) result }
 {
+    if is_row_out(counter, columns, v, bound_after(cap, before)) {
+        return before;
+    }
     let mut best = before;
-    for i in 0..21 {
-        best = better(counter, predicted, i, j, best);
+    for u in columns.first..columns.past {
+        best = better(counter, predicted, cap, u, v, best);
     }
     best
 }
@@ -88,12 +126,17 @@ pub fn best_near(counter: &Counter, predicted: Point) -> Option<Point>
     requires v { IsWithin 9000 predicted.v }
     ensures { MatchOption result ((q : Point) → IsAccepted counter.now q → IsNear predicted q → ⊥) (λ p. IsBest counter.now predicted p) }
 {
+    let _width = counter.width();
+    let _height = counter.height();
+    let columns = columns_near(counter, predicted);
+    let rows = rows_near(counter, predicted);
+    let cap = first_bound(counter, predicted);
     let mut best = None;
-    for j in 0..13 {
-        best = best_with_row(counter, predicted, j, best);
+    for v in rows.first..rows.past {
+        best = best_with_row(counter, predicted, cap, columns, v, best);
     }
     match best {
-        Some(found) => Some(found.place),
+        Some(found) => Some(point(found.pixel)),
         None => None,
     }
 }

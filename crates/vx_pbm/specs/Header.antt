@@ -2,13 +2,8 @@
 use Rattle.std.specs.Prelude.{ℕ, ◌+◌, ◌<◌, ◌≤◌, ◌==◌, ◌&&◌, ◌||◌, Bool, true, false, not, List, [], ◌∷◌, drop, take, length, nat_lt, nat_le, if◌then◌else◌, Result, Ok, Err}
 use Rattle.std.specs.Char.{is_ascii_digit}
 use Rattle.std.specs.Str.Parse.{digits_value}
+use Rattle.vx_base.specs.Results.{◌>>=◌}
 use Rattle.vx_pbm.specs.declared.header.Header.{Header}
-
--- one reading after another: the first fault is the answer
-infixl 10 ◌>>=◌
-abbrev pub ◌>>=◌ : {A B F : Type 0} → Result A F → (A → Result B F) → Result B F
-(Ok x) >>= f = f x
-(Err e) >>= f = Err e
 
 -- whitespace: blank, TAB, LF, VT, FF and CR
 abbrev pub is_space : ℕ → Bool
@@ -23,7 +18,10 @@ ends_comment byte = (byte == 10) || (byte == 13)
 abbrev pub gap_size : Bool → List ℕ → ℕ
 gap_size in_comment [] = 0
 gap_size true (byte ∷ rest) = gap_size (not (ends_comment byte)) rest + 1
-gap_size false (byte ∷ rest) = if is_space byte then gap_size false rest + 1 else if byte == 35 then gap_size true rest + 1 else 0
+gap_size false (byte ∷ rest) =
+    if is_space byte then gap_size false rest + 1
+    else if byte == 35 then gap_size true rest + 1
+    else 0
 
 -- the number of decimal digits that a text begins with
 abbrev pub digit_count : List ℕ → ℕ

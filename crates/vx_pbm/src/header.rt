@@ -88,7 +88,8 @@ fn gap_at(text: &[u8], at: usize) -> Result<usize, usize>
 fn number_at(text: &[u8], at: usize) -> Result<(u32, usize), usize>
     requires { at ≤ length text.now }
     ensures exact { result ≡ number_at text.now at }
-    ensures within { MatchResult result (λ found. (found.1 ≤ length text.now) × (0 < found.0)) (λ place. place ≤ length text.now) }
+    ensures within { MatchResult result (λ found. (found.1 ≤ length text.now) × (0 < found.0))
+        (λ place. place ≤ length text.now) }
 {
     let rest = &text[at..];
     let count = digit_count(rest);

@@ -1,5 +1,5 @@
-use Rattle.vx_mark.proofs.Corners.{NoneBefore}
+use Rattle.vx_mark.specs.Search.{IsFirstAbove}
 use Rattle.vx_mark.proofs.corner.first_corner.Given as goal
 
-abbrev pub invariant-loop-sum : goal.invariant-loop-sum
-invariant-loop-sum l = NoneBefore l.counter l.sum
+abbrev pub invariant-loop-v : goal.invariant-loop-v
+invariant-loop-v l = IsFirstAbove l.counter l.v l.corner

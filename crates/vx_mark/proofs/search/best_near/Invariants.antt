@@ -1,5 +1,5 @@
 use Rattle.vx_mark.specs.Search.{IsBestSeen}
 use Rattle.vx_mark.proofs.search.best_near.Given as goal
 
-abbrev pub invariant-loop-j : goal.invariant-loop-j
-invariant-loop-j l = IsBestSeen l.counter l.predicted 0 l.j l.best
+abbrev pub invariant-loop-v : goal.invariant-loop-v
+invariant-loop-v l = IsBestSeen l.counter l.predicted l.cap 0 l.v l.best

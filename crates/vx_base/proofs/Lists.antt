@@ -1,0 +1,62 @@
+-- Lists, their maps, and lists of lists one after another.
+use Rattle.std.proofs.Common.{◌≡◌, ℕ, ◌+◌, ◌*◌, ◌≤◌, List, [], ◌∷◌, ◌++◌, length, take, drop, map, get_or, refl, ap, ap₂, sym, ◌∙◌, arith, length-append, append-nil}
+use Rattle.std.specs.Prelude.{All, slice_get, Some}
+use Rattle.std.specs.List.{flat_map}
+use Rattle.std.proofs.Math.Seq.{take-append_seam, drop-append_seam}
+use Rattle.std.proofs.lemmas.List.{map-append, take_more}
+use Rattle.std.proofs.lemmas.List.Concat.{flat_map-append}
+use Rattle.std.proofs.lemmas.List.Elements.{All-nil, All-cons, All-head, All-tail, All-append}
+use Rattle.std.proofs.lemmas.Option.{slice_get_within, get_or_from_slice_get}
+
+-- the front part of a list and the rest, by their lengths
+pub take-front : {X : Type 0} (front back : List X) (n : ℕ) → length front ≡ n → take n (front ++ back) ≡ front
+take-front front back n e = ap (λ k. take k (front ++ back)) (sym e) ∙ take-append_seam front back
+
+pub drop-front : {X : Type 0} (front back : List X) (n : ℕ) → length front ≡ n → drop n (front ++ back) ≡ back
+drop-front front back n e = ap (λ k. drop k (front ++ back)) (sym e) ∙ drop-append_seam front back
+
+-- a map of one element more
+pub map-push : {X Y : Type 0} (f : X → Y) (xs : List X) (x : X) → map f (xs ++ x ∷ []) ≡ map f xs ++ f x ∷ []
+map-push f xs x = map-append f xs (x ∷ [])
+
+-- a map of a map
+pub map-map : {X Y Z : Type 0} (f : Y → Z) (g : X → Y) (xs : List X) → map f (map g xs) ≡ map (λ (x : X). f (g x)) xs
+map-map f g [] = refl
+map-map {Z = Z} f g (x ∷ xs) = ap (λ (ys : List Z). f (g x) ∷ ys) (map-map f g xs)
+
+-- the map of lists one after another
+pub map-flat_map : {X Y Z : Type 0} (f : Y → Z) (g : X → List Y) (xs : List X) → map f (flat_map g xs) ≡ flat_map (λ (x : X). map f (g x)) xs
+map-flat_map f g [] = refl
+map-flat_map {Z = Z} f g (x ∷ xs) = map-append f (g x) (flat_map g xs) ∙ ap (λ (ys : List Z). map f (g x) ++ ys) (map-flat_map f g xs)
+
+-- lists of two functions that are equal everywhere
+pub flat_map-same : {X Y : Type 0} (f g : X → List Y) (xs : List X) → ((x : X) → f x ≡ g x) → flat_map f xs ≡ flat_map g xs
+flat_map-same f g [] e = refl
+flat_map-same {Y = Y} f g (x ∷ xs) e = ap₂ (λ (a b : List Y). a ++ b) (e x) (flat_map-same f g xs e)
+
+-- one element more
+pub flat_map-take_more : {X Y : Type 0} (f : X → List Y) (xs : List X) (i : ℕ) (x : X) → slice_get xs i ≡ Some x → flat_map f (take (i + 1) xs) ≡ flat_map f (take i xs) ++ f x
+flat_map-take_more {Y = Y} f xs i x h =
+    ap (flat_map f) (take_more xs i x (slice_get_within xs i x h))
+    ∙ flat_map-append f (take i xs) (get_or xs i x ∷ [])
+    ∙ ap (λ (ys : List Y). flat_map f (take i xs) ++ ys) (append-nil (f (get_or xs i x)) ∙ ap f (get_or_from_slice_get xs i x x h))
+
+-- a fact of each element of each list is one of each element of all
+pub All-flat_map : {X Y : Type 0} (P : Y → Type 0) (f : X → List Y) (xs : List X) → All (λ (x : X). All P (f x)) xs → All P (flat_map f xs)
+All-flat_map P f [] each = All-nil P
+All-flat_map {X = X} P f (x ∷ xs) each =
+    All-append P (f x) (flat_map f xs) (All-head (λ (x : X). All P (f x)) x xs each)
+    (All-flat_map P f xs (All-tail (λ (x : X). All P (f x)) x xs each))
+
+-- a fact of everything holds of each of some
+pub All-always : {X : Type 0} (P : X → Type 0) (xs : List X) → ((x : X) → P x) → All P xs
+All-always P [] always = All-nil P
+All-always P (x ∷ xs) always = All-cons P x xs (always x) (All-always P xs always)
+
+-- so many lists of at most so many elements
+pub length-flat_map_le : {X Y : Type 0} (f : X → List Y) (most : ℕ) (xs : List X) → All (λ (x : X). length (f x) ≤ most) xs → length (flat_map f xs) ≤ length xs * most
+length-flat_map_le f most [] each = omega arith
+length-flat_map_le {X = X} f most (x ∷ xs) each =
+    let here = All-head (λ (x : X). length (f x) ≤ most) x xs each in
+    let there = length-flat_map_le f most xs (All-tail (λ (x : X). length (f x) ≤ most) x xs each) in
+    omega (arith, length-append (f x) (flat_map f xs), here, there)

@@ -1,0 +1,16 @@
+//! What every crate may stand on: lists, want of memory, and what a refusal is.
+//!
+//! `OutOfMemory` is std's error of an allocation that failed. A call whose answer is defined by a
+//! function meets `Gives` of `specs/Refusals.antt`: it answers what the definition says, or a
+//! refusal that is want of memory. `proofs/` has general lemmas that std lacks.
+#![tactic(auto)]
+
+mod bytes;
+mod list;
+
+pub use bytes::Bytes;
+pub use list::ListOf;
+pub use std::alloc::AllocError as OutOfMemory;
+
+#[cfg(test)]
+mod tests;
