@@ -1,7 +1,7 @@
 ghost use Rattle.std.specs.Prelude.{◌≡◌, ◌+◌, ◌*◌, ◌<◌, ◌≤◌, IfOk, OnOk, pos};
 ghost use Rattle.vx_plane.specs.Plane.{page_of, dark_at};
 ghost use Rattle.vx_plane.specs.Count.{count_in};
-ghost use Rattle.vx_count.specs.Sums.{AreFirstSums, blocks_of};
+ghost use Rattle.vx_count.specs.Sums.{AreFirstSums, AreAllSums, blocks_of};
 
 use crate::packed::PackedRows;
 use std::alloc::{AllocError, Global};
@@ -51,7 +51,7 @@ fn push_sums(sums: &mut Vec<u16>, rows: &PackedRows, row: u32) -> Result<(), All
 
 /// The sums of all rows.
 fn sums_of(alloc: Global, rows: &PackedRows) -> Result<Vec<u16>, AllocError>
-    ensures { IfOk result (λ sums. AreFirstSums rows.now (rows.now.height * blocks_of rows.now) sums.items) }
+    ensures { IfOk result (λ sums. AreAllSums rows.now sums.items) }
 {
     let size = rows.height() as usize * (rows.width() / BLOCK) as usize;
     let mut sums = Vec::with_capacity(alloc, size)?;
