@@ -26,8 +26,9 @@ use Rattle.vx_layout.proofs.Placing.{All-placed}
 use Rattle.vx_layout.proofs.Sizes.{sizes-from_valid}
 use Rattle.vx_scan_model.specs.declared.fault.PageFault.{PageFault}
 use Rattle.vx_scan_model.specs.declared.fault.PageFault.TheVariants.{OtherElection, NoCard}
-use Rattle.vx_scan_model.specs.Reading.{page_numbered, ArePlansOf}
-use Rattle.vx_page.specs.Named.{plan_unless, plan_on_card, named_plan, IsOnGrid}
+use Rattle.vx_scan_model.specs.Named.{page_numbered, plan_unless, plan_on_card, named_plan}
+use Rattle.vx_scan_model.specs.Reading.{ArePlansOf}
+use Rattle.vx_page.specs.Named.{IsOnGrid}
 
 -- all bubbles of a page stand on the grid
 abbrev AreOnGrid : PagePlan → Type 0

@@ -1,33 +1,10 @@
--- The page that a code names, where its bubbles stand, and what its reading has.
-use Rattle.std.specs.Prelude.{◌≡◌, ◌≤◌, ℕ, ◌==◌, if◌then◌else◌, length, Option, Some, None, Result, Ok, Err}
+-- Where the bubbles of a planned page stand, and what a reading of it has.
+use Rattle.std.specs.Prelude.{◌≡◌, ◌≤◌, length, Ok}
 use Rattle.vx_election.specs.declared.election.Election.{Election}
-use Rattle.vx_code.specs.declared.code.PageCode.{PageCode}
-use Rattle.vx_code.specs.Code.{tag_of}
 use Rattle.vx_layout.specs.declared.bubbles.Bubble.{Bubble}
 use Rattle.vx_layout.specs.declared.pages.PagePlan.{PagePlan}
-use Rattle.vx_layout.specs.declared.plan.CardPlan.{CardPlan}
-use Rattle.vx_layout.specs.declared.fault.LayoutFault.{LayoutFault}
-use Rattle.vx_layout.specs.Plan.{plan_of}
 use Rattle.vx_scan_model.specs.declared.reading.PageReading.{PageReading}
-use Rattle.vx_scan_model.specs.declared.fault.PageFault.{PageFault}
-use Rattle.vx_scan_model.specs.declared.fault.PageFault.TheVariants.{OtherElection, NoCard, NoPage}
-use Rattle.vx_scan_model.specs.Reading.{page_numbered}
-
--- the plan of a page with a number, if there is one
-abbrev pub plan_unless : ℕ → Option PagePlan → Result PagePlan PageFault
-plan_unless number None = Err (NoPage number)
-plan_unless number (Some plan) = Ok plan
-
--- the plan of the page that a code names on its card, if there is one
-abbrev pub plan_on_card : PageCode → Result CardPlan LayoutFault → Result PagePlan PageFault
-plan_on_card code (Err fault) = Err (NoCard code.card)
-plan_on_card code (Ok plan) = plan_unless code.page (page_numbered plan code.page)
-
--- the plan of the page that a code names, if it is of this election
-unfoldable pub named_plan : Election → PageCode → Result PagePlan PageFault
-named_plan election code =
-    if code.tag == tag_of election.digest then plan_on_card code (plan_of election code.card)
-    else Err (OtherElection code.tag)
+pub use Rattle.vx_scan_model.specs.Named.{named_plan}
 
 -- a bubble stands at a grid point of the page
 pub record IsOnGrid (bubble : Bubble) : Type 0 where
@@ -35,8 +12,12 @@ pub record IsOnGrid (bubble : Bubble) : Type 0 where
   pub row : bubble.row ≤ 40
 
 -- a reading is of the planned page that its code names, with a score and a state for each bubble
-pub record IsOfPlan (election : Election) (reading : PageReading) : Type 0 where
-  pub plan : PagePlan
+pub record IsReadOn (election : Election) (reading : PageReading) (plan : PagePlan) : Type 0 where
   pub named : named_plan election reading.code ≡ Ok plan
   pub scores : length reading.scores ≡ length plan.bubbles
   pub states : length reading.states ≡ length plan.bubbles
+
+-- so of some planned page
+pub record IsOfPlan (election : Election) (reading : PageReading) : Type 0 where
+  pub plan : PagePlan
+  pub read_on : IsReadOn election reading plan

@@ -61,15 +61,6 @@ planned-IsNumbered election card plan i page valid planned at =
       page_fits = omega (arith, number, made.0, is.few);
     }
 
--- the code of such a page is in its ranges
-pub IsNumbered-IsInRange : (election : Election) (card i : ℕ) (page : PagePlan) (kind : Kind) (test : Bool) → IsNumbered card i page → IsInRange (code_of election (record { card = card; page = page.page; kind = kind; test = test }))
-IsNumbered-IsInRange election card i page kind test is = record {
-  version_fits = omega arith;
-  card_fits = is.card_fits;
-  page_fits = is.page_fits;
-  tag_fits = tag_of-lt election.digest;
-}
-
 -- a page of a card's plan is planned, as a page of that number
 pub IsNumbered-IsPlanned : (election : Election) (card : ℕ) (plan : CardPlan) (i : ℕ) (page : PagePlan) (kind : Kind) (test : Bool) → plan_of election card ≡ Ok plan → slice_get plan.pages i ≡ Some page → IsNumbered card i page → IsPlanned election (record { card = card; page = page.page; kind = kind; test = test }) page
 IsNumbered-IsPlanned election card plan i page kind test planned at is =
@@ -81,6 +72,10 @@ IsNumbered-IsPlanned election card plan i page kind test planned at is =
       from_one = omega (arith, is.number);
       page_is = subst At index at;
     }
+
+pub pages-planned : (election : Election) (card : ℕ) (plan : CardPlan) (i : ℕ) (page : PagePlan) (kind : Kind) (test : Bool) → IsValid election → plan_of election card ≡ Ok plan → slice_get plan.pages i ≡ Some page → IsPlanned election (record { card = card; page = page.page; kind = kind; test = test }) page
+pages-planned election card plan i page kind test valid planned at =
+    IsNumbered-IsPlanned election card plan i page kind test planned at (planned-IsNumbered election card plan i page valid planned at)
 
 -- the plan of a printed page has its number, and its code is in its ranges
 pub IsPlanned-page : (election : Election) (printed : PrintedPage) (plan : PagePlan) → IsValid election → IsPlanned election printed plan → plan.page ≡ printed.page
