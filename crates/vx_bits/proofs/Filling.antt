@@ -7,7 +7,8 @@ use Rattle.std.proofs.lemmas.Nat.Bits.{bit_at-lt, bit_at_or, bit_at_mask_inside,
 use Rattle.vx_plane.specs.Plane.{Page, rectangle, painted}
 use Rattle.vx_plane.specs.Count.{one_if}
 use Rattle.vx_plane.proofs.Pages.{page_of-same, dark_at-inside}
-use Rattle.vx_bits.specs.Packed.{stride_of, packed_pixel, packed_pixels, packed_page, IsMask}
+use Rattle.vx_bits.specs.Packed.{stride_of, packed_pixel, packed_pixels, packed_page}
+use Rattle.vx_bits.specs.Runs.{IsMask}
 
 -- a power of 2 up to 256 as a shift of a number of 32 bits
 pub shifted : (n : ℕ) → n ≤ 8 → 1 * 2 ^ n % 4294967296 ≡ 2 ^ n
@@ -122,20 +123,6 @@ packed-fill_at width height left right y size before rows after whole page sized
     ap (packed_page width height) new
     ∙ packed-fill width height left right y before after page e order (omega arith) (omega arith) (rw (sized, old) at filled)
 
-to_end : (old : Bool) (from to k n : ℕ) → to ≤ 8 * (k + 1) → (old || (nat_le from n && nat_lt n (min to (8 * (k + 1))))) ≡ (old || (nat_le from n && nat_lt n to))
-to_end true from to k n h = refl
-to_end false from to k n h = grind arith
-
--- a byte with the bits of a mask besides fills a span that lies in it
-pub filled-byte : (rows : List ℕ) (base left right mask : ℕ) → base + left / 8 < length rows → left < right → right ≤ 8 * (left / 8) + 8 → ((i : ℕ) → i < 8 → bit_at mask (7 - i) ≡ one_if (nat_le (left % 8) i && nat_lt i (right - 8 * (left / 8)))) → (start x : ℕ) → packed_pixel (set rows (base + left / 8) (bit_or (get_or rows (base + left / 8) 0) mask)) start x ≡ (packed_pixel rows start x || (nat_le (8 * base + left) (8 * start + x) && nat_lt (8 * start + x) (8 * base + right)))
-filled-byte rows base left right mask inside order end bits start x =
-    let k : ℕ = base + left / 8 in
-    let first : (8 * base + left) / 8 ≡ k = omega arith in
-    let none : (s y : ℕ) → packed_pixel rows s y ≡ (packed_pixel rows s y || (nat_le (8 * base + left) (8 * s + y) && nat_lt (8 * s + y) (min (8 * base + right) (8 * k)))) = λ s y.
-    rw first at (filled-none rows (8 * base + left) (8 * base + right) s y) in
-    filled-more rows rows (8 * base + left) (8 * base + right) k (left % 8) (right - 8 * (left / 8)) mask inside (omega arith) (omega arith) (omega arith) (omega arith) bits none start x
-    ∙ to_end (packed_pixel rows start x) (8 * base + left) (8 * base + right) k (8 * start + x) (omega arith)
-
 -- the pixels before byte k are filled
 pub record Filled (rows before : List ℕ) (from to k : ℕ) : Type 0 where
   pub size : length rows ≡ length before
@@ -163,3 +150,16 @@ Filled-all rows before from to k filled past start x =
 -- a whole byte
 pub whole_mask : IsMask 255 0 8
 whole_mask i h = mask_bit 0 8 i (omega arith) (omega arith) h
+
+-- the first byte of a run is filled
+pub Filled-first : (before after : List ℕ) (start left right bits : ℕ) → left < right → start + left / 8 < length before → after ≡ set before (start + left / 8) (bit_or (get_or before (start + left / 8) 0) bits) → IsMask bits (left % 8) (min (right - 8 * (left / 8)) 8) → Filled after before (8 * start + left) (8 * start + right) (start + left / 8 + 1)
+Filled-first before after start left right bits order inside is mask =
+    let place : (8 * start + left) / 8 ≡ start + left / 8 = omega arith in
+    Filled-more before before after (8 * start + left) (8 * start + right) (start + left / 8) _ _ bits (rw place at (Filled-none before (8 * start + left) (8 * start + right))) is inside (omega arith) (omega arith) (omega arith) (omega arith) mask
+
+-- the last byte of a run is filled, and so all of it
+pub Filled-last : (before rows after : List ℕ) (start left right k bits : ℕ) → k ≡ start + (right - 1) / 8 → left / 8 < (right - 1) / 8 → k < length before → Filled rows before (8 * start + left) (8 * start + right) k → after ≡ set rows k (bit_or (get_or rows k 0) bits) → IsMask bits 0 (right - 8 * ((right - 1) / 8)) → (other x : ℕ) → packed_pixel after other x ≡ (packed_pixel before other x || (nat_le (8 * start + left) (8 * other + x) && nat_lt (8 * other + x) (8 * start + right)))
+Filled-last before rows after start left right k bits place apart inside filled is mask =
+    Filled-all after before (8 * start + left) (8 * start + right) (k + 1)
+    (Filled-more rows before after (8 * start + left) (8 * start + right) k _ _ bits filled is inside (omega arith) (omega arith) (omega arith) (omega arith) mask)
+    (omega arith)

@@ -1,3 +1,4 @@
 pub mod Packing
 pub mod Clipping
 pub mod Filling
+pub mod Rasters

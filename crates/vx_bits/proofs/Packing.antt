@@ -4,7 +4,7 @@ use Rattle.std.specs.Int.{bit_at}
 use Rattle.std.specs.List.{range_with_len}
 use Rattle.std.proofs.lemmas.Bool.{cases_eq, cases_lt}
 use Rattle.std.proofs.lemmas.Int.{ints}
-use Rattle.std.proofs.lemmas.List.{get_or-take, get_or-drop, get_or_past, length-take-le, same_lists, get_or_default}
+use Rattle.std.proofs.lemmas.List.{get_or-take, get_or-drop, get_or_past, length-take-le}
 use Rattle.std.proofs.lemmas.List.FromFn.{length-map-range_with_len, get_or-map-range_with_len, map-range_with_len_more, fill_by_all}
 use Rattle.std.proofs.lemmas.Nat.{same_from_place}
 use Rattle.std.proofs.lemmas.Nat.Bits.{bit_at-zero, bit_at-lt, bit_at_and, bit_at_mask_inside, bit_at_mask_below, and_high_mask, ones_shl}
@@ -258,10 +258,3 @@ packed_row-pixel row x h =
     ap (λ (n : ℕ). n == 1) (ap (λ b. bit_at b (7 - x % 8)) byte ∙ packed_byte-bit row (x / 8) (x % 8) (omega arith))
     ∙ is_one (get_or row (8 * (x / 8) + x % 8) false)
     ∙ ap (λ n. get_or row n false) place
-
-pub packed_row-unpacked : (row : List Bool) → unpacked (length row) (packed_row row) ≡ row
-packed_row-unpacked row =
-    same_lists _ _ (length-unpacked (length row) (packed_row row))
-    (λ k d h.
-    let within : k < length row = omega (arith, length-unpacked (length row) (packed_row row)) in
-    get_or_default _ k d false h ∙ get_or-unpacked (length row) k (packed_row row) within ∙ packed_row-pixel row k within ∙ get_or_default row k false d within)

@@ -1,9 +1,9 @@
 -- Pixels packed eight to a byte, the most significant bit first, each row padded to a byte: the
 -- raster of a raw PBM image.
-use Rattle.std.specs.Prelude.{◌≡◌, ◌<◌, ◌≤◌, ℕ, ◌+◌, ◌-◌, ◌*◌, ◌/◌, ◌%◌, ◌==◌, ◌&&◌, nat_le, nat_lt, List, map, length, Bool, false, pos, slice_index, slice_index_or}
+use Rattle.std.specs.Prelude.{◌≡◌, ◌<◌, ◌≤◌, ℕ, ◌+◌, ◌-◌, ◌*◌, ◌/◌, ◌%◌, ◌==◌, List, map, length, Bool, false, pos, slice_index, slice_index_or}
 use Rattle.std.specs.Int.{bit_at}
-use Rattle.std.specs.List.{range_with_len}
-use Rattle.vx_plane.specs.Plane.{Pixels, Page, page_of}
+use Rattle.std.specs.List.{flat_map, range_with_len}
+use Rattle.vx_plane.specs.Plane.{Pixels, Page, page_of, dark_at}
 use Rattle.vx_plane.specs.Count.{one_if}
 
 -- the number of bytes of a packed row of pixels
@@ -18,6 +18,10 @@ packed_pixel bytes start x = bit_at (slice_index bytes (start + x / 8)) (7 - x %
 abbrev pub packed_pixels : ℕ → List ℕ → Pixels
 packed_pixels width bytes (pos x) (pos y) = packed_pixel bytes (y * stride_of width) x
 packed_pixels width bytes u v = false
+
+-- the number of bits that pad the last byte of a packed row
+abbrev pub padding_of : ℕ → ℕ
+padding_of width = (8 - width % 8) % 8
 
 -- the page of packed rows; the bits that pad a row aren't seen
 abbrev pub packed_page : ℕ → ℕ → List ℕ → Page
@@ -35,10 +39,6 @@ pub record IsPackedPage (width height : ℕ) (bytes : List ℕ) : Type 0 where
 unfoldable pub unpacked : ℕ → List ℕ → List Bool
 unpacked width bytes = map (λ x. packed_pixel bytes 0 x) (range_with_len 0 width)
 
--- a byte of which the pixels from place `first` on and before place `last` are dark
-abbrev pub IsMask : ℕ → ℕ → ℕ → Type 0
-IsMask byte first last = (i : ℕ) → i < 8 → bit_at byte (7 - i) ≡ one_if (nat_le first i && nat_lt i last)
-
 -- the byte k of a packed row: eight pixels, the first of them the highest bit, light past the row's end
 abbrev pub packed_byte : List Bool → ℕ → ℕ
 packed_byte row k =
@@ -54,3 +54,12 @@ packed_byte row k =
 -- a row of pixels, packed, with light pixels as padding
 unfoldable pub packed_row : List Bool → List ℕ
 packed_row row = map (packed_byte row) (range_with_len 0 (stride_of (length row)))
+
+-- the raster of a page: its packed rows, one after another from the top
+unfoldable pub raster_of : Page → List ℕ
+raster_of page = flat_map packed_row page.rows
+
+-- a raster has its rows' bytes, and shows its page
+pub record RasterLaws : Type 0 where
+  pub size : (page : Page) → page ≡ page_of page.width page.height (dark_at page) → length (raster_of page) ≡ page.height * stride_of page.width
+  pub shows : (page : Page) → page ≡ page_of page.width page.height (dark_at page) → packed_page page.width page.height (raster_of page) ≡ page

@@ -1,8 +1,9 @@
-ghost use Rattle.std.specs.Prelude.{◌≡◌, ◌+◌, ◌-◌, ◌*◌, ◌/◌, ◌%◌, ◌<◌, ◌≤◌, Bool, IfOk, false, pos};
+ghost use Rattle.std.specs.Prelude.{◌≡◌, ◌-◌, ◌<◌, ◌≤◌, IfOk, pos};
 ghost use Rattle.vx_plane.specs.Plane.{page_of, dark_at, nowhere, with_pixel, rectangle, painted};
-ghost use Rattle.vx_bits.specs.Packed.{IsMask};
+ghost use Rattle.vx_bits.specs.Runs.{IsRun};
 
-use crate::packed::{add_bits, fill, mask, put, stride};
+use crate::packed::{put, stride};
+use crate::run::{Run, darken_run};
 use crate::view::BitView;
 use std::alloc::{AllocError, Global};
 use std::marker::Model;
@@ -78,65 +79,18 @@ impl BitPage {
         BitView::new(self.width, self.height, self.rows.as_slice())
     }
 
-    /// Makes the pixels of row `y` from column `left` on and before column `right` dark.
-    fn darken_row(&mut self, left: u32, right: u32, y: u32)
-        requires order { left < right }
-        requires columns { right ≤ self.old.width }
+    /// Makes the pixels of row `y` dark that stand in the columns of a run.
+    fn darken_row(&mut self, run: Run, y: u32)
+        requires run { IsRun run }
+        requires columns { run.right ≤ self.old.width }
         requires row { y < self.old.height }
-        ensures { self.new ≡ painted self.old (rectangle (pos left) (pos y) (right - left) 1) }
-    {
-        let start = 8 * (y as usize * stride(self.width));
-        fill(
-            &mut self.rows,
-            start + left as usize,
-            start + right as usize,
-        );
-    }
-
-    /// Makes those pixels of row `y` dark that a mask has, where all of them lie in one byte.
-    fn darken_in_byte(&mut self, left: u32, right: u32, bits: u8, y: u32)
-        requires order { left < right }
-        requires columns { right ≤ self.old.width }
-        requires row { y < self.old.height }
-        requires end { right ≤ 8 * (left / 8) + 8 }
-        requires bits { IsMask bits (left % 8) (right - 8 * (left / 8)) }
-        ensures { self.new ≡ painted self.old (rectangle (pos left) (pos y) (right - left) 1) }
+        ensures { self.new ≡ painted self.old (rectangle (pos run.left) (pos y) (run.right - run.left) 1) }
     {
         let start = y as usize * stride(self.width);
-        add_bits(&mut self.rows, start + (left / 8) as usize, bits);
-    }
-
-    /// Makes the rows of a rectangle that lies on the page dark, where each row lies in one byte.
-    fn darken_narrow(&mut self, left: u32, right: u32, top: u32, bottom: u32)
-        requires order { left < right }
-        requires columns { right ≤ self.old.width }
-        requires down { top ≤ bottom }
-        requires rows { bottom ≤ self.old.height }
-        requires end { right ≤ 8 * (left / 8) + 8 }
-        ensures { self.new ≡ painted self.old (rectangle (pos left) (pos top) (right - left) (bottom - top)) }
-    {
-        let _rows = self.height();
-        let bits = mask(left % 8, right - left / 8 * 8);
-        for y in top..bottom {
-            self.darken_in_byte(left, right, bits, y);
-        }
+        darken_run(&mut self.rows, start, run);
     }
 
     /// Makes the rows of a rectangle that lies on the page dark, one after the other.
-    fn darken_wide(&mut self, left: u32, right: u32, top: u32, bottom: u32)
-        requires order { left < right }
-        requires columns { right ≤ self.old.width }
-        requires down { top ≤ bottom }
-        requires rows { bottom ≤ self.old.height }
-        ensures { self.new ≡ painted self.old (rectangle (pos left) (pos top) (right - left) (bottom - top)) }
-    {
-        let _rows = self.height();
-        for y in top..bottom {
-            self.darken_row(left, right, y);
-        }
-    }
-
-    /// Makes the rows of a rectangle that lies on the page dark.
     fn darken_rows(&mut self, left: u32, right: u32, top: u32, bottom: u32)
         requires order { left < right }
         requires columns { right ≤ self.old.width }
@@ -144,10 +98,10 @@ impl BitPage {
         requires rows { bottom ≤ self.old.height }
         ensures { self.new ≡ painted self.old (rectangle (pos left) (pos top) (right - left) (bottom - top)) }
     {
-        if left / 8 == (right - 1) / 8 {
-            self.darken_narrow(left, right, top, bottom);
-        } else {
-            self.darken_wide(left, right, top, bottom);
+        let _rows = self.height();
+        let run = Run::new(left, right);
+        for y in top..bottom {
+            self.darken_row(run, y);
         }
     }
 

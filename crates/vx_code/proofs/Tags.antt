@@ -1,12 +1,13 @@
 -- The first 20 bits of a digest.
-use Rattle.std.proofs.Common.{◌≡◌, ℕ, ◌+◌, ◌*◌, ◌/◌, ◌^◌, ◌<◌, ◌≤◌, ap, List, [], ◌∷◌, ◌++◌, length, slice_index, zero, suc, refl, arith, length-append, append_assoc, add_comm}
+use Rattle.std.proofs.Common.{◌≡◌, ℕ, ◌+◌, ◌*◌, ◌/◌, ◌^◌, ◌<◌, ◌≤◌, ap, List, [], ◌∷◌, ◌++◌, length, take, slice_index, zero, suc, refl, arith, length-append, append_assoc, add_comm}
 use Rattle.std.specs.Int.{bit_at}
 use Rattle.std.specs.List.{flat_map}
+use Rattle.std.proofs.lemmas.List.{length-take}
 use Rattle.std.proofs.lemmas.Nat.{pow-add}
-use Rattle.std.proofs.Math.Nat.{div-div-eq-div-mul}
+use Rattle.std.proofs.Math.Nat.{div-div-eq-div-mul, pow-le-pow_right}
 use Rattle.vx_code.specs.Bits.{bits_of_number, number_of_bits}
 use Rattle.vx_code.specs.Code.{tag_of}
-use Rattle.vx_code.proofs.Numbers.{length-bits_of_number, number_of_bits-append, number_of_bits-bits_of_number}
+use Rattle.vx_code.proofs.Numbers.{length-bits_of_number, number_of_bits-lt, number_of_bits-append, number_of_bits-bits_of_number}
 use Rattle.vx_code.proofs.Fields.{take_front}
 
 -- a bit of a number that is moved down
@@ -43,3 +44,13 @@ tag_of-bytes (a ∷ b ∷ c ∷ rest) room first second third =
     let parts : flat_map (bits_of_number 8) (a ∷ b ∷ c ∷ rest) ≡ front ++ back = rw (bits_of_number-split 4 4 c) (simp append_assoc) in
     let size : length front ≡ 20 = simp (length-append, length-bits_of_number) in
     rw (parts, take_front front back 20 size) (three_parts a b (c / 2 ^ 4) first second (omega arith))
+
+-- it has at most 20 bits
+pub tag_of-lt : (digest : List ℕ) → tag_of digest < 2 ^ 20
+unfolding tag_of
+tag_of-lt digest =
+    let bits = take 20 (flat_map (bits_of_number 8) digest) in
+    let few : length bits ≤ 20 = omega (arith, length-take 20 (flat_map (bits_of_number 8) digest)) in
+    let some : 0 < 2 = omega arith in
+    let most : 2 ^ length bits ≤ 2 ^ 20 = pow-le-pow_right some few in
+    omega (arith, number_of_bits-lt bits, most)

@@ -124,6 +124,10 @@ pub record Shows (counts : List ℕ) (boxes : List Bool) : Type 0 where
 unfoldable pub tag_of : List ℕ → ℕ
 tag_of digest = number_of_bits (take 20 (flat_map (bits_of_number 8) digest))
 
+-- the tag of any digest has at most 20 bits
+abbrev pub TagsAreInRange : Type 0
+TagsAreInRange = (digest : List ℕ) → tag_of digest < 2 ^ 20
+
 -- the grid column and row of a box: 14 pairs a row from row 35 and column 3 on
 abbrev pub place_of_box : ℕ → ℕ × ℕ
 place_of_box box = let pair = box / 2 in (3 + 2 * (pair % 14) + box % 2, 35 + pair / 14)

@@ -8,10 +8,12 @@
 
 mod boxes;
 mod code;
+mod laws;
 mod reading;
 #[cfg(test)]
 mod tests;
 
 pub use boxes::{boxes_of, place_of_box};
 pub use code::{CodeFault, PageCode, number_of, tag_of};
+pub use laws::tags_are_in_range;
 pub use reading::read_boxes;

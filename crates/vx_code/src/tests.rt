@@ -40,30 +40,3 @@ fn a_code_is_printed_and_read(rt: HostRuntime) {
     assert_eq!(rt; read_boxes(&counts_of(&CODE, 560, 0)), Ok(CODE));
     assert_eq!(rt; read_boxes(&counts_of(&CODE, 400, 160)), Ok(CODE));
 }
-
-#[test]
-fn other_counts_are_refused(rt: HostRuntime) {
-    let mut counts = counts_of(&CODE, 560, 0);
-    counts[0] = 560;
-    counts[1] = 560;
-    assert_eq!(rt; read_boxes(&counts), Err(CodeFault::BadPair(0, 560, 560)));
-    let second = PageCode { version: 2, ..CODE };
-    counts = counts_of(&second, 560, 0);
-    assert_eq!(rt; read_boxes(&counts), Err(CodeFault::BadVersion(2)));
-    counts[82] = 161;
-    counts[83] = 399;
-    assert_eq!(rt; read_boxes(&counts), Err(CodeFault::BadPair(41, 161, 399)));
-}
-
-#[test]
-fn boxes_stand_in_three_rows(rt: HostRuntime) {
-    for (index, place) in [
-        (0, (3, 35)),
-        (1, (4, 35)),
-        (27, (30, 35)),
-        (28, (3, 36)),
-        (83, (30, 37)),
-    ] {
-        assert_eq!(rt; place_of_box(index), place, "box {index}");
-    }
-}

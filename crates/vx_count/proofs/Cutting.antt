@@ -1,8 +1,8 @@
 -- A rectangle that is cut at a frame has the same count.
-use Rattle.std.proofs.Common.{◌≡◌, ℕ, zero, suc, ◌+◌, ◌-◌, ◌*◌, ◌<◌, ◌≤◌, ◌⊎◌, min, Bool, true, false, ℤ, pos, negsuc, ◌+ℤ◌, ◌-ℤ◌, ◌≤ℤ◌, ◌<ℤ◌, nat_abs, refl, ap, ap₂, sym, subst, ◌∙◌, arith, inl, inr}
-use Rattle.std.proofs.lemmas.Bool.{cases_lt, cases_eq}
+use Rattle.std.proofs.Common.{◌≡◌, ℕ, zero, suc, ◌+◌, ◌<◌, ◌≤◌, ◌⊎◌, min, false, ℤ, pos, negsuc, ◌+ℤ◌, ◌-ℤ◌, ◌≤ℤ◌, ◌<ℤ◌, nat_abs, refl, ap, sym, subst, ◌∙◌, arith, inl, inr}
+use Rattle.std.proofs.lemmas.Bool.{cases_lt}
 use Rattle.std.proofs.lemmas.Int.{ints, by_lt_z}
-use Rattle.vx_plane.specs.Plane.{Pixels, Page, page_of, dark_at}
+use Rattle.vx_plane.specs.Plane.{Page, page_of, dark_at}
 use Rattle.vx_plane.specs.Count.{one_if, sum_from, count_in}
 use Rattle.vx_plane.proofs.Counts.{count_in-by_rows}
 use Rattle.vx_plane.proofs.Pages.{dark_at-out_of_frame}
@@ -37,33 +37,35 @@ sum_from-middle low mid a n b size f whole place before after =
 cut-inside : (from : ℤ) (size frame first count : ℕ) → IsCut from size frame first count → (z : ℤ) → from ≤ℤ z → z <ℤ (from +ℤ pos size) → pos 0 ≤ℤ z → z <ℤ pos frame → (pos first ≤ℤ z) × (z <ℤ pos (first + count))
 cut-inside from size frame first count cut z p q above below =
     let starts : first ≡ frame_before from frame = cut.starts in
-    let ends : first + count ≡ frame_before (from +ℤ pos size) frame = cut.ends in
-    (elim (before-cases from frame) [
-      | inl (a, b) ↦ omega (arith, ints)
-      | inr (inl (a, b)) ↦ absurd (omega (arith, ints))
-      | inr (inr (a, b, e)) ↦ omega (arith, ints)
-    ],
-    elim (before-cases (from +ℤ pos size) frame) [
-      | inl (a, b) ↦ absurd (omega (arith, ints))
-      | inr (inl (a, b)) ↦ omega (arith, ints)
-      | inr (inr (a, b, e)) ↦ omega (arith, ints)
-    ])
+    let ends : first + count ≡ frame_before (from +ℤ pos size) frame = cut.ends in (
+      elim (before-cases from frame) [
+        | inl (a, b) ↦ omega (arith, ints)
+        | inr (inl (a, b)) ↦ absurd (omega (arith, ints))
+        | inr (inr (a, b, e)) ↦ omega (arith, ints)
+      ],
+      elim (before-cases (from +ℤ pos size) frame) [
+        | inl (a, b) ↦ absurd (omega (arith, ints))
+        | inr (inl (a, b)) ↦ omega (arith, ints)
+        | inr (inr (a, b, e)) ↦ omega (arith, ints)
+      ],
+    )
 
 -- a cut that isn't empty lies in what was cut
 cut-within : (from : ℤ) (size frame first count : ℕ) → IsCut from size frame first count → 0 < count → (from ≤ℤ pos first) × (pos (first + count) ≤ℤ (from +ℤ pos size))
 cut-within from size frame first count cut some =
     let starts : first ≡ frame_before from frame = cut.starts in
-    let ends : first + count ≡ frame_before (from +ℤ pos size) frame = cut.ends in
-    (elim (before-cases from frame) [
-      | inl (a, b) ↦ omega (arith, ints)
-      | inr (inl (a, b)) ↦ absurd (omega (arith, ints, frame_before-le (from +ℤ pos size) frame))
-      | inr (inr (a, b, e)) ↦ omega (arith, ints)
-    ],
-    elim (before-cases (from +ℤ pos size) frame) [
-      | inl (a, b) ↦ absurd (omega (arith, ints))
-      | inr (inl (a, b)) ↦ omega (arith, ints)
-      | inr (inr (a, b, e)) ↦ omega (arith, ints)
-    ])
+    let ends : first + count ≡ frame_before (from +ℤ pos size) frame = cut.ends in (
+      elim (before-cases from frame) [
+        | inl (a, b) ↦ omega (arith, ints)
+        | inr (inl (a, b)) ↦ absurd (omega (arith, ints, frame_before-le (from +ℤ pos size) frame))
+        | inr (inr (a, b, e)) ↦ omega (arith, ints)
+      ],
+      elim (before-cases (from +ℤ pos size) frame) [
+        | inl (a, b) ↦ absurd (omega (arith, ints))
+        | inr (inl (a, b)) ↦ omega (arith, ints)
+        | inr (inr (a, b, e)) ↦ omega (arith, ints)
+      ],
+    )
 
 -- a place is in the frame or not
 outside-or : {P : Type 0} (z : ℤ) (frame : ℕ) → ((z <ℤ pos 0) ⊎ (pos frame ≤ℤ z) → P) → (pos 0 ≤ℤ z → z <ℤ pos frame → P) → P

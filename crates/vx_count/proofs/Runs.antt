@@ -1,5 +1,5 @@
 -- From the bits of a word to the dark pixels of a run.
-use Rattle.std.proofs.Common.{◌≡◌, ℕ, zero, suc, ◌+◌, ◌-◌, ◌*◌, ◌/◌, ◌%◌, ◌^◌, ◌<◌, ◌≤◌, ◌==◌, w64, List, [], ◌∷◌, ◌++◌, length, get_or, mul-le-mul_right, pos, ◌+ℤ◌, refl, ap, ap₂, sym, subst, ◌∙◌, arith, inl, inr}
+use Rattle.std.proofs.Common.{◌≡◌, ℕ, zero, suc, ◌+◌, ◌-◌, ◌*◌, ◌/◌, ◌%◌, ◌^◌, ◌<◌, ◌≤◌, ◌==◌, w64, List, [], ◌∷◌, ◌++◌, length, get_or, mul-le-mul_right, pos, refl, ap, ap₂, sym, subst, ◌∙◌, arith, inl, inr}
 use Rattle.std.specs.Int.{bit_at, from_be_bytes}
 use Rattle.std.specs.Int.Count.{ones}
 use Rattle.std.proofs.lemmas.Bool.{cases_lt}
@@ -8,7 +8,7 @@ use Rattle.std.proofs.lemmas.Nat.Bits.{bit_at-lt}
 use Rattle.vx_plane.specs.Plane.{Page, dark_at}
 use Rattle.vx_plane.specs.Count.{one_if, count_in}
 use Rattle.vx_plane.proofs.Pages.{dark_at-inside, page_of-same}
-use Rattle.vx_bits.specs.Packed.{stride_of, packed_pixel, packed_pixels, packed_page}
+use Rattle.vx_bits.specs.Packed.{stride_of, packed_pixels, packed_page}
 use Rattle.vx_count.specs.Words.{IsWordAt}
 use Rattle.vx_count.proofs.Ones.{ones-count, word-bit, shifted-bit, shifted-small}
 

@@ -1,5 +1,5 @@
 -- The steps of a count: some columns more of a row, one row more of a rectangle.
-use Rattle.std.proofs.Common.{◌≡◌, ℕ, ◌+◌, ◌-◌, ◌*◌, ◌/◌, ◌%◌, ◌≤◌, pos, ◌+ℤ◌, refl, ap, ap₂, sym, ◌∙◌, arith}
+use Rattle.std.proofs.Common.{◌≡◌, ℕ, ◌+◌, ◌-◌, ◌*◌, ◌/◌, ◌%◌, ◌≤◌, pos, refl, ap, ap₂, sym, ◌∙◌, arith}
 use Rattle.vx_plane.specs.Plane.{Pixels, Page, dark_at}
 use Rattle.vx_plane.specs.Count.{count_in}
 use Rattle.vx_plane.proofs.Counts.{count_in-columns, count_in-rows, count_in-bound}

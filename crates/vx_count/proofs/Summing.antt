@@ -1,5 +1,5 @@
 -- The sums of a page's rows, made one after the other and looked up.
-use Rattle.std.proofs.Common.{◌≡◌, ℕ, ◌+◌, ◌-◌, ◌*◌, ◌/◌, ◌<◌, ◌≤◌, List, [], ◌∷◌, ◌++◌, length, get_or, mul-le-mul_right, pos, refl, ap, ap₂, sym, ◌∙◌, arith, inl, inr, subst, length-append}
+use Rattle.std.proofs.Common.{◌≡◌, ℕ, ◌+◌, ◌-◌, ◌*◌, ◌<◌, ◌≤◌, List, [], ◌∷◌, ◌++◌, length, get_or, mul-le-mul_right, pos, ap, ap₂, sym, ◌∙◌, arith, inl, inr, subst, length-append}
 use Rattle.std.proofs.lemmas.Bool.{cases_lt}
 use Rattle.std.proofs.lemmas.List.{get_or_append_left, get_or_default}
 use Rattle.std.proofs.lemmas.Nat.{same_from_place}
@@ -10,25 +10,25 @@ use Rattle.vx_count.specs.Sums.{AreFirstSums, AreSums, blocks_of}
 
 -- no sums yet
 pub first_sums-none : (page : Page) (n : ℕ) → n ≡ 0 → AreFirstSums page n []
-first_sums-none page n none = record { size = sym none; each = λ row k l h. absurd (omega arith); }
+first_sums-none page n none = record { size = sym none; each = λ row k l h. absurd (omega arith) }
 
 -- one sum more
 pub first_sums-more : (page : Page) (row k dark : ℕ) (sums more : List ℕ) → AreFirstSums page (row * blocks_of page + k) sums → k < blocks_of page → dark ≡ count_in (pos 0) (pos row) (1024 * (k + 1)) 1 (dark_at page) → more ≡ sums ++ dark ∷ [] → AreFirstSums page (row * blocks_of page + (k + 1)) more
 first_sums-more page row k dark sums more so_far within counted pushed = rw pushed record {
   size = simp length-append (omega (arith, so_far.size));
   each = λ r j l h.
-    elim (cases_lt (r * blocks_of page + j) (row * blocks_of page + k)) [
-      | inl before ↦
-          let inside : r * blocks_of page + j < length sums = omega (arith, so_far.size) in
-          get_or_append_left sums (dark ∷ []) 0 (r * blocks_of page + j) inside ∙ so_far.each r j l before
-      | inr after ↦
-          let here : r * blocks_of page + j ≡ row * blocks_of page + k = omega arith in
-          let place : (r ≡ row) × (j ≡ k) = same_from_place r j row k (blocks_of page) l within here in
-          ap (λ i. get_or (sums ++ dark ∷ []) i 0) (here ∙ sym so_far.size)
-          ∙ get_or-append_seam sums dark [] 0
-          ∙ counted
-          ∙ sym (ap₂ (λ y i. count_in (pos 0) (pos y) (1024 * (i + 1)) 1 (dark_at page)) place.0 place.1)
-    ];
+      elim (cases_lt (r * blocks_of page + j) (row * blocks_of page + k)) [
+        | inl before ↦
+            let inside : r * blocks_of page + j < length sums = omega (arith, so_far.size) in
+            get_or_append_left sums (dark ∷ []) 0 (r * blocks_of page + j) inside ∙ so_far.each r j l before
+        | inr after ↦
+            let here : r * blocks_of page + j ≡ row * blocks_of page + k = omega arith in
+            let place : (r ≡ row) × (j ≡ k) = same_from_place r j row k (blocks_of page) l within here in
+            ap (λ i. get_or (sums ++ dark ∷ []) i 0) (here ∙ sym so_far.size)
+            ∙ get_or-append_seam sums dark [] 0
+            ∙ counted
+            ∙ sym (ap₂ (λ y i. count_in (pos 0) (pos y) (1024 * (i + 1)) 1 (dark_at page)) place.0 place.1)
+      ];
 }
 
 -- the sum at a column

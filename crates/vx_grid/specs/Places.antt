@@ -3,6 +3,10 @@ use Rattle.std.specs.Prelude.{◌≡◌, ℕ, ℤ, pos, ◌+ℤ◌, ◌-ℤ◌, 
 use Rattle.vx_grid.specs.declared.places.Point.{Point}
 use Rattle.vx_grid.specs.declared.places.Rect.{Rect}
 
+-- the point of a column and a row; every point is that of its own two
+abbrev pub point_of : ℤ → ℤ → Point
+point_of u v = record { u = u; v = v }
+
 -- a whole number from -n to n
 pub record IsWithin (n : ℕ) (z : ℤ) : Type 0 where
   pub low : pos 0 ≤ℤ (z +ℤ pos n)

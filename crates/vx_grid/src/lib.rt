@@ -15,7 +15,7 @@ mod state;
 
 pub use border::Border;
 pub use kind::Kind;
-pub use lines::{COLUMNS, PAGE_HEIGHT, PAGE_WIDTH, ROWS, x_of, y_of};
+pub use lines::{PAGE_HEIGHT, PAGE_WIDTH, centre_x, centre_y, x_of, y_of};
 pub use marks::{MARKS, Side, mark_of};
 pub use places::{Point, Rect, bubble_window, code_window};
 pub use state::{State, States, Thresholds};

@@ -3,7 +3,7 @@ ghost use Rattle.vx_io.specs.Fakes.{files_of, is_among, kept_at};
 
 use std::alloc::{AllocError, Global};
 use std::marker::Model;
-use vx_bits::Bytes;
+use vx_base::{Bytes, ListOf};
 
 /// A list of names and the bytes under each; the first pair with a name counts.
 #[derive(Debug, Drop)]
@@ -77,106 +77,32 @@ impl NamedBytes {
 }
 
 /// A list of call numbers, from 1 on.
-#[derive(Debug, Drop)]
-pub struct Calls {
-    numbers: Vec<u64>,
-}
+pub type Calls = ListOf<u64>;
 
-impl Model for Calls {
-    ghost use Rattle.std.specs.Prelude.{List, ℕ};
-
-    ghost Value = { List ℕ };
-
-    ghost view = { λ calls. calls.numbers.items };
-}
-
-impl Calls {
-    /// No calls; takes no memory.
-    pub fn new(alloc: Global) -> Self
-        ensures { result ≡ [] }
-    {
-        Calls {
-            numbers: Vec::new(alloc),
-        }
-    }
-
-    /// The numbers of a `Vec`; takes no memory.
-    pub fn from_vec(numbers: Vec<u64>) -> Self
-        ensures { result ≡ numbers.items }
-    {
-        Calls { numbers }
-    }
-
-    /// The `Vec` that holds the numbers; takes no memory.
-    pub fn into_vec(self) -> Vec<u64>
-        ensures { result.items ≡ self }
-    {
-        let Calls { numbers } = self;
-        numbers
-    }
-
-    /// Whether a number, where there is one, is in the list.
-    pub(crate) fn has(&self, number: Option<u64>) -> bool
-        ensures { result ≡ is_among self.now number }
-    {
-        match number {
-            Some(number) => self.numbers.as_slice().contains(&number),
-            None => false,
-        }
+/// Whether a number, where there is one, is in the list.
+pub(crate) fn is_among(calls: &Calls, number: Option<u64>) -> bool
+    ensures { result ≡ is_among calls.now number }
+{
+    match number {
+        Some(number) => calls.as_slice().contains(&number),
+        None => false,
     }
 }
 
 /// A list of call numbers, from 1 on, each with whether an append of this number keeps its record.
-#[derive(Debug, Drop)]
-pub struct KeeperCalls {
-    items: Vec<(u64, bool)>,
-}
+pub type KeeperCalls = ListOf<(u64, bool)>;
 
-impl Model for KeeperCalls {
-    ghost use Rattle.std.specs.Prelude.{List, ℕ, Bool};
-
-    ghost Value = { List (ℕ × Bool) };
-
-    ghost view = { λ calls. calls.items.items };
-}
-
-impl KeeperCalls {
-    /// No calls; takes no memory.
-    pub fn new(alloc: Global) -> Self
-        ensures { result ≡ [] }
-    {
-        KeeperCalls {
-            items: Vec::new(alloc),
+/// What the first pair with a number says, where there is one.
+pub(crate) fn kept_at(calls: &KeeperCalls, number: Option<u64>) -> Option<bool>
+    ensures { result ≡ kept_at calls.now number }
+{
+    let number = number?;
+    for (call, kept) in calls.as_slice() {
+        if *call == number {
+            return Some(*kept);
         }
     }
-
-    /// The pairs of a `Vec`; takes no memory.
-    pub fn from_vec(items: Vec<(u64, bool)>) -> Self
-        ensures { result ≡ items.items }
-    {
-        KeeperCalls { items }
-    }
-
-    /// The `Vec` that holds the pairs; takes no memory.
-    pub fn into_vec(self) -> Vec<(u64, bool)>
-        ensures { result.items ≡ self }
-    {
-        let KeeperCalls { items } = self;
-        items
-    }
-
-    /// What the first pair with a number says, where there is one.
-    pub(crate) fn find(&self, number: Option<u64>) -> Option<bool>
-        ensures { result ≡ kept_at self.now number }
-    {
-        let number = number?;
-        for (call, kept) in &self.items {
-            if *call == number {
-                return Some(*kept);
-            }
-        }
-        None
-    }
+    None
 }
 
 /// A list of byte records.

@@ -2,7 +2,7 @@ ghost use Rattle.std.specs.Prelude.{◌≡◌, ◌<◌, ◌≤◌, Some, length,
 ghost use Rattle.vx_io.specs.Fakes.{HeldInputs, counted, files_of, is_listed};
 ghost use Rattle.vx_io.specs.Outside.{CountsFaults, IsSameBehind, IsSizeOf, IsThere, ReadsFrom};
 
-use crate::lists::{Calls, NamedBytes};
+use crate::lists::{Calls, NamedBytes, is_among};
 use crate::outside::{Failed, Inputs};
 use crate::tally::Tally;
 use std::marker::Model;
@@ -52,7 +52,7 @@ impl MemInputs {
         ensures failed { is_err result ≡ is_listed self.old.fails self.old.tally }
         ensures counted { self.new ≡ record self.old { tally = counted self.old.tally (is_err result) } }
     {
-        let failed = self.fails.has(self.tally.number_of_next());
+        let failed = is_among(&self.fails, self.tally.number_of_next());
         self.tally.count(failed);
         if failed { Err(Failed) } else { Ok(()) }
     }

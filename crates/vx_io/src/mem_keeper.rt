@@ -3,11 +3,11 @@ ghost use Rattle.vx_io.specs.Fakes.{HeldKeeper, counted, kept_of_next};
 ghost use Rattle.vx_io.specs.Keeping.{Stores, has_failed};
 ghost use Rattle.vx_io.specs.Outside.{IsCountOf, IsIndexOf, IsRecordAt, Appends, MayAppend, CountsFaults};
 
-use crate::lists::{KeeperCalls, Records};
+use crate::lists::{KeeperCalls, Records, kept_at};
 use crate::outside::{Failed, Keeper, KeeperError};
 use crate::tally::Tally;
 use std::marker::Model;
-use vx_bits::Bytes;
+use vx_base::Bytes;
 
 /// A keeper in memory, whose listed calls fail.
 #[derive(Debug, Drop)]
@@ -50,7 +50,7 @@ impl MemKeeper {
         ensures failed { is_err result ≡ is_some (kept_of_next self.old.fails self.old.tally) }
         ensures counted { self.new ≡ record self.old { tally = counted self.old.tally (is_err result) } }
     {
-        let failed = self.fails.find(self.tally.number_of_next()).is_some();
+        let failed = kept_at(&self.fails, self.tally.number_of_next()).is_some();
         self.tally.count(failed);
         if failed { Err(Failed) } else { Ok(()) }
     }
@@ -110,7 +110,7 @@ impl Keeper for MemKeeper {
         ensures stores { Stores (kept_of_next self.old.fails self.old.tally) self.old.records self.new.records body.now result }
         ensures counted { self.new ≡ record self.old { records = self.new.records; tally = counted self.old.tally (has_failed result) } }
     {
-        let listed = self.fails.find(self.tally.number_of_next());
+        let listed = kept_at(&self.fails, self.tally.number_of_next());
         let answer = store(&mut self.records, listed, body);
         self.tally.count(answer == Err(KeeperError::Failed));
         answer

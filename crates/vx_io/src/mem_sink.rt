@@ -2,12 +2,12 @@ ghost use Rattle.std.specs.Prelude.{◌≡◌, ◌<◌, ◌≤◌, ◌-◌, ◌+
 ghost use Rattle.vx_io.specs.Fakes.{HeldSink, counted, is_listed};
 ghost use Rattle.vx_io.specs.Outside.{CountsFaults, TookFront, TookPiece};
 
-use crate::lists::Calls;
+use crate::lists::{Calls, is_among};
 use crate::outside::{Failed, Sink};
 use crate::tally::Tally;
 use std::alloc::{AllocError, Global};
 use std::marker::Model;
-use vx_bits::Bytes;
+use vx_base::Bytes;
 
 /// A sink in memory with room for so many bytes, whose listed calls fail.
 #[derive(Debug, Drop)]
@@ -75,7 +75,7 @@ impl Sink for MemSink {
         ensures counted { self.new ≡ record self.old { taken = self.new.taken; tally = counted self.old.tally (is_err result) } }
     {
         let left = self.left();
-        let failed = self.fails.has(self.tally.number_of_next()) || left == 0;
+        let failed = is_among(&self.fails, self.tally.number_of_next()) || left == 0;
         self.tally.count(failed);
         if failed {
             return Err(Failed);

@@ -3,7 +3,7 @@ ghost use Rattle.vx_io.specs.Keeping.{has_failed};
 ghost use Rattle.vx_io.specs.Outside.{Files, IsThere, CountsFaults, IsSameBehind, ReadsFrom, IsSizeOf, TookFront, TookPiece, IsCountOf, IsIndexOf, IsRecordAt, Appends, MayAppend};
 
 use std::alloc::AllocError;
-use vx_bits::Bytes;
+use vx_base::Bytes;
 
 /// A device refused a call; its count of faults rose in that call.
 #[derive(Clone, Copy, Debug, PartialEq, Eq)]

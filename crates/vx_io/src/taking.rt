@@ -4,7 +4,7 @@ ghost use Rattle.vx_io.specs.Take.{Takes, IsWithin, take_failed};
 
 use crate::outside::{Failed, Inputs};
 use std::alloc::{AllocError, Global};
-use vx_bits::Bytes;
+use vx_base::Bytes;
 
 /// Why an input wasn't taken.
 #[derive(Clone, Copy, Debug, PartialEq, Eq)]

@@ -9,7 +9,7 @@ use std::process::Abort;
 use std::rt::Files;
 use std::test::Fail;
 use std::{env, fs, io, process};
-use vx_bits::Bytes;
+use vx_base::Bytes;
 
 /// The bytes taken, where they were.
 fn assert_takes(

@@ -40,36 +40,54 @@ precinct-there election card valid there =
     All-get_or (λ (c : Card). c.precinct < length election.precincts) (cards_of election) card (record { style = 0; precinct = 0 }) there
     (precincts-there (length election.parties) (length election.districts) (length election.precincts) 0 election.styles valid.styles.each)
 
--- one contest more or not
-record AreFrom (low count : ℕ) (numbers : List ℕ) : Type 0 where
+-- numbers that rise
+abbrev pub Rising : List ℕ → Type 0
+Rising [] = Unit {0}
+Rising (n ∷ ns) = All (λ m. n < m) ns × Rising ns
+
+-- a number from a place on, among so many
+abbrev IsFrom : ℕ → ℕ → ℕ → Type 0
+IsFrom place count n = (place ≤ n) × (n < place + count)
+
+-- such numbers, which rise
+record AreFrom (place count : ℕ) (numbers : List ℕ) : Type 0 where
   few : length numbers ≤ count
-  each : All (λ number. number < low + count) numbers
+  each : All (IsFrom place count) numbers
+  rising : Rising numbers
 
-with_one : (low count : ℕ) (here : Bool) (numbers : List ℕ) → AreFrom (low + 1) count numbers → AreFrom low (suc count) (cond here (low ∷ numbers) numbers)
-with_one low count true numbers are = record {
+from-next : (place count : ℕ) (numbers : List ℕ) → AreFrom (place + 1) count numbers → All (IsFrom place (suc count)) numbers
+from-next place count numbers are =
+    All-weaker (IsFrom (place + 1) count) (IsFrom place (suc count)) (λ n h. (omega (arith, h.0), omega (arith, h.1))) numbers are.each
+
+-- one contest more or not
+with_one : (place count : ℕ) (here : Bool) (numbers : List ℕ) → AreFrom (place + 1) count numbers → AreFrom place (suc count) (cond here (place ∷ numbers) numbers)
+with_one place count true numbers are = record {
   few = omega (arith, are.few);
-  each =
-      All-cons (λ number. number < low + suc count) low numbers (omega arith)
-      (All-weaker (λ number. number < (low + 1) + count) (λ number. number < low + suc count) (λ number h. omega (arith, h)) numbers are.each);
+  each = All-cons (IsFrom place (suc count)) place numbers (omega arith, omega arith) (from-next place count numbers are);
+  rising = (All-weaker (IsFrom (place + 1) count) (λ n. place < n) (λ n h. omega (arith, h.0)) numbers are.each, are.rising);
 }
-with_one low count false numbers are = record {
+with_one place count false numbers are = record {
   few = omega (arith, are.few);
-  each = All-weaker (λ number. number < (low + 1) + count) (λ number. number < low + suc count) (λ number h. omega (arith, h)) numbers are.each;
+  each = from-next place count numbers are;
+  rising = are.rising;
 }
 
-from-there : (style : Style) (place : ℕ) (contests : List Contest) → AreFrom place (length contests) (contests_from style place contests)
-from-there style place [] = record { few = omega arith; each = All-nil (λ number. number < place + 0) }
-from-there style place (contest ∷ contests) =
-    with_one place (length contests) (has_contest style contest) (contests_from style (place + 1) contests) (from-there style (place + 1) contests)
+from-place : (style : Style) (place : ℕ) (contests : List Contest) → AreFrom place (length contests) (contests_from style place contests)
+from-place style place [] = record { few = omega arith; each = All-nil (IsFrom place 0); rising = tt }
+from-place style place (contest ∷ contests) =
+    with_one place (length contests) (has_contest style contest) (contests_from style (place + 1) contests) (from-place style (place + 1) contests)
 
--- the contests of a card are there
+of-card : (election : Election) (card : ℕ) → AreFrom 0 (length election.contests) (contests_of_card election card)
+of-card election card = from-place (get_or election.styles (card_at election card).style no_style) 0 election.contests
+
+-- the contests of a card are there, each once and in order, and at most 500
 pub contests-there : (election : Election) (card : ℕ) → All (λ number. number < length election.contests) (contests_of_card election card)
 contests-there election card =
-    let are = from-there (get_or election.styles (card_at election card).style no_style) 0 election.contests in
-    All-weaker (λ number. number < 0 + length election.contests) (λ number. number < length election.contests) (λ number h. omega (arith, h)) (contests_of_card election card) are.each
+    All-weaker (IsFrom 0 (length election.contests)) (λ n. n < length election.contests) (λ n h. omega (arith, h.1))
+    (contests_of_card election card) (of-card election card).each
 
--- and at most 500
+pub contests-rise : (election : Election) (card : ℕ) → Rising (contests_of_card election card)
+contests-rise election card = (of-card election card).rising
+
 pub few-contests : (election : Election) (card : ℕ) → IsValid election → length (contests_of_card election card) ≤ 500
-few-contests election card valid =
-    let are = from-there (get_or election.styles (card_at election card).style no_style) 0 election.contests in
-    omega (arith, are.few, valid.contests.few)
+few-contests election card valid = omega (arith, (of-card election card).few, valid.contests.few)

@@ -1,33 +1,30 @@
 -- The bubbles of a page stand in order, so no two of them come too near to one another.
-use Rattle.std.proofs.Common.{◌≡◌, ◌≢◌, ℕ, zero, suc, ◌+◌, ◌-◌, ◌*◌, ◌%◌, ◌≤◌, ◌<◌, ◌⊎◌, inl, inr, ⊎_elim, List, [], ◌∷◌, ◌++◌, length, map, get_or, Bool, true, false, cond, ℤ, refl, sym, ap, ◌∙◌, subst, arith, ◌==◌}
-use Rattle.std.specs.Prelude.{All, nat_le, Ok}
+use Rattle.std.proofs.Common.{◌≡◌, ◌≢◌, ℕ, zero, suc, ◌+◌, ◌*◌, ◌%◌, ◌≤◌, ◌<◌, ◌⊎◌, inl, inr, ⊎_elim, List, [], ◌∷◌, ◌++◌, length, map, get_or, Bool, true, false, cond, Ok, refl, sym, ap, ◌∙◌, subst, arith, ◌==◌}
+use Rattle.std.specs.Prelude.{All, nat_le}
 use Rattle.std.specs.List.{flat_map, range_with_len}
 use Rattle.std.proofs.lemmas.Bool.{cases_lt}
-use Rattle.std.proofs.lemmas.Bool.Decides.{nat_tests}
-use Rattle.std.proofs.lemmas.List.Elements.{All-nil, All-cons, All-head, All-tail, All-append, All-map, All-filter, All-weaker, All-get_or, filter_passes}
-use Rattle.vx_grid.specs.Grid.{x_of, y_of}
+use Rattle.std.proofs.lemmas.List.Elements.{All-nil, All-cons, All-head, All-tail, All-append, All-filter, All-weaker, All-get_or, filter_passes}
+use Rattle.vx_base.proofs.Lists.{All-flat_map}
+use Rattle.vx_base.proofs.Numbers.{equal-from_yes}
 use Rattle.vx_election.specs.declared.contest.Contest.{Contest}
 use Rattle.vx_election.specs.declared.election.Election.{Election}
 use Rattle.vx_election.specs.Options.{options_of}
 use Rattle.vx_election.specs.Valid.{IsValid}
-use Rattle.vx_styles.specs.Cards.{card_at, contests_of_card}
+use Rattle.vx_styles.specs.Cards.{contests_of_card}
 use Rattle.vx_layout.specs.declared.bubbles.Bubble.{Bubble}
 use Rattle.vx_layout.specs.declared.plan.CardPlan.{CardPlan}
 use Rattle.vx_layout.specs.declared.flow.Spot.{Spot}
 use Rattle.vx_layout.specs.declared.flow.Block.{Block}
 use Rattle.vx_layout.specs.Blocks.{height_of, option_bubble, block_bubbles}
 use Rattle.vx_layout.specs.Flow.{top, start_of, below, contest_at, block_at, end_of_block, blocks_from, page_of, column_of, row_of}
-use Rattle.vx_layout.specs.Plan.{bubbles_of, on_page, page_plan, page_plans, pages_of, plan_of}
+use Rattle.vx_layout.specs.Pages.{IsOnGrid}
+use Rattle.vx_layout.specs.Plan.{bubbles_of, on_page, plan_of}
 use Rattle.vx_layout.specs.Zones.{bubble_zone_of, bubble_box_of, Apart, AreApart, AreApartInPlan}
-use Rattle.vx_layout.proofs.Cards.{contests-there}
-use Rattle.vx_layout.proofs.Clear.{All-below, IsStood, beside, above, in-rectangle, stood-page}
-use Rattle.vx_layout.proofs.Extents.{Within, wider}
-use Rattle.vx_layout.proofs.Faults.{stand-from_none}
-use Rattle.vx_layout.proofs.Laws.{parts-of_plan}
-use Rattle.vx_layout.proofs.LineSizes.{All-flat_map, All-always}
+use Rattle.vx_layout.proofs.Extents.{apart-lies, lies-zone, lies-box}
+use Rattle.vx_layout.proofs.Made.{All-made}
 use Rattle.vx_layout.proofs.Paged.{on-yes, on-no}
-use Rattle.vx_layout.proofs.Placing.{All-placed}
-use Rattle.vx_layout.proofs.Sizes.{sizes-from_valid}
+use Rattle.vx_layout.proofs.Parts.{blocks_of, parts-of_plan, All-pages}
+use Rattle.vx_layout.proofs.Standing.{grid-page}
 
 -- one bubble stands in an earlier column, or above in the same one
 abbrev Before : Bubble → Bubble → Type 0
@@ -50,15 +47,10 @@ ordered-get (b ∷ bs) ordered i zero d less within = absurd (omega arith)
 ordered-get (b ∷ bs) ordered zero (suc j) d less within = All-get_or (Before b) bs j d (omega arith) ordered.0
 ordered-get (b ∷ bs) ordered (suc i) (suc j) d less within = ordered-get bs ordered.1 i j d (omega arith) (omega arith)
 
-from-low : (low a n : ℕ) → low ≤ a → All (λ k. low ≤ k) (range_with_len a n)
-from-low low a zero h = All-nil (λ k. low ≤ k)
-from-low low a (suc n) h = All-cons (λ k. low ≤ k) a (range_with_len (a + 1) n) h (from-low low (a + 1) n (omega arith))
-
 ordered-options : (number : ℕ) (contest : Contest) (col row a n : ℕ) → Ordered (map (option_bubble number contest col row) (range_with_len a n))
 ordered-options number contest col row a zero = tt
 ordered-options number contest col row a (suc n) = (
-  All-map (Before (option_bubble number contest col row a)) (option_bubble number contest col row) (range_with_len (a + 1) n)
-      (All-weaker (λ k. a + 1 ≤ k) (λ k. Before (option_bubble number contest col row a) (option_bubble number contest col row k)) (λ k h. inr (refl, omega (arith, h))) (range_with_len (a + 1) n) (from-low (a + 1) (a + 1) n (omega arith))),
+  All-made (Before (option_bubble number contest col row a)) (option_bubble number contest col row) (a + 1) n (λ k low high. inr (refl, omega (arith, low))),
   ordered-options number contest col row (a + 1) n,
 )
 
@@ -104,17 +96,13 @@ record StandsIn (spot : Spot) (rows : ℕ) (bubble : Bubble) : Type 0 where
 options-stand : (number : ℕ) (contest : Contest) (spot : Spot) → All (StandsIn spot (height_of contest)) (block_bubbles number contest (column_of spot) (row_of spot))
 unfolding block_bubbles
 options-stand number contest spot =
-    All-map (StandsIn spot (height_of contest)) (option_bubble number contest (column_of spot) (row_of spot)) (range_with_len 0 (options_of contest))
-    (All-below (λ option. StandsIn spot (height_of contest) (option_bubble number contest (column_of spot) (row_of spot) option)) (options_of contest) (λ option h.
-    record { col = refl; low = omega arith; high = omega (arith, h) }))
+    All-made (StandsIn spot (height_of contest)) (option_bubble number contest (column_of spot) (row_of spot)) 0 (options_of contest)
+    (λ option from h. record { col = refl; low = omega arith; high = omega (arith, h) })
 
 before-later : (spot other : Spot) (rows others : ℕ) (x y : Bubble) → page_of spot ≡ page_of other → NoLater (below spot rows) other → StandsIn spot rows x → StandsIn other others y → Before x y
 before-later spot other rows others x y same (inl h) in_x in_y = inl (omega (arith, h, same, in_x.col, in_y.col))
 before-later spot other rows others x y same (inr h) in_x in_y =
     inr (in_x.col ∙ ap (λ (column : ℕ). 4 + 9 * (column % 3)) h.0 ∙ sym in_y.col, omega (arith, h.1, in_x.high, in_y.low))
-
-at-page : (page : ℕ) (block : Block) → (page_of block.spot == page) ≡ true → page_of block.spot ≡ page
-at-page page block h = grind (arith, nat_tests)
 
 module _ (contests : List Contest) (page : ℕ) where
   -- every bubble of a block stands before those of later blocks on the page
@@ -129,7 +117,7 @@ module _ (contests : List Contest) (page : ℕ) where
       (λ k d h.
       let other = get_or (on_page page rest) k d in
       All-weaker (StandsIn other.spot (height_of (contest_at contests other.contest))) (Before x)
-      (λ y in_y. before-later block.spot other.spot rows (height_of (contest_at contests other.contest)) x y (here ∙ sym (at-page page other (on k d h))) (later k d h) in_x in_y)
+      (λ y in_y. before-later block.spot other.spot rows (height_of (contest_at contests other.contest)) x y (here ∙ sym (equal-from_yes (page_of other.spot) page (on k d h))) (later k d h) in_x in_y)
       (bubbles_of contests other) (options-stand other.contest (contest_at contests other.contest) other.spot)))
       (bubbles_of contests block) (options-stand block.contest (contest_at contests block.contest) block.spot)
 
@@ -154,65 +142,35 @@ module _ (contests : List Contest) (page : ℕ) where
       (cases_lt page (page_of block.spot)))
       (cases_lt (page_of block.spot) page)
 
--- the zone of a bubble and the box of another, in their rows
-in-zone_rows : (bubble : Bubble) (is : IsStood bubble) (u v : ℤ) → bubble_zone_of bubble u v ≡ true → Within (214 + 432 * is.column) (286 + 432 * is.column) (35 + 52 * bubble.row) (85 + 52 * bubble.row) u v
-in-zone_rows bubble is u v h =
-    let x = x_of bubble.col - 36 in
-    let y = y_of bubble.row - 25 in
-    wider x (x + 72) y (y + 50) (214 + 432 * is.column) (286 + 432 * is.column) (35 + 52 * bubble.row) (85 + 52 * bubble.row) u v
-    (omega (arith, is.col)) (omega (arith, is.col)) (omega arith) (omega arith) (in-rectangle x y 72 50 u v h)
+-- the zone of a bubble and the box of another
+apart-before : (a b : Bubble) → IsOnGrid a → IsOnGrid b → Before a b → Apart (bubble_zone_of a) (bubble_box_of b)
+apart-before a b on_a on_b (inl less) =
+    apart-lies (lies-zone a on_a) (lies-box b on_b) (inl (omega (arith, less, on_a.col, on_b.col)))
+apart-before a b on_a on_b (inr same) =
+    apart-lies (lies-zone a on_a) (lies-box b on_b) (inr (inr (inl (omega (arith, same.1)))))
 
-in-box_rows : (bubble : Bubble) (is : IsStood bubble) (u v : ℤ) → bubble_box_of bubble u v ≡ true → Within (230 + 432 * is.column) (270 + 432 * is.column) (47 + 52 * bubble.row) (73 + 52 * bubble.row) u v
-in-box_rows bubble is u v h =
-    let x = x_of bubble.col - 20 in
-    let y = y_of bubble.row - 13 in
-    wider x (x + 40) y (y + 26) (230 + 432 * is.column) (270 + 432 * is.column) (47 + 52 * bubble.row) (73 + 52 * bubble.row) u v
-    (omega (arith, is.col)) (omega (arith, is.col)) (omega arith) (omega arith) (in-rectangle x y 40 26 u v h)
+apart-after : (a b : Bubble) → IsOnGrid a → IsOnGrid b → Before b a → Apart (bubble_zone_of a) (bubble_box_of b)
+apart-after a b on_a on_b (inl less) =
+    apart-lies (lies-zone a on_a) (lies-box b on_b) (inr (inl (omega (arith, less, on_a.col, on_b.col))))
+apart-after a b on_a on_b (inr same) =
+    apart-lies (lies-zone a on_a) (lies-box b on_b) (inr (inr (inr (omega (arith, same.1)))))
 
-apart-first : (a b : Bubble) → IsStood a → IsStood b → Before a b → Apart (bubble_zone_of a) (bubble_box_of b)
-apart-first a b is_a is_b (inl less) = record {
-  apart = λ u v h k.
-      beside (214 + 432 * is_a.column) (286 + 432 * is_a.column) (35 + 52 * a.row) (85 + 52 * a.row) (230 + 432 * is_b.column) (270 + 432 * is_b.column) (47 + 52 * b.row) (73 + 52 * b.row) u v
-      (in-zone_rows a is_a u v h) (in-box_rows b is_b u v k) (inl (omega (arith, less, is_a.col, is_b.col)));
-}
-apart-first a b is_a is_b (inr under) = record {
-  apart = λ u v h k.
-      above (214 + 432 * is_a.column) (286 + 432 * is_a.column) (35 + 52 * a.row) (85 + 52 * a.row) (230 + 432 * is_b.column) (270 + 432 * is_b.column) (47 + 52 * b.row) (73 + 52 * b.row) u v
-      (in-zone_rows a is_a u v h) (in-box_rows b is_b u v k) (omega (arith, under.1));
-}
-
-apart-second : (a b : Bubble) → IsStood a → IsStood b → Before b a → Apart (bubble_zone_of a) (bubble_box_of b)
-apart-second a b is_a is_b (inl less) = record {
-  apart = λ u v h k.
-      beside (214 + 432 * is_a.column) (286 + 432 * is_a.column) (35 + 52 * a.row) (85 + 52 * a.row) (230 + 432 * is_b.column) (270 + 432 * is_b.column) (47 + 52 * b.row) (73 + 52 * b.row) u v
-      (in-zone_rows a is_a u v h) (in-box_rows b is_b u v k) (inr (omega (arith, less, is_a.col, is_b.col)));
-}
-apart-second a b is_a is_b (inr under) = record {
-  apart = λ u v h k.
-      above (230 + 432 * is_b.column) (270 + 432 * is_b.column) (47 + 52 * b.row) (73 + 52 * b.row) (214 + 432 * is_a.column) (286 + 432 * is_a.column) (35 + 52 * a.row) (85 + 52 * a.row) u v
-      (in-box_rows b is_b u v k) (in-zone_rows a is_a u v h) (omega (arith, under.1));
-}
-
-apart-list : (bubbles : List Bubble) → Ordered bubbles → All IsStood bubbles → (i j : ℕ) (d : Bubble) → i < length bubbles → j < length bubbles → i ≢ j → Apart (bubble_zone_of (get_or bubbles i d)) (bubble_box_of (get_or bubbles j d))
-apart-list bubbles ordered stood i j d in_i in_j other =
+apart-list : (bubbles : List Bubble) → Ordered bubbles → All IsOnGrid bubbles → (i j : ℕ) (d : Bubble) → i < length bubbles → j < length bubbles → i ≢ j → Apart (bubble_zone_of (get_or bubbles i d)) (bubble_box_of (get_or bubbles j d))
+apart-list bubbles ordered on i j d in_i in_j other =
     ⊎_elim
-    (λ less. apart-first (get_or bubbles i d) (get_or bubbles j d) (stood i d in_i) (stood j d in_j) (ordered-get bubbles ordered i j d less in_j))
+    (λ less. apart-before (get_or bubbles i d) (get_or bubbles j d) (on i d in_i) (on j d in_j) (ordered-get bubbles ordered i j d less in_j))
     (λ more. let less : j < i = omega (arith, more, other) in
-    apart-second (get_or bubbles i d) (get_or bubbles j d) (stood i d in_i) (stood j d in_j) (ordered-get bubbles ordered j i d less in_i))
+    apart-after (get_or bubbles i d) (get_or bubbles j d) (on i d in_i) (on j d in_j) (ordered-get bubbles ordered j i d less in_i))
     (cases_lt i j)
 
 -- the bubbles of every page of a plan are apart
 pub apart-plan : (election : Election) (number : ℕ) (plan : CardPlan) → IsValid election → plan_of election number ≡ Ok plan → AreApartInPlan plan
 apart-plan election number plan valid h =
-    let is = parts-of_plan election number plan h in
+    let is = parts-of_plan election number plan valid h in
     let contests = election.contests in
-    let numbers = contests_of_card election number in
-    let blocks = blocks_from contests top numbers in
-    let placed = All-placed contests top numbers (stand-from_none contests numbers (sizes-from_valid election valid) (contests-there election number) is.printable) in
-    let pages = pages_of contests numbers in
-    let card = card_at election number in
-    let all : All AreApart (page_plans election card blocks pages) =
-    All-map AreApart (page_plan election card blocks pages) (range_with_len 1 pages)
-    (All-always (λ page. AreApart (page_plan election card blocks pages page)) (range_with_len 1 pages)
-    (λ page. record { each = apart-list (flat_map (bubbles_of contests) (on_page page blocks)) (ordered-page contests page top numbers) (stood-page election blocks page placed) })) in
-    subst AreApartInPlan is.is all
+    let blocks = blocks_of election number in
+    All-pages AreApart election number plan is (λ page. record {
+      each =
+          apart-list (flat_map (bubbles_of contests) (on_page page blocks)) (ordered-page contests page top (contests_of_card election number))
+          (grid-page election page blocks is.placed);
+    })

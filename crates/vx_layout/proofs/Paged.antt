@@ -1,10 +1,11 @@
 -- The pages of a card have all blocks between them, in order.
-use Rattle.std.proofs.Common.{◌≡◌, ℕ, zero, suc, ◌+◌, ◌≤◌, ◌<◌, ◌⊎◌, ⊎_elim, inl, inr, List, [], ◌∷◌, ◌++◌, Bool, true, false, cond, ◌==◌, refl, sym, ap, ap₂, ◌∙◌, arith, append_assoc}
+use Rattle.std.proofs.Common.{◌≡◌, ℕ, zero, suc, ◌+◌, ◌≤◌, ◌<◌, ◌⊎◌, ⊎_elim, inl, inr, List, [], ◌∷◌, ◌++◌, Bool, cond, refl, sym, ap, ap₂, ◌∙◌, arith, append_assoc}
 use Rattle.std.specs.Prelude.{All}
 use Rattle.std.specs.List.{flat_map, range_with_len}
 use Rattle.std.proofs.lemmas.List.Elements.{All-nil, All-cons, All-head, All-tail, All-weaker}
 use Rattle.std.proofs.lemmas.Bool.Decides.{nat_tests}
 use Rattle.std.proofs.lemmas.Bool.{cases_lt}
+use Rattle.vx_base.proofs.Numbers.{equal-yes, equal-no}
 use Rattle.vx_election.specs.declared.contest.Contest.{Contest}
 use Rattle.vx_layout.specs.declared.flow.Spot.{Spot}
 use Rattle.vx_layout.specs.declared.flow.Block.{Block}
@@ -12,19 +13,17 @@ use Rattle.vx_layout.specs.Blocks.{height_of}
 use Rattle.vx_layout.specs.Flow.{start_of, contest_at, block_at, end_of_block, blocks_from, end_from, page_of}
 use Rattle.vx_layout.specs.Plan.{on_page}
 
-same-yes : (m n : ℕ) → m ≡ n → (m == n) ≡ true
-same-yes m n h = grind (arith, nat_tests)
-
-same-no : (m n : ℕ) → (m < n) ⊎ (n < m) → (m == n) ≡ false
-same-no m n h = grind (arith, nat_tests)
+apart-numbers : (m n : ℕ) → (m < n) ⊎ (n < m) → m ≡ n → ⊥
+apart-numbers m n (inl less) same = omega (arith, less)
+apart-numbers m n (inr more) same = omega (arith, more)
 
 -- a block that stands on a page
 pub on-yes : (page : ℕ) (block : Block) (blocks : List Block) → page_of block.spot ≡ page → on_page page (block ∷ blocks) ≡ block ∷ on_page page blocks
-on-yes page block blocks here = ap (λ (b : Bool). cond b (block ∷ on_page page blocks) (on_page page blocks)) (same-yes (page_of block.spot) page here)
+on-yes page block blocks here = ap (λ (b : Bool). cond b (block ∷ on_page page blocks) (on_page page blocks)) (equal-yes (page_of block.spot) page here)
 
 -- a block that stands on another
 pub on-no : (page : ℕ) (block : Block) (blocks : List Block) → (page_of block.spot < page) ⊎ (page < page_of block.spot) → on_page page (block ∷ blocks) ≡ on_page page blocks
-on-no page block blocks there = ap (λ (b : Bool). cond b (block ∷ on_page page blocks) (on_page page blocks)) (same-no (page_of block.spot) page there)
+on-no page block blocks there = ap (λ (b : Bool). cond b (block ∷ on_page page blocks) (on_page page blocks)) (equal-no (page_of block.spot) page (apart-numbers (page_of block.spot) page there))
 
 -- no block stands on a page before all of theirs
 on-none : (page : ℕ) (blocks : List Block) → All (λ (block : Block). page < page_of block.spot) blocks → on_page page blocks ≡ []

@@ -20,7 +20,8 @@ seats_line contest = codes "Vote for " ++ decimal contest.seats
 
 -- what stands beside the bubble of an option: a choice's label, and for a write-in slot its name
 abbrev pub label_at : Contest → ℕ → List ℕ
-label_at contest option = option_map_or (λ (choice : Choice). choice.label) (slice_get contest.choices option) (codes "Write-in")
+label_at contest option =
+    option_map_or (λ (choice : Choice). choice.label) (slice_get contest.choices option) (codes "Write-in")
 
 -- the rows above those of the options
 abbrev pub heading_rows : Contest → ℕ
@@ -41,10 +42,13 @@ heading_lines contest col row =
 abbrev pub option_lines : Contest → ℕ → ℕ → ℕ → List TextLine
 option_lines contest col row option = lines_at col (row + heading_rows contest + option) (label_at contest option)
 
+-- the lines of all options, in their order
+abbrev pub lines_of_options : Contest → ℕ → ℕ → List TextLine
+lines_of_options contest col row = flat_map (option_lines contest col row) (range_with_len 0 (options_of contest))
+
 -- the lines of a block, from the top
 unfoldable pub block_lines : Contest → ℕ → ℕ → List TextLine
-block_lines contest col row =
-    heading_lines contest col row ++ flat_map (option_lines contest col row) (range_with_len 0 (options_of contest))
+block_lines contest col row = heading_lines contest col row ++ lines_of_options contest col row
 
 -- the bubble of an option of a contest, in a block whose first row is a grid row
 abbrev pub option_bubble : ℕ → Contest → ℕ → ℕ → ℕ → Bubble
@@ -53,7 +57,8 @@ option_bubble number contest col row option =
 
 -- the bubbles of a block, one for each option, in their order
 unfoldable pub block_bubbles : ℕ → Contest → ℕ → ℕ → List Bubble
-block_bubbles number contest col row = map (option_bubble number contest col row) (range_with_len 0 (options_of contest))
+block_bubbles number contest col row =
+    map (option_bubble number contest col row) (range_with_len 0 (options_of contest))
 
 -- the sizes that a valid contest keeps to
 pub record HasSizes (contest : Contest) : Type 0 where

@@ -16,7 +16,8 @@ top = record { column = 0; row = 0 }
 -- where a block of some rows begins, if what is before it ends at a spot: there where the rows fit in
 -- what is left of the column, else at the top of the next
 abbrev pub start_of : Spot → ℕ → Spot
-start_of spot rows = if nat_le (spot.row + rows) column_rows then spot else record { column = spot.column + 1; row = 0 }
+start_of spot rows =
+    if nat_le (spot.row + rows) column_rows then spot else record { column = spot.column + 1; row = 0 }
 
 -- so many rows below a spot
 abbrev pub below : Spot → ℕ → Spot

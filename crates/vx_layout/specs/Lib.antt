@@ -2,7 +2,10 @@ pub mod Lines
 pub mod Blocks
 pub mod Flow
 pub mod Plan
+pub mod Pages
+pub mod Plans
 pub mod Options
 pub mod Print
 pub mod Zones
+pub mod Faults
 pub mod FaultTexts

@@ -1,7 +1,8 @@
 -- The plan of a card: its pages with their bubbles and texts, or why it can't be printed.
-use Rattle.std.specs.Prelude.{◌≡◌, ◌≤◌, All, ℕ, ◌==◌, ◌++◌, List, [], ◌∷◌, map, filter, find, length, take, nat_lt, chars, codes, encode_utf8_all, count_by, sum_by, slice_index_or, if◌then◌else◌, Option, None, Some, Result, Ok, Err}
+use Rattle.std.specs.Prelude.{◌≤◌, All, ℕ, ◌==◌, ◌++◌, List, [], ◌∷◌, map, filter, find, length, take, nat_lt, chars, codes, encode_utf8_all, count_by, sum_by, slice_index_or, if◌then◌else◌, Option, None, Some, Result, Ok, Err}
 use Rattle.std.specs.Fmt.{decimal}
 use Rattle.std.specs.List.{flat_map, range_with_len}
+use Rattle.vx_base.specs.Results.{◌>>=◌}
 use Rattle.vx_election.specs.declared.named.Named.{Named}
 use Rattle.vx_election.specs.declared.choice.Choice.{Choice}
 use Rattle.vx_election.specs.declared.contest.Contest.{Contest}
@@ -14,7 +15,7 @@ use Rattle.vx_layout.specs.declared.pages.PagePlan.{PagePlan}
 use Rattle.vx_layout.specs.declared.plan.CardPlan.{CardPlan}
 use Rattle.vx_layout.specs.declared.flow.Block.{Block}
 use Rattle.vx_layout.specs.declared.fault.LayoutFault.{LayoutFault}
-use Rattle.vx_layout.specs.declared.fault.LayoutFault.TheVariants.{ContestTooTall, TextTooLong, TooManyPages, NoCard, OutOfMemory}
+use Rattle.vx_layout.specs.declared.fault.LayoutFault.TheVariants.{ContestTooTall, TextTooLong, TooManyPages, NoCard}
 use Rattle.vx_layout.specs.Lines.{size_of}
 use Rattle.vx_layout.specs.Blocks.{height_of, block_lines, block_bubbles}
 use Rattle.vx_layout.specs.Flow.{column_rows, top, contest_at, blocks_from, end_from, page_of, column_of, row_of, even_up}
@@ -72,28 +73,25 @@ hollow_on pages = sum_by (λ (page : PagePlan). sum_by hollow_in page.texts) pag
 abbrev pub long_in : List Choice → Option ℕ
 long_in choices = find (λ size. nat_lt 58 size) (map (λ (choice : Choice). size_of choice.name) choices)
 
--- a block that is taller than a column
-abbrev pub tall_fault : Contest → Option LayoutFault
-tall_fault contest = if nat_lt column_rows (height_of contest) then Some (ContestTooTall contest.id (height_of contest)) else None
+-- a contest whose block fits a column
+abbrev pub height_checked : Contest → Result (Unit {0}) LayoutFault
+height_checked contest =
+    if nat_lt column_rows (height_of contest) then Err (ContestTooTall contest.id (height_of contest)) else Ok tt
 
--- a contest that can't be printed: first for a name, then for its height
-abbrev pub fault_unless : Contest → Option ℕ → Option LayoutFault
-fault_unless contest None = tall_fault contest
-fault_unless contest (Some size) = Some (TextTooLong contest.id size)
+-- a contest, unless one of its names is too long: then its height is looked at
+abbrev pub names_checked : Contest → Option ℕ → Result (Unit {0}) LayoutFault
+names_checked contest (Some size) = Err (TextTooLong contest.id size)
+names_checked contest None = height_checked contest
 
--- why a contest can't be printed, if so
-unfoldable pub contest_fault : Contest → Option LayoutFault
-contest_fault contest = fault_unless contest (long_in contest.choices)
+-- a contest that can be printed, or why it can't
+unfoldable pub contest_checked : Contest → Result (Unit {0}) LayoutFault
+contest_checked contest = names_checked contest (long_in contest.choices)
 
--- one fault, or else another
-abbrev pub or_fault : Option LayoutFault → Option LayoutFault → Option LayoutFault
-or_fault None other = other
-or_fault (Some fault) other = Some fault
-
--- why the first of some contests can't be printed, if there is one
-abbrev pub first_fault : List Contest → List ℕ → Option LayoutFault
-first_fault contests [] = None
-first_fault contests (number ∷ numbers) = or_fault (contest_fault (contest_at contests number)) (first_fault contests numbers)
+-- contests that can be printed, or why the first that can't can't
+abbrev pub contests_checked : List Contest → List ℕ → Result (Unit {0}) LayoutFault
+contests_checked contests [] = Ok tt
+contests_checked contests (number ∷ numbers) =
+    contest_checked (contest_at contests number) >>= (λ _. contests_checked contests numbers)
 
 -- the number of pages of a card
 abbrev pub pages_of : List Contest → List ℕ → ℕ
@@ -109,38 +107,22 @@ plan_with election number card numbers pages =
     if nat_lt 63 pages then Err (TooManyPages pages)
     else Ok (card_plan number (page_plans election card (blocks_from election.contests top numbers) pages))
 
--- a card of those contests, unless one of them can't be printed
-abbrev pub plan_unless : Option LayoutFault → Election → ℕ → Card → List ℕ → Result CardPlan LayoutFault
-plan_unless (Some fault) election number card numbers = Err fault
-plan_unless None election number card numbers = plan_with election number card numbers (pages_of election.contests numbers)
+-- a card of those contests, if each of them can be printed
+abbrev pub plan_checked : Election → ℕ → Card → List ℕ → Result CardPlan LayoutFault
+plan_checked election number card numbers =
+    contests_checked election.contests numbers
+    >>= (λ _. plan_with election number card numbers (pages_of election.contests numbers))
 
 -- a card with its contests
 abbrev pub plan_of_card : Election → ℕ → Result CardPlan LayoutFault
 plan_of_card election number =
-    plan_unless (first_fault election.contests (contests_of_card election number)) election number (card_at election number) (contests_of_card election number)
+    plan_checked election number (card_at election number) (contests_of_card election number)
 
 -- the plan of the card with a number, or the first cause why it can't be printed
 unfoldable pub plan_of : Election → ℕ → Result CardPlan LayoutFault
 plan_of election number =
-    if nat_lt number (length (cards_of election)) then plan_of_card election number else Err (NoCard (length (cards_of election)))
-
--- what a call returned is what the definition says, or memory ran out
-abbrev pub Answers : {A : Type 0} → Result A LayoutFault → Result A LayoutFault → Type 0
-Answers (Err OutOfMemory) answer = Unit {0}
-Answers (Err (ContestTooTall id rows)) answer = answer ≡ Err (ContestTooTall id rows)
-Answers (Err (TextTooLong id size)) answer = answer ≡ Err (TextTooLong id size)
-Answers (Err (TooManyPages pages)) answer = answer ≡ Err (TooManyPages pages)
-Answers (Err (NoCard cards)) answer = answer ≡ Err (NoCard cards)
-Answers (Ok x) answer = answer ≡ Ok x
-
--- a test of contests found what the definition finds, or memory ran out
-abbrev pub Finds : Result (Unit {0}) LayoutFault → Option LayoutFault → Type 0
-Finds (Err OutOfMemory) fault = Unit {0}
-Finds (Err (ContestTooTall id rows)) fault = fault ≡ Some (ContestTooTall id rows)
-Finds (Err (TextTooLong id size)) fault = fault ≡ Some (TextTooLong id size)
-Finds (Err (TooManyPages pages)) fault = fault ≡ Some (TooManyPages pages)
-Finds (Err (NoCard cards)) fault = fault ≡ Some (NoCard cards)
-Finds (Ok x) fault = fault ≡ None
+    if nat_lt number (length (cards_of election)) then plan_of_card election number
+    else Err (NoCard (length (cards_of election)))
 
 -- a page with a number of lines of at most 100 characters that its count of hollow boxes can't pass
 pub record IsModest (page : PagePlan) : Type 0 where

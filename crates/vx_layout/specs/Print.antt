@@ -66,4 +66,5 @@ line_pixels line = in_any (length (chars line.text)) (character_pixels line)
 -- the print of a planned page with the boxes of its code: timing marks, code boxes, outlines, dots
 unfoldable pub print_of : PagePlan → List Bool → Pixels
 print_of plan boxes =
-    union (union timing_marks (code_pixels boxes)) (union (any_of plan.bubbles bubble_pixels) (any_of plan.texts line_pixels))
+    union (union timing_marks (code_pixels boxes))
+    (union (any_of plan.bubbles bubble_pixels) (any_of plan.texts line_pixels))

@@ -33,9 +33,12 @@ frame_zone u v = not (rectangle (pos 178) (pos 190) 1344 1820 u v)
 pub record Apart (a b : Pixels) : Type 0 where
   pub apart : (u v : ℤ) → a u v ≡ true → b u v ≡ true → ⊥
 
--- bubbles keep clear of texts, of the page code and of the frame, and so do texts of the latter two
+-- the zones of bubbles keep clear of the dark dots of texts, of the zones of the page code and of the frame
+-- zone, and the dark dots of texts keep clear of the page code's zones and of the frame zone
 pub record IsClear (page : PagePlan) : Type 0 where
-  pub zones_from_text : All (λ (bubble : Bubble). All (λ (line : TextLine). Apart (bubble_zone_of bubble) (line_pixels line)) page.texts) page.bubbles
+  pub zones_from_text :
+      All (λ (bubble : Bubble). All (λ (line : TextLine). Apart (bubble_zone_of bubble) (line_pixels line)) page.texts)
+      page.bubbles
   pub zones_from_code : All (λ (bubble : Bubble). Apart (bubble_zone_of bubble) code_zones) page.bubbles
   pub zones_from_frame : All (λ (bubble : Bubble). Apart (bubble_zone_of bubble) frame_zone) page.bubbles
   pub text_from_code : All (λ (line : TextLine). Apart (line_pixels line) code_zones) page.texts
@@ -43,7 +46,9 @@ pub record IsClear (page : PagePlan) : Type 0 where
 
 -- the zone of each bubble keeps clear of the box of every other bubble of its page
 pub record AreApart (page : PagePlan) : Type 0 where
-  pub each : (i j : ℕ) (d : Bubble) → i < length page.bubbles → j < length page.bubbles → i ≢ j → Apart (bubble_zone_of (slice_index_or page.bubbles i d)) (bubble_box_of (slice_index_or page.bubbles j d))
+  pub each :
+      (i j : ℕ) (d : Bubble) → i < length page.bubbles → j < length page.bubbles → i ≢ j
+      → Apart (bubble_zone_of (slice_index_or page.bubbles i d)) (bubble_box_of (slice_index_or page.bubbles j d))
 
 -- so on every page of a plan
 abbrev pub AreApartInPlan : CardPlan → Type 0

@@ -1,9 +1,7 @@
 ghost use Rattle.std.specs.Prelude.{◌≡◌, ◌++◌, ◌+◌, ◌≤◌, OnOk, IfOk, string_bytes};
-ghost use Rattle.std.specs.List.{flat_map, range_with_len};
-ghost use Rattle.vx_election.specs.Options.{options_of};
 ghost use Rattle.vx_layout.specs.Lines.{size_of};
 ghost use Rattle.vx_layout.specs.Blocks as blocks;
-ghost use Rattle.vx_layout.specs.Blocks.{HasSizes, Fits, seats_line, option_lines, block_lines, block_bubbles};
+ghost use Rattle.vx_layout.specs.Blocks.{HasSizes, Fits, seats_line, lines_of_options, block_lines, block_bubbles};
 
 use crate::bubbles::{Bubble, Bubbles};
 use crate::lines::TextLines;
@@ -69,7 +67,7 @@ fn lay_options(
     requires row { row + blocks.height_of contest.now ≤ 40 }
     requires sizes { HasSizes contest.now }
     requires fits { Fits contest.now }
-    ensures { OnOk result (texts.new ≡ texts.old ++ flat_map (option_lines contest.now col row) (range_with_len 0 (options_of contest.now))) }
+    ensures { OnOk result (texts.new ≡ texts.old ++ lines_of_options contest.now col row) }
 {
     let first = row + heading_rows(contest);
     for option in 0..contest.options() {

@@ -3,7 +3,9 @@ ghost use Rattle.vx_election.specs.declared.choice.Choice.{Choice};
 ghost use Rattle.vx_layout.specs.Lines.{size_of};
 ghost use Rattle.vx_layout.specs.Blocks.{HasSizes};
 ghost use Rattle.vx_layout.specs.Flow.{CanStand};
-ghost use Rattle.vx_layout.specs.Plan.{long_in, contest_fault, first_fault, Finds};
+ghost use Rattle.vx_base.specs.Refusals.{Gives};
+ghost use Rattle.vx_layout.specs.Faults.{is_no_memory};
+ghost use Rattle.vx_layout.specs.Plan.{long_in, contest_checked, contests_checked};
 
 use crate::block::height_of;
 use crate::fault::LayoutFault;
@@ -30,10 +32,10 @@ fn long_name(choices: &[Choice]) -> Option<u32>
 }
 
 /// Whether a contest can be printed: first its names are tested, then its height.
-#[tactic(auto, unfolding(crate::specs::Plan::contest_fault))]
+#[tactic(auto, unfolding(crate::specs::Plan::contest_checked))]
 fn check_contest(alloc: Global, contest: &Contest) -> Result<(), LayoutFault>
     requires { HasSizes contest.now }
-    ensures { Finds result (contest_fault contest.now) }
+    ensures { Gives is_no_memory result (contest_checked contest.now) }
 {
     if let Some(size) = long_name(contest.choices.as_slice()) {
         return Err(LayoutFault::TextTooLong(contest.id.copy(alloc)?, size));
@@ -53,7 +55,7 @@ pub(crate) fn check_contests(
 ) -> Result<(), LayoutFault>
     requires sizes { All HasSizes contests.now }
     requires there { All (λ number. number < length contests.now) numbers.now }
-    ensures found { Finds result (first_fault contests.now numbers.now) }
+    ensures exact { Gives is_no_memory result (contests_checked contests.now numbers.now) }
     ensures stand { OnOk result (All (CanStand contests.now) numbers.now) }
 {
     for number in numbers {

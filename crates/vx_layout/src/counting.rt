@@ -35,7 +35,7 @@ fn hollow_on_page(texts: &[TextLine]) -> usize
 /// The same on all pages.
 pub(crate) fn hollow_on(pages: &[PagePlan]) -> u32
     requires modest { All IsModest pages.now }
-    requires few { length pages.now ≤ 63 }
+    requires few { length pages.now ≤ 100 }
     ensures { result ≡ plan.hollow_on pages.now }
 {
     let mut hollow = 0;

@@ -19,11 +19,30 @@ pub enum LayoutFault {
     OutOfMemory,
 }
 
+/// The first card of an election that can't be planned, and why.
+#[derive(Debug, Drop)]
+pub struct CardFault {
+    /// The card's number, from 0.
+    pub card: u32,
+    pub fault: LayoutFault,
+}
+
 impl From<AllocError> for LayoutFault {
     ghost from_gives = { λ _ e. e ≡ fault.OutOfMemory };
 
     fn from(_e: AllocError) -> LayoutFault {
         LayoutFault::OutOfMemory
+    }
+}
+
+impl From<AllocError> for CardFault {
+    ghost from_gives = { λ _ e. e ≡ record { card = 0; fault = fault.OutOfMemory } };
+
+    fn from(_e: AllocError) -> CardFault {
+        CardFault {
+            card: 0,
+            fault: LayoutFault::OutOfMemory,
+        }
     }
 }
 

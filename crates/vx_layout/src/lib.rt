@@ -1,12 +1,14 @@
 //! The layout of a card: where each contest's text and bubbles stand on its pages, or why the card
 //! can't be printed.
 //!
-//! `plan_card` answers exactly what `plan_of` in `specs/Plan.antt` gives. Its parts stand beside it:
-//! lines of text in `specs/Lines.antt`, a contest's block in `specs/Blocks.antt`, and the flow of
-//! blocks through text columns and pages in `specs/Flow.antt`. Every option has its one bubble
-//! (`specs/Options.antt`), and bubbles and texts keep clear of one another, of the page code and of
-//! the frame (`specs/Zones.antt`). What a planned page looks like in print, as a set of pixels, is
-//! `print_of` in `specs/Print.antt`.
+//! `plan_card` answers exactly what `plan_of` in `specs/Plan.antt` gives, and `plan_cards` what
+//! `plans_of` in `specs/Plans.antt` gives. A plan's parts stand beside it: lines of text in
+//! `specs/Lines.antt`, a contest's block in `specs/Blocks.antt`, and the flow of blocks through
+//! text columns and pages in `specs/Flow.antt`. How pages are numbered and where bubbles stand is
+//! said in `specs/Pages.antt`. Every option has its one bubble (`specs/Options.antt`), and bubbles
+//! and texts keep clear of one another, of the page code and of the frame (`specs/Zones.antt`).
+//! What a planned page looks like in print, as a set of pixels, is `print_of` in
+//! `specs/Print.antt`.
 #![tactic(auto)]
 
 mod block;
@@ -15,6 +17,7 @@ mod checking;
 mod counting;
 mod fault;
 mod flow;
+mod laws;
 mod lines;
 mod pages;
 mod paging;
@@ -25,8 +28,9 @@ mod tests;
 mod typing;
 
 pub use bubbles::{Bubble, Bubbles};
-pub use fault::LayoutFault;
+pub use fault::{CardFault, LayoutFault};
+pub use laws::{plans_are_numbered, plans_have_bubbles, plans_of_are_plans};
 pub use lines::{TextLine, TextLines};
 pub use pages::{PagePlan, PagePlans};
-pub use plan::{CardPlan, CardPlans};
-pub use planning::plan_card;
+pub use plan::{CardPlan, CardPlans, card_plan_is_shared};
+pub use planning::{plan_card, plan_cards};

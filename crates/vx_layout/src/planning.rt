@@ -3,16 +3,21 @@ ghost use Rattle.vx_election.specs.Valid.{IsValid};
 ghost use Rattle.vx_layout.specs.Blocks.{HasSizes};
 ghost use Rattle.vx_layout.specs.Flow as flow;
 ghost use Rattle.vx_layout.specs.Flow.{CanStand};
+ghost use Rattle.vx_base.specs.Refusals.{Gives};
+ghost use Rattle.vx_styles.specs.Cards.{cards_of};
+ghost use Rattle.vx_layout.specs.Faults.{is_no_memory, is_card_no_memory};
 ghost use Rattle.vx_layout.specs.Options.{ShowsEachOption, GivesEachContestAPage};
+ghost use Rattle.vx_layout.specs.Pages.{IsNumbered, HasBubbles};
+ghost use Rattle.vx_layout.specs.Plan.{pages_of, plan_with, plan_checked, plan_of};
+ghost use Rattle.vx_layout.specs.Plans.{plans_of, ArePlansOf};
 ghost use Rattle.vx_layout.specs.Zones.{IsClearPlan, AreApartInPlan};
-ghost use Rattle.vx_layout.specs.Plan.{first_fault, pages_of, plan_with, plan_unless, plan_of, Answers};
 
 use crate::checking::check_contests;
 use crate::counting::hollow_on;
-use crate::fault::LayoutFault;
+use crate::fault::{CardFault, LayoutFault};
 use crate::flow::flow_of;
 use crate::paging::lay_pages;
-use crate::plan::CardPlan;
+use crate::plan::{CardPlan, CardPlans};
 use std::alloc::Global;
 use vx_election::Election;
 use vx_styles::{Card, cards, contests_of};
@@ -40,7 +45,8 @@ fn plan_flow(
     requires sizes { All HasSizes election.now.contests }
     requires stand { All (CanStand election.now.contests) numbers.now }
     requires few { length numbers.now ≤ 500 }
-    ensures { Answers result (plan_with election.now number card numbers.now (pages_of election.now.contests numbers.now)) }
+    ensures { Gives is_no_memory result
+        (plan_with election.now number card numbers.now (pages_of election.now.contests numbers.now)) }
 {
     let flow = flow_of(alloc, election.contests.as_slice(), numbers)?;
     let of = even_up(flow.end.page());
@@ -68,24 +74,43 @@ fn plan_contests(
     requires sizes { All HasSizes election.now.contests }
     requires there { All (λ place. place < length election.now.contests) numbers.now }
     requires few { length numbers.now ≤ 500 }
-    ensures { Answers result (plan_unless (first_fault election.now.contests numbers.now) election.now number card numbers.now) }
+    ensures { Gives is_no_memory result (plan_checked election.now number card numbers.now) }
 {
     check_contests(alloc, election.contests.as_slice(), numbers)?;
     plan_flow(alloc, election, number, card, numbers)
 }
 
-/// What `plan_card` answers.
-fn planned(alloc: Global, election: &Election, card: u32) -> Result<CardPlan, LayoutFault>
-    requires { IsValid election.now }
-    ensures { Answers result (plan_of election.now card) }
+/// The plan of a card, where all cards of the election are listed.
+fn plan_listed(
+    alloc: Global,
+    election: &Election,
+    cards: &[Card],
+    card: u32,
+) -> Result<CardPlan, LayoutFault>
+    requires valid { IsValid election.now }
+    requires listed { cards.now ≡ cards_of election.now }
+    ensures { Gives is_no_memory result (plan_of election.now card) }
 {
-    let cards = cards(alloc, election)?;
     if card as usize >= cards.len() {
         return Err(LayoutFault::NoCard(cards.len() as u32));
     }
     let numbers = contests_of(alloc, election, card)?;
-    let listed = cards.as_slice()[card as usize];
-    plan_contests(alloc, election, card, listed, numbers.as_slice())
+    plan_contests(
+        alloc,
+        election,
+        card,
+        cards[card as usize],
+        numbers.as_slice(),
+    )
+}
+
+/// What `plan_card` answers.
+fn planned(alloc: Global, election: &Election, card: u32) -> Result<CardPlan, LayoutFault>
+    requires { IsValid election.now }
+    ensures { Gives is_no_memory result (plan_of election.now card) }
+{
+    let cards = cards(alloc, election)?;
+    plan_listed(alloc, election, cards.as_slice(), card)
 }
 
 /// The plan of the card with a number, or why it can't be printed.
@@ -97,15 +122,48 @@ fn planned(alloc: Global, election: &Election, card: u32) -> Result<CardPlan, La
 /// contest's block for each of the at most 62 pages.
 pub fn plan_card(alloc: Global, election: &Election, card: u32) -> Result<CardPlan, LayoutFault>
     requires { IsValid election.now }
-    ensures exact { Answers result (plan_of election.now card) }
+    ensures exact { Gives is_no_memory result (plan_of election.now card) }
+    // It has the card's number, and its pages are numbered from 1 in order, below 64.
+    ensures numbered { IfOk result (IsNumbered card) }
+    // Each bubble stands on the grid, for an option that a contest of the election has.
+    ensures bubbles { IfOk result (HasBubbles election.now) }
     // Every option of each of the card's contests has its one bubble, in order, and no other has.
     ensures options { IfOk result (ShowsEachOption election.now card) }
-    // Each contest has one page, on which all its bubbles stand.
-    ensures pages { IfOk result GivesEachContestAPage }
-    // No bubble's zone meets a text, a code box's zone or the frame zone, nor does a text the latter.
+    // All bubbles of a contest stand on one page.
+    ensures one_page { IfOk result GivesEachContestAPage }
+    // No bubble's zone meets a dark dot of a text, a code box's zone or the frame zone, and no dark
+    // dot of a text meets a code box's zone or the frame zone. A character's cell is not spoken of.
     ensures clear { IfOk result IsClearPlan }
     // No bubble's zone meets the box of another bubble of its page.
     ensures apart { IfOk result AreApartInPlan }
 {
     planned(alloc, election, card)
+}
+
+/// The plans of the cards that are listed, which are all of the election's.
+fn plan_list(alloc: Global, election: &Election, cards: &[Card]) -> Result<CardPlans, CardFault>
+    requires valid { IsValid election.now }
+    requires listed { cards.now ≡ cards_of election.now }
+    ensures { Gives is_card_no_memory result (plans_of election.now) }
+{
+    let mut plans = CardPlans::new(alloc);
+    for card in 0..cards.len() as u32 {
+        match plan_listed(alloc, election, cards, card) {
+            Ok(plan) => plans.push(plan)?,
+            Err(fault) => return Err(CardFault { card, fault }),
+        }
+    }
+    Ok(plans)
+}
+
+/// The plans of all cards of an election, in order; or the first card that can't be planned, with
+/// the cause as `plan_card` gives it. Where memory runs out the card's number says nothing.
+pub fn plan_cards(alloc: Global, election: &Election) -> Result<CardPlans, CardFault>
+    requires { IsValid election.now }
+    ensures exact { Gives is_card_no_memory result (plans_of election.now) }
+    // There is one plan for each card, and it is the card's.
+    ensures are_plans { IfOk result (ArePlansOf election.now) }
+{
+    let cards = cards(alloc, election)?;
+    plan_list(alloc, election, cards.as_slice())
 }

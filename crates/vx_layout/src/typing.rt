@@ -53,6 +53,20 @@ fn put_line(
     })
 }
 
+/// The characters of a text.
+fn characters_in(alloc: Global, text: &str) -> Result<Vec<char>, OutOfMemory>
+    ensures { IfOk result (λ characters. characters.items ≡ chars text.now) }
+{
+    Ok(text.chars().collect(alloc)?)
+}
+
+/// The next line of the characters that are left.
+fn line_of(alloc: Global, rest: &[char]) -> Result<Text, OutOfMemory>
+    ensures { IfOk result (λ line. line ≡ encode_utf8_all (take 29 rest.now)) }
+{
+    Ok(Text::from_string(rest.iter().copied().take(LINE).collect(alloc)?))
+}
+
 /// Lays a text in rows of the grid from `row` on, right of the bubbles of grid column `col`.
 pub(crate) fn lay_text(
     alloc: Global,
@@ -65,13 +79,12 @@ pub(crate) fn lay_text(
     requires rows { row + text_lines.rows_of text.now ≤ 40 }
     ensures { OnOk result (texts.new ≡ texts.old ++ lines_at col row text.now) }
 {
-    let mut rest = text;
-    let mut k = 0;
-    while !rest.is_empty() {
-        let line = front_of(alloc, rest, LINE)?;
-        rest = &rest[line.as_str().len()..];
+    let all = characters_in(alloc, text)?;
+    let characters = all.as_slice();
+    let count = ((characters.len() + LINE - 1) / LINE) as u32;
+    for k in 0..count {
+        let line = line_of(alloc, &characters[k as usize * LINE..])?;
         put_line(texts, col, row, k, line)?;
-        k += 1;
     }
     Ok(())
 }

@@ -2,22 +2,21 @@
 use Rattle.std.proofs.Common.{◌≡◌, ◌+◌, ◌*◌, ◌<◌, ◌≤◌, ◌==◌, ◌&&◌, ◌||◌, ◌^◌, ℕ, Bool, true, false, cond, List, [], ◌∷◌, ◌++◌, length, take, drop, None, Ok, Err, nat_lt, nat_le, arith, refl, ap, sym, ◌∙◌, length-append, length-drop, append_assoc}
 use Rattle.std.specs.Char.{digit_value, is_ascii_digit}
 use Rattle.std.specs.Fmt.{decimal}
-use Rattle.std.specs.List.{flat_map}
 use Rattle.std.specs.Str.Parse.{digits_value, AllDigits}
 use Rattle.std.proofs.lemmas.Bool.{le-leb, lt-leb, lt-ltb, le-ltb, ne_eqb}
 use Rattle.std.proofs.lemmas.Fmt.{decimal_is_IsNumeral, length-decimal-le}
 use Rattle.std.proofs.lemmas.List.{drop_at, take_at, take_all, drop-drop}
 use Rattle.std.proofs.lemmas.Str.Parse.{digit_from_value}
 use Rattle.vx_plane.specs.Plane.{Page}
-use Rattle.vx_bits.specs.Packed.{stride_of, packed_page, packed_row}
+use Rattle.vx_bits.specs.Packed.{stride_of, packed_page, raster_of, RasterLaws}
 use Rattle.vx_pbm.specs.declared.header.Header.{Header}
 use Rattle.vx_pbm.specs.declared.fault.PbmFault.TheVariants.{SizeTooLarge, Truncated}
-use Rattle.vx_pbm.specs.Header.{◌>>=◌, is_space, gap_size, digit_count, first_number, begins_with_space, gap_at, number_at, space_at, header_at}
+use Rattle.vx_base.specs.Results.{◌>>=◌}
+use Rattle.vx_pbm.specs.Header.{is_space, gap_size, digit_count, first_number, begins_with_space, gap_at, number_at, space_at, header_at}
 use Rattle.vx_pbm.specs.Raster.{in_size, raw_raster, raw_image, is_raw}
 use Rattle.vx_pbm.specs.Raw.{p4_of}
 use Rattle.vx_pbm.specs.Images.{whole, unread_from, with_page, ended, images_left, images_of, IsWholePage}
 use Rattle.vx_pbm.proofs.Parts.{header_of_parts}
-use Rattle.vx_pbm.proofs.Pixels.{raster_length, packed_back}
 use Rattle.vx_pbm.proofs.Steps.{next_raw, next_end}
 use Rattle.vx_pbm.proofs.Walks.{walks_page, walks_end}
 
@@ -172,9 +171,9 @@ regrouped : (width height raster : List ℕ) → ((width ++ 32 ∷ height) ++ 10
 regrouped width height raster =
     append_assoc (width ++ 32 ∷ height) (10 ∷ []) raster ∙ append_assoc width (32 ∷ height) (10 ∷ raster)
 
-p4_spelled : (page : Page) → p4_of page ≡ spelled_text (decimal page.width) (decimal page.height) (flat_map packed_row page.rows)
+p4_spelled : (page : Page) → p4_of page ≡ spelled_text (decimal page.width) (decimal page.height) (raster_of page)
 unfolding p4_of
-p4_spelled page = ap (λ bytes. 80 ∷ 52 ∷ 10 ∷ bytes) (regrouped (decimal page.width) (decimal page.height) (flat_map packed_row page.rows))
+p4_spelled page = ap (λ bytes. 80 ∷ 52 ∷ 10 ∷ bytes) (regrouped (decimal page.width) (decimal page.height) (raster_of page))
 
 spelled_length : (width height raster : List ℕ) → length (spelled_text width height raster) ≡ spelled_size width height + length raster
 spelled_length width height raster = omega (arith, length-append width (32 ∷ (height ++ 10 ∷ raster)), length-append height (10 ∷ raster))
@@ -186,18 +185,18 @@ alone page text size raw room read long =
     ∙ ap (with_page page) (walks_end (unread_from text (0 + size) false) (next_end text (0 + size) false refl (omega (arith, length-drop (0 + size) text, long))))
 
 -- what is written of a page is read as that page alone
-pub reads_back : (page : Page) → IsWholePage page → images_of (p4_of page) ≡ with_page page (ended None)
+pub reads_back : RasterLaws → (page : Page) → IsWholePage page → images_of (p4_of page) ≡ with_page page (ended None)
 unfolding images_of
-reads_back page is =
+reads_back laws page is =
     let width : List ℕ = decimal page.width in
     let height : List ℕ = decimal page.height in
-    let raster : List ℕ = flat_map packed_row page.rows in
-    let long : length (flat_map packed_row page.rows) ≡ page.height * stride_of page.width = raster_length page is.whole in
-    let read : raw_image 0 (spelled_text (decimal page.width) (decimal page.height) (flat_map packed_row page.rows)) ≡ Ok (packed_page page.width page.height (flat_map packed_row page.rows), spelled_size (decimal page.width) (decimal page.height) + page.height * stride_of page.width) =
-    spelled_image page.width page.height (decimal page.width) (decimal page.height) (flat_map packed_row page.rows)
+    let raster : List ℕ = raster_of page in
+    let long : length (raster_of page) ≡ page.height * stride_of page.width = laws.size page is.whole in
+    let read : raw_image 0 (spelled_text (decimal page.width) (decimal page.height) (raster_of page)) ≡ Ok (packed_page page.width page.height (raster_of page), spelled_size (decimal page.width) (decimal page.height) + page.height * stride_of page.width) =
+    spelled_image page.width page.height (decimal page.width) (decimal page.height) (raster_of page)
     (digits_of_side page.width is.sized.width_above is.sized.width_below) (digits_of_side page.height is.sized.height_above is.sized.height_below)
     is.sized.width_below is.sized.height_below long in
     ap (λ text. images_left (whole text)) (p4_spelled page)
-    ∙ (alone (packed_page page.width page.height (flat_map packed_row page.rows)) (spelled_text (decimal page.width) (decimal page.height) (flat_map packed_row page.rows)) (spelled_size (decimal page.width) (decimal page.height) + page.height * stride_of page.width) refl (omega arith) read
-    (omega (arith, spelled_length (decimal page.width) (decimal page.height) (flat_map packed_row page.rows), long))
-    ∙ ap (λ p. with_page p (ended None)) (packed_back page is.whole))
+    ∙ (alone (packed_page page.width page.height (raster_of page)) (spelled_text (decimal page.width) (decimal page.height) (raster_of page)) (spelled_size (decimal page.width) (decimal page.height) + page.height * stride_of page.width) refl (omega arith) read
+    (omega (arith, spelled_length (decimal page.width) (decimal page.height) (raster_of page), long))
+    ∙ ap (λ p. with_page p (ended None)) (laws.shows page is.whole))

@@ -7,7 +7,8 @@ use Rattle.vx_plane.specs.Plane.{Page}
 use Rattle.vx_pbm.specs.declared.fault.PbmFault.{PbmFault}
 use Rattle.vx_pbm.specs.declared.fault.PbmFault.TheVariants.{BadMagic, BadHeader, SizeTooLarge}
 use Rattle.vx_pbm.specs.declared.header.Header.{Header}
-use Rattle.vx_pbm.specs.Header.{◌>>=◌, header_at}
+use Rattle.vx_base.specs.Results.{◌>>=◌}
+use Rattle.vx_pbm.specs.Header.{header_at}
 use Rattle.vx_pbm.specs.Raster.{in_size, raw_raster, raw_image, is_raw, is_plain}
 use Rattle.vx_pbm.specs.Images.{Unread, step_over, next_of, Images, with_page, ended, onwards, images_left, images_of, moved_fault, followed_by, AreRaw}
 use Rattle.vx_pbm.proofs.Steps.{raw_not_plain, and_false}

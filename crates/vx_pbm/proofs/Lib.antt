@@ -4,9 +4,7 @@ pub mod Headers
 pub mod Joins
 pub mod Local
 pub mod Parts
-pub mod Pixels
 pub mod Plains
-pub mod Rasters
 pub mod Steps
 pub mod Walks
 pub mod Whole

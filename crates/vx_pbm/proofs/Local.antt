@@ -9,9 +9,11 @@ use Rattle.vx_bits.specs.Packed.{stride_of, packed_page}
 use Rattle.vx_pbm.specs.declared.fault.PbmFault.{PbmFault}
 use Rattle.vx_pbm.specs.declared.fault.PbmFault.TheVariants.{Truncated}
 use Rattle.vx_pbm.specs.declared.header.Header.{Header}
-use Rattle.vx_pbm.specs.Header.{◌>>=◌, is_space, ends_comment, gap_size, digit_count, first_number, begins_with_space, gap_at, number_at, space_at, header_at}
+use Rattle.vx_base.specs.Results.{◌>>=◌}
+use Rattle.vx_pbm.specs.Header.{is_space, ends_comment, gap_size, digit_count, first_number, begins_with_space, gap_at, number_at, space_at, header_at}
 use Rattle.vx_pbm.specs.Raster.{in_size, raw_raster, raw_image}
-use Rattle.vx_pbm.proofs.Parts.{Parts, parts_of, header_of_parts, bind_ok}
+use Rattle.vx_base.proofs.Results.{bind_ok}
+use Rattle.vx_pbm.proofs.Parts.{Parts, parts_of, header_of_parts}
 use Rattle.vx_pbm.proofs.Walks.{sized_header}
 
 one_choice : (t : Bool) (a b c d : ℕ) (limit : ℕ) → (cond t (a + 1) b < limit) → (a + 1 < limit → c ≡ a) → (b < limit → d ≡ b) → cond t (c + 1) d ≡ cond t (a + 1) b

@@ -1,12 +1,9 @@
 -- The parts of a header that was read.
-use Rattle.std.proofs.Common.{◌≡◌, ◌+◌, ◌<◌, ℕ, Bool, true, false, cond, List, drop, Result, Ok, Err, arith, refl, ap, sym, ◌∙◌, subst}
+use Rattle.std.proofs.Common.{◌≡◌, ◌+◌, ◌<◌, ℕ, Bool, true, false, cond, List, drop, Result, Ok, Err, arith, ap, sym, ◌∙◌, subst}
+use Rattle.vx_base.specs.Results.{◌>>=◌}
+use Rattle.vx_base.proofs.Results.{bind_ok}
 use Rattle.vx_pbm.specs.declared.header.Header.{Header}
-use Rattle.vx_pbm.specs.Header.{◌>>=◌, header_at, gap_at, number_at, space_at, begins_with_space}
-
--- what was read was read part by part
-pub bind_ok : {A B F : Type 0} (r : Result A F) (f : A → Result B F) (y : B) → (r >>= f) ≡ Ok y → (x : A) × (r ≡ Ok x) × (f x ≡ Ok y)
-bind_ok (Ok x) f y e = (x, refl, e)
-bind_ok (Err d) f y e = absurd cc
+use Rattle.vx_pbm.specs.Header.{header_at, gap_at, number_at, space_at, begins_with_space}
 
 -- the parts of a header, each behind the one before
 pub record Parts (text : List ℕ) (header : Header) : Type 0 where

@@ -9,10 +9,10 @@ use Rattle.std.proofs.Math.Nat.{div-lt_iff_lt-mul}
 use Rattle.vx_plane.specs.Plane.{Page, page_of, dark_at, nowhere, with_pixel}
 use Rattle.vx_plane.proofs.Pages.{page_of-same, dark_at-inside, with_pixel-here, with_pixel-elsewhere}
 use Rattle.vx_pbm.specs.declared.fault.PbmFault.{PbmFault}
-use Rattle.vx_pbm.specs.declared.fault.PbmFault.TheVariants.{BadMagic, BadHeader, SizeTooLarge, Truncated, BadPixel, TrailingPlain, OutOfMemory}
+use Rattle.vx_pbm.specs.declared.fault.PbmFault.TheVariants.{Truncated, BadPixel}
 use Rattle.vx_pbm.specs.declared.header.Header.{Header}
 use Rattle.vx_pbm.specs.Header.{is_space, header_at}
-use Rattle.vx_pbm.specs.Raster.{is_pixel, raster_end, pixels_in, listed, in_size, plain_raster, plain_image, Reads}
+use Rattle.vx_pbm.specs.Raster.{is_pixel, raster_end, pixels_in, listed, in_size, plain_raster, plain_image}
 
 -- a pixel's row is within the frame
 pub row_within : (index width height : ℕ) → 0 < width → index < height * width → index / width < height
@@ -123,17 +123,6 @@ ended_at_need need have at (byte ∷ rest) e = ap (λ t. cond t (Ok at) (cond (i
 pub whole_raster : (width height place need : ℕ) (raster : List ℕ) (i : ℕ) (page : Page) (have wanted : ℕ) → need ≡ wanted → have ≡ need → Filled width height place need raster i page have → Ok (place + i) ≡ raster_end wanted 0 place raster
 whole_raster width height place need raster i page have wanted same all filled =
     sym (ended_at_need need have (place + i) (drop i raster) all) ∙ (filled.rest ∙ ap (λ n. raster_end n 0 place raster) same)
-
--- a reading that was answered is the answer
-pub reads_same : {A : Type 0} (answer reading : Result A PbmFault) → reading ≡ answer → Reads answer reading
-reads_same (Ok x) reading e = e
-reads_same (Err (BadMagic at)) reading e = e
-reads_same (Err (BadHeader at)) reading e = e
-reads_same (Err (SizeTooLarge width height)) reading e = e
-reads_same (Err (Truncated have need)) reading e = e
-reads_same (Err (BadPixel at)) reading e = e
-reads_same (Err (TrailingPlain at)) reading e = e
-reads_same (Err OutOfMemory) reading e = tt
 
 light_raster : (header : Header) (text part : List ℕ) (page : Page) (end : Result ℕ PbmFault) → page ≡ page_of header.width header.height nowhere → part ≡ drop header.size text → end ≡ raster_end (page.height * page.width) 0 header.size part → raster_end (header.height * header.width) 0 header.size (drop header.size text) ≡ end
 light_raster header text part page end light is e =

@@ -1,13 +1,15 @@
 -- Laws of one step over an image.
-use Rattle.std.proofs.Common.{◌≡◌, ◌≢◌, ◌+◌, ◌≤◌, ◌==◌, ◌&&◌, ℕ, Bool, true, false, cond, List, [], ◌∷◌, length, drop, Some, None, Result, Ok, Err, arith, refl, ap, ◌∙◌, zero-add}
+use Rattle.std.proofs.Common.{◌≡◌, ◌≢◌, ◌+◌, ◌≤◌, ◌==◌, ◌&&◌, ℕ, Bool, true, false, cond, List, [], ◌∷◌, length, drop, Some, None, Result, Ok, Err, arith, refl, ap, ◌∙◌, zero-add, subst}
 use Rattle.std.proofs.lemmas.Bool.{ne_eqb, eq-eqb}
 use Rattle.std.proofs.lemmas.Bool.Decides.{nat_tests}
 use Rattle.std.proofs.lemmas.List.{drop-drop, length-drop}
 use Rattle.vx_plane.specs.Plane.{Page}
 use Rattle.vx_pbm.specs.declared.fault.PbmFault.{PbmFault}
-use Rattle.vx_pbm.specs.declared.fault.PbmFault.TheVariants.{BadMagic, SizeTooLarge, TrailingPlain, OutOfMemory}
+use Rattle.vx_pbm.specs.declared.fault.PbmFault.TheVariants.{BadMagic, BadHeader, SizeTooLarge, TrailingPlain}
 use Rattle.vx_pbm.specs.declared.header.Header.{Header}
-use Rattle.vx_pbm.specs.Header.{◌>>=◌, header_at}
+use Rattle.vx_base.specs.Results.{◌>>=◌}
+use Rattle.vx_pbm.specs.Faults.{is_no_memory}
+use Rattle.vx_pbm.specs.Header.{header_at}
 use Rattle.vx_pbm.specs.Raster.{in_size, raw_raster, raw_image, plain_image, is_raw, is_plain}
 use Rattle.vx_pbm.specs.Images.{unread_from, goes_on, step_over, next_of}
 
@@ -31,30 +33,31 @@ raw_not_plain [] e = refl
 raw_not_plain (x ∷ []) e = and_false (80 == x) false refl
 raw_not_plain (x ∷ y ∷ rest) e = and_false (80 == x) ((49 == y) && true) (grind (arith, nat_tests))
 
-never_chosen : {X : Type 0} (t : Bool) (x : X) (fault : PbmFault) → (fault ≡ OutOfMemory → ⊥) → cond t (Ok x) (Err fault) ≡ Err OutOfMemory → ⊥
-never_chosen true x fault other e = cc
-never_chosen false x fault other e = other cc
+chosen_fault : {X : Type 0} (t : Bool) (x : X) (bad fault : PbmFault) → is_no_memory bad ≡ false → cond t (Ok x) (Err bad) ≡ Err fault → is_no_memory fault ≡ false
+chosen_fault true x bad fault other e = absurd cc
+chosen_fault false x bad fault other e = let is : bad ≡ fault = cc in subst (λ (f : PbmFault). is_no_memory f ≡ false) is other
 
-never_refused : {X : Type 0} (t : Bool) (x : X) (fault : PbmFault) → (fault ≡ OutOfMemory → ⊥) → cond t (Err fault) (Ok x) ≡ Err OutOfMemory → ⊥
-never_refused true x fault other e = other cc
-never_refused false x fault other e = cc
+size_fault : (at : ℕ) (header : Result Header ℕ) (fault : PbmFault) → in_size at header ≡ Err fault → is_no_memory fault ≡ false
+size_fault at (Err place) fault e = let is : BadHeader (at + place) ≡ fault = cc in subst (λ (f : PbmFault). is_no_memory f ≡ false) is refl
+size_fault at (Ok header) fault e = chosen_fault _ header (SizeTooLarge header.width header.height) fault refl e
 
-never_in_size : (at : ℕ) (header : Result Header ℕ) → in_size at header ≡ Err OutOfMemory → ⊥
-never_in_size at (Err place) e = cc
-never_in_size at (Ok header) e = never_chosen _ header (SizeTooLarge header.width header.height) (λ h. cc) e
+unless_fault : {X : Type 0} (t : Bool) (x : X) (bad fault : PbmFault) → is_no_memory bad ≡ false → cond t (Err bad) (Ok x) ≡ Err fault → is_no_memory fault ≡ false
+unless_fault true x bad fault other e = let is : bad ≡ fault = cc in subst (λ (f : PbmFault). is_no_memory f ≡ false) is other
+unless_fault false x bad fault other e = absurd cc
 
-never_raw_raster : (header : Header) (text : List ℕ) → raw_raster header text ≡ Err OutOfMemory → ⊥
+raster_fault : (header : Header) (text : List ℕ) (fault : PbmFault) → raw_raster header text ≡ Err fault → is_no_memory fault ≡ false
 unfolding raw_raster
-never_raw_raster header text e = never_refused _ _ _ (λ h. cc) e
+raster_fault header text fault e = unless_fault _ _ _ fault refl e
 
-never_bind : {A B : Type 0} (r : Result A PbmFault) (f : A → Result B PbmFault) → (r ≡ Err OutOfMemory → ⊥) → ((x : A) → f x ≡ Err OutOfMemory → ⊥) → (r >>= f) ≡ Err OutOfMemory → ⊥
-never_bind (Ok x) f a b e = b x e
-never_bind (Err fault) f a b e = a cc
+bind_fault : {A B : Type 0} (r : Result A PbmFault) (f : A → Result B PbmFault) (fault : PbmFault) → (r ≡ Err fault → is_no_memory fault ≡ false) → ((x : A) → f x ≡ Err fault → is_no_memory fault ≡ false) → (r >>= f) ≡ Err fault → is_no_memory fault ≡ false
+bind_fault (Ok x) f fault first then e = then x e
+bind_fault (Err bad) f fault first then e = first cc
 
 -- a raw image takes no memory
-pub raw_without_memory : (at : ℕ) (text : List ℕ) → raw_image at text ≡ Err OutOfMemory → ⊥
+pub raw_without_memory : (at : ℕ) (text : List ℕ) (fault : PbmFault) → raw_image at text ≡ Err fault → is_no_memory fault ≡ false
 unfolding raw_image
-raw_without_memory at text = never_bind (in_size at (header_at text)) (λ header. raw_raster header text) (never_in_size at (header_at text)) (λ header. never_raw_raster header text)
+raw_without_memory at text fault =
+    bind_fault (in_size at (header_at text)) (λ header. raw_raster header text) fault (size_fault at (header_at text) fault) (λ header. raster_fault header text fault)
 
 -- the whole of a plain image
 plain_steps : (bytes : List ℕ) → is_plain bytes ≡ true → 2 ≤ length bytes → next_of (unread_from bytes 0 false) ≡ (plain_image bytes >>= step_over (unread_from bytes 0 false) true)

@@ -1,16 +1,20 @@
 -- Laws of walks over all images that are left.
 use Rattle.std.proofs.Common.{◌≡◌, ◌≢◌, ◌+◌, ◌*◌, ◌<◌, ◌≤◌, ◌==◌, ◌⊎◌, ℕ, zero, suc, Bool, true, false, cond, List, [], ◌∷◌, length, drop, Option, Some, None, Result, Ok, Err, inl, inr, arith, refl, ap, ◌∙◌, add-one, length-drop}
+use Rattle.std.specs.Bool.{MatchBool}
 use Rattle.std.proofs.lemmas.Bool.{eqb-false}
 use Rattle.vx_plane.specs.Plane.{Page}
 use Rattle.vx_bits.specs.Packed.{stride_of}
 use Rattle.vx_pbm.specs.declared.fault.PbmFault.{PbmFault}
-use Rattle.vx_pbm.specs.declared.fault.PbmFault.TheVariants.{BadMagic, BadHeader, SizeTooLarge, Truncated, BadPixel, TrailingPlain, OutOfMemory}
+use Rattle.vx_pbm.specs.declared.fault.PbmFault.TheVariants.{BadMagic, SizeTooLarge, Truncated, BadPixel, TrailingPlain}
 use Rattle.vx_pbm.specs.declared.header.Header.{Header}
-use Rattle.vx_pbm.specs.Header.{◌>>=◌, header_at, is_space}
+use Rattle.vx_base.specs.Results.{◌>>=◌}
+use Rattle.vx_pbm.specs.Header.{header_at, is_space}
 use Rattle.vx_pbm.specs.Raster.{in_size, raw_raster, raw_image, plain_raster, plain_image, raster_end, is_pixel, is_raw}
+use Rattle.vx_pbm.specs.Faults.{is_no_memory}
 use Rattle.vx_pbm.specs.Images.{Unread, goes_on, may_be_plain, step_over, next_of, Images, with_page, ended, onwards, images_within, images_left, Walks}
 use Rattle.vx_pbm.specs.Step.{Finds}
-use Rattle.vx_pbm.proofs.Parts.{bind_ok, header_size}
+use Rattle.vx_base.proofs.Results.{bind_ok}
+use Rattle.vx_pbm.proofs.Parts.{header_size}
 
 header_test : (t : Bool) (header found : Header) (fault : PbmFault) → cond t (Ok header) (Err fault) ≡ Ok found → header ≡ found
 header_test true header found fault e = cc
@@ -130,11 +134,9 @@ walks_page old new page e = images_step old ∙ ap (onwards images_left) e
 pub walks_end : (old : Unread) → next_of old ≡ Ok None → images_left old ≡ ended None
 walks_end old e = images_step old ∙ ap (onwards images_left) e
 
+faulted : (memory : Bool) (old : Unread) (fault : PbmFault) → MatchBool memory (may_be_plain old ≡ true) (next_of old ≡ Err fault) → MatchBool memory (images_left old ≡ images_left old) (images_left old ≡ ended (Some fault))
+faulted true old fault e = refl
+faulted false old fault e = images_step old ∙ ap (onwards images_left) e
+
 pub walks_fault : (bytes : List ℕ) (old : Unread) (fault : PbmFault) → Finds bytes old (Err fault) → Walks old (Err fault) old
-walks_fault bytes old (BadMagic at) e = images_step old ∙ ap (onwards images_left) e
-walks_fault bytes old (BadHeader at) e = images_step old ∙ ap (onwards images_left) e
-walks_fault bytes old (SizeTooLarge width height) e = images_step old ∙ ap (onwards images_left) e
-walks_fault bytes old (Truncated have need) e = images_step old ∙ ap (onwards images_left) e
-walks_fault bytes old (BadPixel at) e = images_step old ∙ ap (onwards images_left) e
-walks_fault bytes old (TrailingPlain at) e = images_step old ∙ ap (onwards images_left) e
-walks_fault bytes old OutOfMemory e = refl
+walks_fault bytes old fault found = faulted (is_no_memory fault) old fault found

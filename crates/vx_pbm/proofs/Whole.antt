@@ -1,10 +1,11 @@
 -- Whole walks.
-use Rattle.std.proofs.Common.{◌≡◌, ◌≢◌, ℕ, List, [], ◌∷◌, ◌++◌, Some, None, Err, refl, ap, sym, ◌∙◌}
+use Rattle.std.proofs.Common.{◌≡◌, ℕ, Bool, true, false, List, [], ◌∷◌, ◌++◌, Some, None, Err, ap, sym, ◌∙◌}
 use Rattle.std.proofs.lemmas.List.{append-nil}
+use Rattle.std.specs.Bool.{MatchBool}
 use Rattle.vx_plane.specs.Plane.{Page}
 use Rattle.vx_pbm.specs.declared.fault.PbmFault.{PbmFault}
-use Rattle.vx_pbm.specs.declared.fault.PbmFault.TheVariants.{BadMagic, BadHeader, SizeTooLarge, Truncated, BadPixel, TrailingPlain, OutOfMemory}
-use Rattle.vx_pbm.specs.Images.{Unread, whole, Images, with_page, ended, onwards, images_left, images_of, Steps, Gave, EndsWalk}
+use Rattle.vx_pbm.specs.Faults.{is_no_memory}
+use Rattle.vx_pbm.specs.Images.{Unread, whole, may_be_plain, next_of, Images, with_page, ended, onwards, images_left, images_of, Gave, EndsWalk}
 use Rattle.vx_pbm.proofs.Walks.{images_step, walks_page, walks_end}
 
 -- the pages that a reader gave are the first ones of what was left
@@ -13,14 +14,9 @@ gave_first old new [] gave = ap images_left (sym gave)
 gave_first old new (page ∷ pages) gave =
     walks_page old gave.0 page gave.1 ∙ ap (with_page page) (gave_first gave.0 new pages gave.2)
 
-fault_left : (unread : Unread) (fault : PbmFault) → fault ≢ OutOfMemory → Steps unread (Err fault) unread → images_left unread ≡ ended (Some fault)
-fault_left unread (BadMagic at) other e = images_step unread ∙ ap (onwards images_left) e.0
-fault_left unread (BadHeader at) other e = images_step unread ∙ ap (onwards images_left) e.0
-fault_left unread (SizeTooLarge width height) other e = images_step unread ∙ ap (onwards images_left) e.0
-fault_left unread (Truncated have need) other e = images_step unread ∙ ap (onwards images_left) e.0
-fault_left unread (BadPixel at) other e = images_step unread ∙ ap (onwards images_left) e.0
-fault_left unread (TrailingPlain at) other e = images_step unread ∙ ap (onwards images_left) e.0
-fault_left unread OutOfMemory other e = absurd (other refl)
+faulted : (memory : Bool) (unread : Unread) (fault : PbmFault) → memory ≡ false → MatchBool memory (may_be_plain unread ≡ true) (next_of unread ≡ Err fault) → images_left unread ≡ ended (Some fault)
+faulted true unread fault other e = absurd cc
+faulted false unread fault other e = images_step unread ∙ ap (onwards images_left) e
 
 pages_and : List Page → Images → Images
 pages_and pages images = record { pages = pages ++ images.pages; fault = images.fault }
@@ -35,6 +31,6 @@ walks_all bytes pages unread gave =
           ∙ (ap (pages_and pages) (walks_end unread e.0)
           ∙ ap (λ ps. record { pages = ps; fault = None }) (append-nil pages));
       at_fault = λ fault other e. first
-          ∙ (ap (pages_and pages) (fault_left unread fault other e)
+          ∙ (ap (pages_and pages) (faulted (is_no_memory fault) unread fault other e.0)
           ∙ ap (λ ps. record { pages = ps; fault = Some fault }) (append-nil pages));
     }

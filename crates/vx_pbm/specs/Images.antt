@@ -1,9 +1,11 @@
 -- The images of bytes: raw images one after another with nothing between, or one plain image.
-use Rattle.std.specs.Prelude.{◌≡◌, ◌≢◌, ℕ, zero, suc, ◌+◌, ◌==◌, ◌&&◌, Bool, true, false, not, List, [], ◌∷◌, ◌++◌, length, drop, if◌then◌else◌, Option, Some, None, option_map, Result, Ok, Err}
+use Rattle.std.specs.Prelude.{◌≡◌, ℕ, zero, suc, ◌+◌, ◌==◌, ◌&&◌, Bool, true, false, not, List, [], ◌∷◌, ◌++◌, length, drop, if◌then◌else◌, MatchBool, Option, Some, None, option_map, Result, Ok, Err}
+use Rattle.vx_base.specs.Results.{◌>>=◌}
 use Rattle.vx_plane.specs.Plane.{Page, page_of, dark_at}
 use Rattle.vx_pbm.specs.declared.fault.PbmFault.{PbmFault}
 use Rattle.vx_pbm.specs.declared.fault.PbmFault.TheVariants.{BadMagic, BadHeader, SizeTooLarge, Truncated, BadPixel, TrailingPlain, OutOfMemory}
-use Rattle.vx_pbm.specs.Header.{◌>>=◌, is_space}
+use Rattle.vx_pbm.specs.Faults.{is_no_memory}
+use Rattle.vx_pbm.specs.Header.{is_space}
 use Rattle.vx_pbm.specs.Raster.{is_raw, is_plain, raw_image, plain_image, IsSized}
 use Rattle.vx_pbm.specs.Raw.{p4_of}
 
@@ -80,15 +82,13 @@ images_of bytes = images_left (whole bytes)
 abbrev pub Steps : Unread → Result (Option Page) PbmFault → Unread → Type 0
 Steps old (Ok (Some page)) new = next_of old ≡ Ok (Some (page, new))
 Steps old (Ok None) new = (next_of old ≡ Ok None) × (new ≡ old)
-Steps old (Err OutOfMemory) new = (may_be_plain old ≡ true) × (new ≡ old)
-Steps old (Err fault) new = (next_of old ≡ Err fault) × (new ≡ old)
+Steps old (Err fault) new = MatchBool (is_no_memory fault) (may_be_plain old ≡ true) (next_of old ≡ Err fault) × (new ≡ old)
 
 -- The same of all images that are left: the page was the first of them, or there was none but the fault.
 abbrev pub Walks : Unread → Result (Option Page) PbmFault → Unread → Type 0
 Walks old (Ok (Some page)) new = images_left old ≡ with_page page (images_left new)
 Walks old (Ok None) new = images_left old ≡ ended None
-Walks old (Err OutOfMemory) new = images_left new ≡ images_left old
-Walks old (Err fault) new = images_left old ≡ ended (Some fault)
+Walks old (Err fault) new = MatchBool (is_no_memory fault) (images_left new ≡ images_left old) (images_left old ≡ ended (Some fault))
 
 -- a fault of bytes that so many others precede
 abbrev pub moved_fault : ℕ → PbmFault → PbmFault
@@ -130,7 +130,7 @@ Gave old (page ∷ pages) new = (between : Unread) × Steps old (Ok (Some page))
 -- a reader that gave these pages of bytes comes to their end or to a fault: these are their images
 pub record EndsWalk (bytes : List ℕ) (pages : List Page) (unread : Unread) : Type 0 where
   pub at_end : Steps unread (Ok None) unread → images_of bytes ≡ record { pages = pages; fault = None }
-  pub at_fault : (fault : PbmFault) → fault ≢ OutOfMemory → Steps unread (Err fault) unread → images_of bytes ≡ record { pages = pages; fault = Some fault }
+  pub at_fault : (fault : PbmFault) → is_no_memory fault ≡ false → Steps unread (Err fault) unread → images_of bytes ≡ record { pages = pages; fault = Some fault }
 
 -- a whole walk gives the images of the bytes
 abbrev pub WalksAllImages : Type 0

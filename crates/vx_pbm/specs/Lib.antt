@@ -1,4 +1,5 @@
 pub mod FaultTexts
+pub mod Faults
 pub mod Header
 pub mod Image
 pub mod Images

@@ -1,12 +1,13 @@
 -- The pixels behind a header, and whole images.
-use Rattle.std.specs.Prelude.{◌≡◌, ◌<◌, ◌≤◌, ℕ, ◌+◌, ◌-◌, ◌*◌, ◌==◌, ◌&&◌, ◌||◌, Bool, false, List, [], ◌∷◌, length, map, filter, drop, take, pos, slice_index_or, nat_lt, nat_le, nat_eq, codes, if◌then◌else◌, Result, Ok, Err}
+use Rattle.std.specs.Prelude.{◌<◌, ◌≤◌, ℕ, ◌+◌, ◌-◌, ◌*◌, ◌==◌, ◌&&◌, ◌||◌, Bool, false, List, [], ◌∷◌, length, map, filter, drop, take, pos, slice_index_or, nat_lt, nat_le, nat_eq, codes, if◌then◌else◌, Result, Ok, Err}
 use Rattle.std.specs.List.{starts_with}
+use Rattle.vx_base.specs.Results.{◌>>=◌}
 use Rattle.vx_plane.specs.Plane.{Pixels, Page, page_of}
 use Rattle.vx_bits.specs.Packed.{stride_of, packed_page}
 use Rattle.vx_pbm.specs.declared.header.Header.{Header}
 use Rattle.vx_pbm.specs.declared.fault.PbmFault.{PbmFault}
-use Rattle.vx_pbm.specs.declared.fault.PbmFault.TheVariants.{BadHeader, SizeTooLarge, Truncated, BadPixel, OutOfMemory}
-use Rattle.vx_pbm.specs.Header.{◌>>=◌, header_at, is_space}
+use Rattle.vx_pbm.specs.declared.fault.PbmFault.TheVariants.{BadHeader, SizeTooLarge, Truncated, BadPixel}
+use Rattle.vx_pbm.specs.Header.{header_at, is_space}
 
 -- a header that was read, of an image that begins at a place, where neither side is above 4096
 abbrev pub in_size : ℕ → Result Header ℕ → Result Header PbmFault
@@ -72,11 +73,6 @@ is_raw text = starts_with nat_eq text (codes "P4")
 
 abbrev pub is_plain : List ℕ → Bool
 is_plain text = starts_with nat_eq text (codes "P1")
-
--- What a call answered that may take memory is the reading, unless memory ran out.
-abbrev pub Reads : {A : Type 0} → Result A PbmFault → Result A PbmFault → Type 0
-Reads (Err OutOfMemory) reading = Unit {0}
-Reads answer reading = reading ≡ answer
 
 -- the sides of a page that was read
 pub record IsSized (width height : ℕ) : Type 0 where

@@ -4,7 +4,7 @@ ghost use Rattle.std.specs.Prelude.{◌≡◌};
 ghost use Rattle.vx_pbm.specs.declared.fault.PbmFault.TheVariants.{OutOfMemory};
 
 use std::fmt;
-use vx_bits::OutOfMemory as AllocError;
+use vx_base::OutOfMemory as AllocError;
 
 /// The first place where bytes leave the grammar of bitmaps. Places count bytes from 0.
 #[derive(Debug, Clone, Copy, PartialEq, Eq)]

@@ -1,6 +1,8 @@
 ghost use Rattle.std.specs.Prelude.{◌≡◌, ◌-◌, ◌*◌, ◌/◌, ◌%◌, ◌+◌, ◌<◌, ◌≤◌, ◌^◌, length, take, pos, true, if◌then◌else◌, IfOk};
+ghost use Rattle.vx_base.specs.Refusals.{Gives};
 ghost use Rattle.vx_plane.specs.Plane.{page_of, dark_at, nowhere, with_pixel};
-ghost use Rattle.vx_pbm.specs.Raster.{is_pixel, raster_end, pixels_in, listed, plain_image, Reads, IsSized};
+ghost use Rattle.vx_pbm.specs.Faults.{is_no_memory};
+ghost use Rattle.vx_pbm.specs.Raster.{is_pixel, raster_end, pixels_in, listed, plain_image, IsSized};
 
 use crate::fault::PbmFault;
 use crate::header::is_space;
@@ -61,7 +63,7 @@ fn fill(page: &mut BitPage, place: usize, raster: &[u8]) -> Result<usize, PbmFau
 #[tactic(auto, unfolding(crate::specs::Raster::plain_image))]
 pub(crate) fn plain_image(alloc: Global, bytes: &[u8]) -> Result<(BitPage, usize), PbmFault>
     requires { 2 ≤ length bytes.now }
-    ensures exact { Reads result (plain_image bytes.now) }
+    ensures exact { Gives is_no_memory result (plain_image bytes.now) }
     ensures within { IfOk result (λ found. found.1 ≤ length bytes.now) }
     ensures sized { IfOk result (λ found. IsSized found.0.width found.0.height) }
 {

@@ -1,4 +1,4 @@
-ghost use Rattle.std.specs.Prelude.{◌≡◌, IfOk, IfSome};
+ghost use Rattle.std.specs.Prelude.{◌≡◌, ◌<◌, IfOk, IfSome, OnSome, length};
 ghost use Rattle.vx_pbm.specs.Images.{whole, Steps, Walks};
 ghost use Rattle.vx_pbm.specs.Raster.{IsSized};
 
@@ -42,11 +42,12 @@ impl<'b> PbmReader<'b> {
         }
     }
 
-    /// The next image, or none at the end of the bytes. After a fault each further call answers the
+    /// The next image, or none at the end of the bytes. Behind an image less is unread. After a fault each further call answers the
     /// same. A plain image takes memory; after want of memory the reader stands before that image.
     pub fn next(&mut self) -> Result<Option<Image<'b>>, PbmFault>
         ensures exact { Steps self.old result self.new }
         ensures images { Walks self.old result self.new }
+        ensures less { IfOk result (λ image. OnSome image (length self.new.text < length self.old.text)) }
         ensures sized { IfOk result (λ image. IfSome image (λ page. IsSized page.width page.height)) }
     {
         match first_step(self.alloc, self.bytes, self.at, self.behind_plain)? {

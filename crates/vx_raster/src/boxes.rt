@@ -2,10 +2,10 @@ ghost use Rattle.std.specs.Prelude.{◌≡◌, ◌<◌};
 ghost use Rattle.vx_plane.specs.Plane.{painted};
 ghost use Rattle.vx_layout.specs.Print.{box_pixels, code_pixels};
 
-use crate::grid::{centre_x, centre_y};
 use crate::stamp::{Patch, stamp};
 use vx_bits::BitPage;
 use vx_code::place_of_box;
+use vx_grid::{centre_x, centre_y};
 
 /// A box of the page code, from 14 pixels to the left of its grid point and 10 above it.
 static CODE_BOX: [Patch; 1] = [Patch {

@@ -6,7 +6,6 @@
 #![tactic(auto)]
 
 mod boxes;
-mod grid;
 mod marks;
 mod outline;
 mod painting;

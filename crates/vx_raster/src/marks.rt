@@ -2,10 +2,9 @@ ghost use Rattle.std.specs.Prelude.{◌≡◌, ◌<◌};
 ghost use Rattle.vx_plane.specs.Plane.{painted};
 ghost use Rattle.vx_grid.specs.Marks.{mark_pixels, timing_marks};
 
-use crate::grid::{centre_x, centre_y};
 use crate::stamp::{Patch, stamp};
 use vx_bits::BitPage;
-use vx_grid::{MARKS, mark_of};
+use vx_grid::{MARKS, centre_x, centre_y, mark_of};
 
 /// A timing mark, from 18 pixels to the left of its grid point and 6 above it.
 static MARK: [Patch; 1] = [Patch {

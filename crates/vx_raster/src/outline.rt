@@ -2,9 +2,9 @@ ghost use Rattle.std.specs.Prelude.{◌≡◌};
 ghost use Rattle.vx_plane.specs.Plane.{painted, any_of};
 ghost use Rattle.vx_layout.specs.Print.{bubble_pixels};
 
-use crate::grid::{centre_x, centre_y};
 use crate::stamp::{Patch, stamp};
 use vx_bits::BitPage;
+use vx_grid::{centre_x, centre_y};
 use vx_layout::Bubble;
 
 /// The outline of a bubble in its box of 40 by 26 pixels, which begins 20 pixels to the left of its

@@ -1,8 +1,7 @@
-use Rattle.std.proofs.Common.{◌≡◌, ◌+◌, ◌*◌, pos, arith, sym, subst}
+use Rattle.std.proofs.Common.{◌≡◌, ◌+◌, ◌*◌, pos, arith, sym}
 use Rattle.vx_plane.specs.Plane.{dark_at}
 use Rattle.vx_plane.specs.Count.{count_in}
 use Rattle.vx_plane.proofs.Counts.{count_in-no_columns}
-use Rattle.vx_count.specs.Sums.{AreFirstSums, blocks_of}
 use Rattle.vx_count.proofs.Steps.{more_columns, row_fits}
 use Rattle.vx_count.proofs.Summing.{first_sums-more, first_sums-at}
 use Rattle.vx_count.proofs.row_sums.push_sums.Goals as goal

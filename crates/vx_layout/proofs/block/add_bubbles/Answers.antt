@@ -3,7 +3,7 @@ use Rattle.std.specs.List.{range_with_len}
 use Rattle.vx_election.specs.Options.{options_of}
 use Rattle.vx_layout.specs.declared.bubbles.Bubble.{Bubble}
 use Rattle.vx_layout.specs.Blocks.{option_bubble, block_bubbles}
-use Rattle.vx_layout.proofs.Ranges.{map-laid}
+use Rattle.vx_base.proofs.Ranges.{map-laid}
 use Rattle.vx_layout.proofs.block.add_bubbles.Goals as goal
 
 pub loop-option-preserved : goal.loop-option-preserved

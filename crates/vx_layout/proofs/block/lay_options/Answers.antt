@@ -1,7 +1,7 @@
 use Rattle.std.proofs.Common.{ℕ, ◌+◌, ◌++◌, List, ap₂, ◌∙◌}
 use Rattle.vx_layout.specs.Lines.{lines_at}
 use Rattle.vx_layout.specs.Blocks.{option_lines}
-use Rattle.vx_layout.proofs.Ranges.{flat_map-laid}
+use Rattle.vx_base.proofs.Ranges.{flat_map-laid}
 use Rattle.vx_layout.proofs.block.lay_options.Goals as goal
 
 pub loop-option-preserved : goal.loop-option-preserved

@@ -5,9 +5,9 @@ use Rattle.std.specs.declared.string.String.{String}
 use Rattle.std.specs.declared.alloc.Global.{Global}
 use Rattle.std.specs.Fmt.{decimal}
 use Rattle.std.proofs.lemmas.List.{get_or_read}
+use Rattle.std.proofs.lemmas.Result.{IfOk-weaker}
 use Rattle.vx_election.specs.declared.named.Named.{Named}
 use Rattle.vx_layout.specs.Plan.{foot_text}
-use Rattle.vx_layout.proofs.Ranges.{IfOk-weaker}
 use Rattle.vx_layout.proofs.paging.foot_text.Goals as goal
 
 written : List ℕ → List ℕ → List ℕ → ℕ → ℕ → List ℕ
@@ -36,9 +36,9 @@ returns c =
     let precinct : c.index-as_slice-card.result ≡ get_or election.precincts number no_name =
     get_or_read c.as_slice.result.now number c.index-as_slice-card.result there c.index-as_slice-card.is no_name
     ∙ ap (λ (list : List Named). get_or list number no_name) c.as_slice.ensures in
-    IfOk-weaker (λ (s : String Global). string_bytes s ≡ written c.as_str-title.result.now c.as_str-date.result.now c.as_str-name.result.now c.args.page c.args.of)
+    IfOk-weaker c.format.result
+    (λ (s : String Global). string_bytes s ≡ written c.as_str-title.result.now c.as_str-date.result.now c.as_str-name.result.now c.args.page c.args.of)
     (λ (s : String Global). string_bytes s ≡ foot_text election c.args.card c.args.page c.args.of)
-    c.format.result
     (λ s h. h
     ∙ same-text c.as_str-title.result.now election.title c.as_str-date.result.now election.date c.as_str-name.result.now (get_or election.precincts number no_name).name
     c.args.page c.args.of c.as_str-title.ensures c.as_str-date.ensures (c.as_str-name.ensures ∙ ap (λ (named : Named). named.name) precinct)

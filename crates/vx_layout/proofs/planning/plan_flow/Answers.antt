@@ -1,12 +1,13 @@
 use Rattle.std.proofs.Common.{◌≤◌, List, length, sym, ap, ◌∙◌, subst, arith}
 use Rattle.std.specs.Prelude.{All}
+use Rattle.std.proofs.lemmas.List.FromFn.{length-map-range_with_len}
 use Rattle.vx_election.specs.declared.contest.Contest.{Contest}
 use Rattle.vx_layout.specs.declared.flow.Block.{Block}
 use Rattle.vx_layout.specs.declared.pages.PagePlan.{PagePlan}
 use Rattle.vx_layout.specs.Flow.{top, blocks_from, IsPlaced}
-use Rattle.vx_layout.specs.Plan.{IsModest}
+use Rattle.vx_layout.specs.Plan.{page_plan, IsModest}
 use Rattle.vx_layout.proofs.Placing.{All-placed, length-blocks_from}
-use Rattle.vx_layout.proofs.LineSizes.{modest-pages, length-page_plans}
+use Rattle.vx_layout.proofs.Standing.{modest-pages}
 use Rattle.vx_layout.proofs.planning.plan_flow.Goals as goal
 
 pub lay_pages-requires-clause-placed : goal.lay_pages-requires-clause-placed
@@ -29,4 +30,4 @@ hollow_on-hollow-requires-clause-modest c =
 
 pub hollow_on-hollow-requires-clause-few : goal.hollow_on-hollow-requires-clause-few
 hollow_on-hollow-requires-clause-few c =
-    omega (arith, ap length (c.as_slice-3.ensures ∙ c.in_ok-pages.ensures), length-page_plans c.args.election.now c.args.card c.as_slice-2.result.now c.even_up-of.result)
+    omega (arith, ap length (c.as_slice-3.ensures ∙ c.in_ok-pages.ensures), length-map-range_with_len (page_plan c.args.election.now c.args.card c.as_slice-2.result.now c.even_up-of.result) 1 c.even_up-of.result)

@@ -1,43 +1,34 @@
-use Rattle.std.proofs.Common.{◌≡◌, ◌≢◌, ◌<◌, ◌+◌, ◌*◌, ◌∙◌, ℕ, List, length, drop, chars, sym, subst, arith}
-use Rattle.std.specs.Str.{IsCharBoundary}
-use Rattle.std.proofs.lemmas.Bool.Decides.{nat_tests}
-use Rattle.vx_layout.proofs.Cutting.{boundary-after_front, some-chars, length-chars_nil}
-use Rattle.vx_layout.proofs.Breaking.{left-after, fewer-left, room-after, lines-more, lines-all}
+use Rattle.std.proofs.Common.{◌≡◌, ◌+◌, ◌-◌, ◌*◌, ◌/◌, ◌%◌, ◌++◌, ◌∷◌, [], ℕ, List, length, take, drop, map, ap, ◌∙◌, arith}
+use Rattle.std.specs.List.{range_with_len}
+use Rattle.std.proofs.lemmas.Slice.{between_to_end}
+use lib.Utf8.{encodes}
+use Rattle.vx_base.proofs.Ranges.{map-laid}
+use Rattle.vx_grid.specs.Grid.{x_of, y_of}
+use Rattle.vx_layout.specs.Lines.{lines_of, placed_line, lines_at}
 use Rattle.vx_layout.proofs.typing.lay_text.Goals as goal
-use Rattle.vx_layout.proofs.typing.lay_text.Goals.{In_ok-put_line}
 
-pub range_from-rest-requires : goal.range_from-rest-requires
-range_from-rest-requires c =
-    λ _. let Cut : List ℕ → Type 0 = λ xs. IsCharBoundary c.loop-rest.rest.now (length xs) in
-    subst Cut (sym (c.as_str.ensures ∙ c.in_ok-line.ensures)) (boundary-after_front c.loop-rest.rest.now 29 c.loop-rest.invariant.is_text)
+pub overflow_cast-count : goal.overflow_cast-count
+overflow_cast-count c =
+    omega (arith, ap length (c.as_slice-characters.ensures.value ∙ c.in_ok-all.ensures), c.requires.rows)
 
-some-left : (c : In_ok-put_line) → 0 < length (chars c.loop-rest.rest.now)
-some-left c =
-    let some : length c.loop-rest.rest.now ≢ 0 = grind (arith, nat_tests) in
-    some-chars c.loop-rest.rest.now c.loop-rest.invariant.is_text some
+pub put_line-requires-clause-row : goal.put_line-requires-clause-row
+put_line-requires-clause-row c =
+    omega (arith, ap length (c.as_slice-characters.ensures.value ∙ c.in_ok-all.ensures), c.requires.rows, c.loop-k-test.true)
 
-left-is : (c : In_ok-put_line) → chars c.range_from-rest.result.now ≡ drop ((c.loop-rest.k + 1) * 29) (chars c.args.text.now)
-left-is c =
-    left-after c.args.text.now c.loop-rest.rest.now c.as_str.result.now c.in_ok-line.line c.range_from-rest.result.now c.loop-rest.k
-    c.loop-rest.invariant.is_text c.as_str.ensures c.in_ok-line.ensures c.range_from-rest.ensures.value c.loop-rest.invariant.left
-
-pub loop-rest-smaller : goal.loop-rest-smaller
-loop-rest-smaller c =
-    fewer-left c.args.text.now c.loop-rest.rest.now c.range_from-rest.result.now c.loop-rest.k (some-left c) c.loop-rest.invariant.left (left-is c)
-
-pub loop-rest-preserved : goal.loop-rest-preserved
-loop-rest-preserved c = record {
-  is_text = c.range_from-rest.utf8;
-  left = left-is c;
-  room = room-after c.args.text.now c.loop-rest.rest.now c.loop-rest.k (some-left c) c.loop-rest.invariant.left;
-  laid =
-      c.in_ok-put_line.ensures
-      ∙ lines-more c.args.texts.now c.loop-rest.texts c.args.col c.args.row c.loop-rest.k c.args.text.now c.in_ok-line.line c.loop-rest.rest.now
-      c.in_ok-line.ensures c.loop-rest.invariant.left c.loop-rest.invariant.laid;
-}
+pub loop-k-preserved : goal.loop-k-preserved
+loop-k-preserved c =
+    let cs = c.as_slice-characters.result.now in
+    let line =
+    c.in_ok-line.ensures
+    ∙ ap (λ (rest : List ℕ). encodes (take 29 rest)) (between_to_end cs (c.loop-k.k * 29) (length cs) (omega arith))
+    ∙ ap (λ (all : List ℕ). encodes (take 29 (drop (c.loop-k.k * 29) all))) (c.as_slice-characters.ensures.value ∙ c.in_ok-all.ensures) in
+    map-laid (placed_line c.args.col c.args.row c.args.text.now) c.args.texts.now c.loop-k.texts c.put_line.new.texts c.loop-k.k c.loop-k.invariant
+    (c.in_ok-put_line.ensures
+    ∙ ap (λ (t : List ℕ). c.loop-k.texts ++ (record { x = x_of c.args.col + 40; y = y_of (c.args.row + c.loop-k.k / 2) - 18 + 20 * (c.loop-k.k % 2); text = t }) ∷ []) line)
 
 pub returns : goal.returns
+unfolding lines_at
 returns c =
-    let none : length c.loop-rest.rest.now ≡ 0 = grind (arith, nat_tests) in
-    lines-all c.args.texts.now c.loop-rest.texts c.args.col c.args.row c.loop-rest.k c.args.text.now c.loop-rest.rest.now
-    (length-chars_nil c.loop-rest.rest.now none) c.loop-rest.invariant.left c.loop-rest.invariant.room c.loop-rest.invariant.laid
+    let all : c.loop-k.k ≡ lines_of c.args.text.now = omega (arith, ap length (c.as_slice-characters.ensures.value ∙ c.in_ok-all.ensures), c.loop-k-test.false) in
+    c.loop-k.invariant
+    ∙ ap (λ (n : ℕ). c.args.texts.now ++ map (placed_line c.args.col c.args.row c.args.text.now) (range_with_len 0 n)) all

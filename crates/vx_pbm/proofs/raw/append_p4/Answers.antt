@@ -1,25 +1,12 @@
-use Rattle.std.proofs.Common.{◌≡◌, ◌++◌, ◌<◌, length, take, get_or, [], arith, ap, ◌∙◌, append_assoc}
-use Rattle.std.specs.List.{flat_map}
-use Rattle.std.proofs.lemmas.List.{take_all}
-use Rattle.vx_bits.specs.Packed.{packed_row, unpacked}
+use Rattle.std.proofs.Common.{◌++◌, ap, ap₂, ◌∙◌, append_assoc}
+use Rattle.vx_bits.specs.Packed.{raster_of}
 use Rattle.vx_pbm.specs.Raw.{header_of, p4_of}
-use Rattle.vx_pbm.proofs.Rasters.{length-rows, row_more}
 use Rattle.vx_pbm.proofs.raw.append_p4.Goals as goal
-
-pub loop-v-preserved : goal.loop-v-preserved
-loop-v-preserved c =
-    let rows : length c.args.page.now.rows ≡ c.args.page.now.height = length-rows c.args.page.now c.width.ensures.whole in
-    let inside : c.loop-v.v < length c.args.page.now.rows = omega (arith, rows) in
-    let row : packed_row (unpacked c.width-in-loop-v.result c.row_bytes.result.now) ≡ packed_row (get_or c.args.page.now.rows c.loop-v.v []) =
-    ap packed_row (ap (λ w. unpacked w c.row_bytes.result.now) c.width-in-loop-v.ensures.value ∙ c.row_bytes.ensures.pixels) in
-    row_more (c.args.into.now ++ header_of c.args.page.now.width c.args.page.now.height) c.loop-v.into _ c.args.page.now.rows c.loop-v.v inside c.loop-v.invariant
-    (c.in_ok-append_row.ensures.ok ∙ ap (λ s. c.loop-v.into ++ s) row)
 
 pub returns-clause-ok : goal.returns-clause-ok
 unfolding p4_of
 returns-clause-ok c =
-    let rows : length c.args.page.now.rows ≡ c.args.page.now.height = length-rows c.args.page.now c.width.ensures.whole in
-    let all : take c.loop-v.v c.args.page.now.rows ≡ c.args.page.now.rows = take_all _ _ (omega (arith, rows)) in
-    c.loop-v.invariant
-    ∙ (ap (λ r. (c.args.into.now ++ header_of c.args.page.now.width c.args.page.now.height) ++ flat_map packed_row r) all
-    ∙ append_assoc c.args.into.now _ _)
+    c.in_ok-append_raster.ensures.ok
+    ∙ (ap (λ s. s ++ raster_of c.args.page.now) c.in_ok-append_header.ensures.ok
+    ∙ (append_assoc c.args.into.now (header_of c.width.result c.height.result) (raster_of c.args.page.now)
+    ∙ ap₂ (λ w h. c.args.into.now ++ (header_of w h ++ raster_of c.args.page.now)) c.width.ensures.value c.height.ensures.value))

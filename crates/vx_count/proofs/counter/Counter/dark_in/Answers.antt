@@ -1,6 +1,5 @@
-use Rattle.std.proofs.Common.{◌≡◌, ◌∙◌, SFits, w32, sym, rules, subst}
+use Rattle.std.proofs.Common.{◌≡◌, ◌∙◌, SFits, w32, sym, rules}
 use Rattle.std.proofs.lemmas.Int.{to_z-of_z}
-use Rattle.vx_grid.specs.Places.{IsWithin}
 use Rattle.vx_count.specs.Cut.{IsCut}
 use Rattle.vx_count.proofs.Cutting.{count_in-cut}
 use Rattle.vx_count.proofs.Turning.{shown-whole, shown-width, shown-height}

@@ -1,5 +1,4 @@
-use Rattle.std.proofs.Common.{◌≡◌, ◌≤◌, sym, subst}
-use Rattle.vx_plane.specs.Plane.{Page}
+use Rattle.std.proofs.Common.{sym, subst}
 use Rattle.vx_count.specs.Turned.{IsShown}
 use Rattle.vx_count.proofs.counter.Counter.new.Goals as goal
 

@@ -1,6 +1,4 @@
-use Rattle.std.proofs.Common.{◌≡◌, ◌+◌, ◌-◌, ◌<◌, ◌≤◌, ap, ap₂, pos, arith, ◌∙◌}
-use Rattle.vx_plane.specs.Plane.{dark_at}
-use Rattle.vx_plane.specs.Count.{count_in}
+use Rattle.std.proofs.Common.{arith}
 use Rattle.vx_count.proofs.Turning.{shown-count}
 use Rattle.vx_count.proofs.counter.Counter.run.Goals as goal
 

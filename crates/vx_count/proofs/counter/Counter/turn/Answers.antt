@@ -1,5 +1,5 @@
-use Rattle.std.proofs.Common.{◌≡◌, Bool, true, false, not, refl, ap, sym, ◌∙◌}
-use Rattle.vx_count.specs.Turned.{turned_page, shown_page}
+use Rattle.std.proofs.Common.{ap, ◌∙◌}
+use Rattle.vx_count.specs.Turned.{turned_page}
 use Rattle.vx_count.proofs.Turning.{turned-shown}
 use Rattle.vx_count.proofs.counter.Counter.turn.Goals as goal
 

@@ -1,4 +1,4 @@
-use Rattle.std.proofs.Common.{◌≡◌, ◌+◌, ◌-◌, ◌*◌, ◌/◌, ◌%◌, ℕ, pos, ap, ◌∙◌, arith}
+use Rattle.std.proofs.Common.{◌≡◌, ◌-◌, ◌%◌, pos, ap, ◌∙◌, arith}
 use Rattle.vx_plane.specs.Plane.{dark_at}
 use Rattle.vx_plane.specs.Count.{count_in}
 use Rattle.vx_count.proofs.Steps.{block_and_words, and_rest, row_fits}
@@ -6,11 +6,11 @@ use Rattle.vx_count.proofs.row_sums.RowSums.before.Goals as goal
 
 pub overflow_add-dark : goal.overflow_add-dark
 overflow_add-dark c =
-    omega (arith, row_fits 0 c.args.row (c.args.x - c.args.x % 64) _ _ (block_and_words c.args.row c.args.x _ _ c.self.inside.rows c.args.self.now c.self.view_is c.before_block.ensures c.in_words.ensures))
+    omega (arith, row_fits 0 c.args.row _ _ _ c.before_block.ensures, row_fits _ c.args.row _ _ _ c.in_words.ensures)
 
 pub overflow_add-result : goal.overflow_add-result
 overflow_add-result c =
-    omega (arith, row_fits 0 c.args.row c.args.x _ _ (and_rest c.args.row c.args.x _ _ c.self.inside.rows c.args.self.now c.self.view_is (block_and_words c.args.row c.args.x _ _ c.self.inside.rows c.args.self.now c.self.view_is c.before_block.ensures c.in_words.ensures) c.in_word.ensures))
+    omega (arith, row_fits 0 c.args.row _ _ _ c.before_block.ensures, row_fits _ c.args.row _ _ _ c.in_words.ensures, row_fits _ c.args.row _ _ _ c.in_word.ensures)
 
 pub returns-then-x-eq0 : goal.returns-then-x-eq0
 returns-then-x-eq0 c =

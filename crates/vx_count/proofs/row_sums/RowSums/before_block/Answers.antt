@@ -1,6 +1,5 @@
-use Rattle.std.proofs.Common.{◌≡◌, ◌+◌, ◌-◌, ◌*◌, ℕ, get_or, pos, ap, ap₂, sym, ◌∙◌, arith, subst}
-use Rattle.std.proofs.lemmas.List.{get_or_default}
-use Rattle.vx_plane.specs.Plane.{Page, dark_at}
+use Rattle.std.proofs.Common.{◌≡◌, ◌*◌, pos, ap, sym, ◌∙◌, arith}
+use Rattle.vx_plane.specs.Plane.{dark_at}
 use Rattle.vx_plane.specs.Count.{count_in}
 use Rattle.vx_plane.proofs.Counts.{count_in-no_columns}
 use Rattle.vx_count.proofs.Summing.{sum-found}

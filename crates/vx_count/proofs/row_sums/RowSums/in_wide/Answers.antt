@@ -1,4 +1,4 @@
-use Rattle.std.proofs.Common.{◌≡◌, ◌+◌, ◌-◌, ◌∙◌, pos, arith, sym}
+use Rattle.std.proofs.Common.{◌≡◌, ◌+◌, ◌-◌, pos, arith, sym}
 use Rattle.vx_plane.specs.Plane.{dark_at}
 use Rattle.vx_plane.specs.Count.{count_in}
 use Rattle.vx_plane.proofs.Counts.{count_in-no_rows}

@@ -1,8 +1,8 @@
-use Rattle.std.proofs.Common.{◌≡◌, Err, None, ap, sym, subst, ◌∙◌}
+use Rattle.std.proofs.Common.{◌≡◌, ◌<◌, length, drop, Err, None, ap, sym, subst, ◌∙◌}
 use Rattle.std.proofs.lemmas.Result.{err_from_is_err_and}
 use Rattle.vx_pbm.specs.Images.{Unread, unread_from, images_left, with_page, ended, Walks}
 use Rattle.vx_pbm.specs.Step.{StepsOver}
-use Rattle.vx_pbm.proofs.Walks.{walks_page, walks_end, walks_fault}
+use Rattle.vx_pbm.proofs.Walks.{shorter, walks_page, walks_end, walks_fault}
 use Rattle.vx_pbm.proofs.reader.PbmReader.next.Goals as goal
 
 pub returns-in_err-first_step-clause-images : goal.returns-in_err-first_step-clause-images
@@ -22,3 +22,9 @@ returns-in-Some-clause-images c =
     let step : StepsOver c.self.inside.bytes.now (unread_from c.self.inside.bytes.now c.self.inside.at c.self.inside.behind_plain) c.in-Some.step = rw c.in-Some.is at c.in_ok-first_step.ensures in
     subst (λ (old : Unread). images_left old ≡ with_page c.in-Some.step.image (images_left (unread_from c.self.inside.bytes.now c.in-Some.step.at c.in-Some.step.behind_plain))) c.self.view_is
     (walks_page (unread_from c.self.inside.bytes.now c.self.inside.at c.self.inside.behind_plain) (unread_from c.self.inside.bytes.now c.in-Some.step.at c.in-Some.step.behind_plain) c.in-Some.step.image step.first)
+
+pub returns-in-Some-clause-less : goal.returns-in-Some-clause-less
+returns-in-Some-clause-less c =
+    let step : StepsOver c.self.inside.bytes.now (unread_from c.self.inside.bytes.now c.self.inside.at c.self.inside.behind_plain) c.in-Some.step = rw c.in-Some.is at c.in_ok-first_step.ensures in
+    subst (λ (old : Unread). length (drop c.in-Some.step.at c.self.inside.bytes.now) < length old.text) c.self.view_is
+    (shorter (unread_from c.self.inside.bytes.now c.self.inside.at c.self.inside.behind_plain) _ step.first)

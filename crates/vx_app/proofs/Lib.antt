@@ -1,9 +1,0 @@
-pub mod Numerals
-pub mod Commands
-pub mod PageTexts
-pub mod Acts
-pub mod Prints
-pub mod Stopping
-pub mod Planned
-pub mod Walking
-pub mod ReadingTexts

@@ -1,0 +1,9 @@
+pub mod Halts
+pub mod Acts
+pub mod Elections
+pub mod Done
+pub mod Devices
+pub mod Steps
+pub mod Status
+pub mod Laws
+pub mod Kinds

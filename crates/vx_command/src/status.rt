@@ -1,0 +1,116 @@
+ghost use Rattle.std.specs.Prelude.{◌≡◌};
+ghost use Rattle.vx_command.specs.Status.{number_of, status_of as status_of_answer};
+
+use crate::halt::Halt;
+use std::fmt;
+use vx_election::ElectionFault;
+use vx_layout::LayoutFault;
+use vx_pbm::PbmFault;
+
+/// What the program ends with. Words are counted from 0.
+#[derive(Debug, Drop)]
+pub enum Status {
+    /// The command did its work.
+    Ok,
+    /// The words aren't a command.
+    Usage,
+    /// The inputs hold nothing under that word.
+    NoInput(u32),
+    /// That input has so many bytes, more than the limit.
+    TooLong(u32, u64),
+    /// The election definition is refused.
+    Election(ElectionFault),
+    /// The first card that can't be laid out, and why.
+    Layout(u32, LayoutFault),
+    /// The scan input of that word leaves the grammar of bitmaps.
+    Pbm(u32, PbmFault),
+    /// The inputs failed.
+    ReadFault,
+    /// The sink failed.
+    WriteFault,
+    /// The keeper failed.
+    KeeperFault,
+    /// There was no memory.
+    NoMemory,
+}
+
+impl Status {
+    /// The number that the program ends with.
+    pub fn number(&self) -> u8
+        ensures { result ≡ number_of self.now }
+    {
+        match self {
+            Status::Ok => 0,
+            Status::Usage => 1,
+            Status::NoInput(_) => 2,
+            Status::TooLong(_, _) => 3,
+            Status::Election(_) => 4,
+            Status::Layout(_, _) => 5,
+            Status::Pbm(_, _) => 6,
+            Status::ReadFault => 10,
+            Status::WriteFault => 11,
+            Status::KeeperFault => 12,
+            Status::NoMemory => 13,
+        }
+    }
+}
+
+/// The status that a command's answer ends the program with.
+pub fn status_of(answer: Result<(), Halt>) -> Status
+    ensures { result ≡ status_of_answer answer }
+{
+    match answer {
+        Ok(()) => Status::Ok,
+        Err(Halt::NoInput(word)) => Status::NoInput(word),
+        Err(Halt::TooLong(word, size)) => Status::TooLong(word, size),
+        Err(Halt::Election(fault)) => Status::Election(fault),
+        Err(Halt::Layout(card, fault)) => Status::Layout(card, fault),
+        Err(Halt::Pbm(word, fault)) => Status::Pbm(word, fault),
+        Err(Halt::ReadFault) => Status::ReadFault,
+        Err(Halt::WriteFault) => Status::WriteFault,
+        Err(Halt::KeeperFault) => Status::KeeperFault,
+        Err(Halt::NoMemory) => Status::NoMemory,
+    }
+}
+
+/// The status in words.
+impl fmt::Display for Status {
+    ghost use Rattle.std.specs.Prelude.{Some};
+    ghost use Rattle.vx_command.specs.Status.{line_of};
+
+    ghost output = { λ status. Some (line_of status) };
+
+    fn fmt<W: fmt::Write>(&self, f: &mut fmt::Formatter<W>) -> fmt::Result {
+        match self {
+            Status::Ok => f.write_str("ok"),
+            Status::Usage => f.write_str("usage"),
+            Status::NoInput(word) => write!(f, "no input {word}"),
+            Status::TooLong(word, size) => write!(f, "too long {word} {size}"),
+            Status::Election(fault) => write!(f, "election {fault}"),
+            Status::Layout(card, fault) => write!(f, "layout {card} {fault}"),
+            Status::Pbm(word, fault) => write!(f, "pbm {word} {fault}"),
+            Status::ReadFault => f.write_str("read fault"),
+            Status::WriteFault => f.write_str("write fault"),
+            Status::KeeperFault => f.write_str("keeper fault"),
+            Status::NoMemory => f.write_str("no memory"),
+        }
+    }
+}
+
+/// What the program writes to standard error as it ends with a status: a line, but nothing where the
+/// command did its work.
+pub struct Message<'s>(pub &'s Status);
+
+impl<'s> fmt::Display for Message<'s> {
+    ghost use Rattle.std.specs.Prelude.{Some};
+    ghost use Rattle.vx_command.specs.Status.{message_of};
+
+    ghost output = { λ message. Some (message_of message.0.now) };
+
+    fn fmt<W: fmt::Write>(&self, f: &mut fmt::Formatter<W>) -> fmt::Result {
+        match self.0 {
+            Status::Ok => Ok(()),
+            status => write!(f, "vx: {status}\n"),
+        }
+    }
+}

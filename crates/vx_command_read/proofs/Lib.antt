@@ -1,0 +1,3 @@
+pub mod ReadingTexts
+pub mod ImageActs
+pub mod ScanActs

@@ -1,0 +1,3 @@
+pub mod ReadingText
+pub mod Outcome
+pub mod Scans

@@ -1,0 +1,14 @@
+//! The command `read`: takes an election, plans all its cards, and writes what each image of its
+//! scans is read as, or its fault.
+//!
+//! What it does is `read_outcome` in `specs/Outcome.antt`; the text of an image stands in
+//! `specs/ReadingText.antt`. What a reading is stands in `vx_scan_model`, what all commands share in
+//! `vx_command`.
+#![tactic(auto)]
+
+mod images;
+mod reading;
+mod reading_text;
+mod scans;
+
+pub use reading::read;

@@ -1,0 +1,83 @@
+ghost use Rattle.std.specs.Prelude.{◌≡◌, ◌≤◌, ◌<◌, ◌+◌, ◌^◌, false, length, map, IfOk};
+ghost use Rattle.std.specs.Option.{ForSome};
+ghost use Rattle.vx_election.specs.Valid.{IsValid};
+ghost use Rattle.vx_layout.specs.Plans.{ArePlansOf};
+ghost use Rattle.vx_command.specs.Devices.{is_keeper_fault, LeavesInputs, LeavesSink, writes_nothing};
+ghost use Rattle.vx_command.specs.Done.{IsWritten};
+ghost use Rattle.vx_command_read.specs.Outcome.{scans_outcome};
+ghost use Rattle.vx_command_read.specs.Scans.{ReadsFirst};
+
+use crate::images::read_scan;
+use std::alloc::Global;
+use vx_bits::Bytes;
+use vx_command::{Halt, INPUT_LIMIT, acts_in_order, steps_in_order, take_input};
+use vx_election::Election;
+use vx_io::{Inputs, Sink};
+use vx_json::Text;
+use vx_layout::CardPlans;
+
+/// Takes the scan of a word under its name and reads its images, the first of which has a number.
+/// Answers the number after the last one's.
+fn read_input<I: Inputs, S: Sink>(
+    alloc: Global,
+    election: &Election,
+    plans: &CardPlans,
+    name: &str,
+    word: u32,
+    number: u64,
+    inputs: &mut I,
+    out: &mut S,
+) -> Result<u64, Halt>
+    requires election { IsValid election.now }
+    requires plans { ArePlansOf election.now plans.now }
+    requires room { number < 2 ^ 63 }
+    requires later_word { 1 < word }
+    ensures done { ForSome (I.held inputs.old) (λ files. ReadsFirst election.now files word number name.now (S.taken out.old) (S.taken out.new) result) }
+    ensures bound { IfOk result (λ next. next ≤ number + 67108864) }
+    ensures inputs { LeavesInputs (I.held inputs.old) (I.held inputs.new) (I.faults inputs.old) (I.faults inputs.new) result }
+    ensures sink { LeavesSink (S.faults out.old) (S.faults out.new) result }
+    ensures no_keeper_fault { is_keeper_fault result ≡ false }
+    ensures late { writes_nothing false result ≡ false }
+{
+    steps_in_order::<Bytes>();
+    let bytes = take_input(alloc, inputs, name, word, INPUT_LIMIT)?;
+    read_scan(alloc, election, plans, word, number, bytes.as_slice(), out)
+}
+
+/// Reads scans one after the other, the first of which is word 2, and writes the texts of their
+/// images, which are numbered over all of them from 1. One input is held at a time.
+pub fn read_scans<I: Inputs, S: Sink>(
+    alloc: Global,
+    election: &Election,
+    plans: &CardPlans,
+    scans: &[Text],
+    inputs: &mut I,
+    out: &mut S,
+) -> Result<(), Halt>
+    requires election { IsValid election.now }
+    requires plans { ArePlansOf election.now plans.now }
+    requires few { length scans.now ≤ 64 }
+    ensures done { ForSome (I.held inputs.old) (λ files. IsWritten (scans_outcome election.now files 2 1 scans.now) (S.taken out.old) (S.taken out.new) result) }
+    ensures inputs { LeavesInputs (I.held inputs.old) (I.held inputs.new) (I.faults inputs.old) (I.faults inputs.new) result }
+    ensures sink { LeavesSink (S.faults out.old) (S.faults out.new) result }
+    ensures no_keeper_fault { is_keeper_fault result ≡ false }
+    ensures late { writes_nothing false result ≡ false }
+{
+    acts_in_order();
+    let mut number = 1;
+    let mut word = 2;
+    for scan in scans {
+        number = read_input(
+            alloc,
+            election,
+            plans,
+            scan.as_str(),
+            word,
+            number,
+            inputs,
+            out,
+        )?;
+        word += 1;
+    }
+    Ok(())
+}

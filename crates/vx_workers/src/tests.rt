@@ -1,0 +1,101 @@
+ghost use Rattle.std.specs.Prelude.{◌≡◌, ◌<◌, ◌≤◌, ◌*◌, ◌^◌, length, map, All, IfOk};
+
+use super::*;
+use std::alloc::Global;
+use std::sync::atomic::{AtomicBool, AtomicU64, Ordering};
+use std::test::Fail;
+use std::thread::Threads;
+use vx_base::OutOfMemory;
+
+/// The turns for which a gate holds an item, each of them one load.
+const TURNS: u32 = 100_000_000;
+
+/// Holds the items up to number `held` until `all` items have entered.
+#[derive(Drop)]
+struct Meeting {
+    held: u32,
+    all: u64,
+    entered: AtomicU64,
+    is_spent: AtomicBool,
+}
+
+impl Meeting {
+    fn new(held: u32, all: u64) -> Self {
+        Meeting {
+            held,
+            all,
+            entered: AtomicU64::new(0),
+            is_spent: AtomicBool::new(false),
+        }
+    }
+
+    /// Each item has entered once, and none was held for all its turns.
+    fn is_met(&self) -> bool {
+        self.entered.load(Ordering::SeqCst) == self.all && !self.is_spent.load(Ordering::SeqCst)
+    }
+}
+
+impl Gate for Meeting {
+    fn enter(&self, call: u32) -> bool {
+        self.entered.fetch_add(1, Ordering::SeqCst);
+        if call > self.held {
+            return true;
+        }
+        for _ in 0..TURNS {
+            if self.entered.load(Ordering::SeqCst) >= self.all {
+                return true;
+            }
+        }
+        self.is_spent.store(true, Ordering::SeqCst);
+        false
+    }
+}
+
+fn squares<R: Threads + Sync, G: Gate>(
+    rt: &R,
+    alloc: Global,
+    items: &[u32],
+    workers: u32,
+    gate: &G,
+) -> Result<Vec<u32>, OutOfMemory>
+    requires some_worker { 0 < workers }
+    requires few_workers { workers ≤ 64 }
+    requires few_items { length items.now < 2 ^ 32 }
+    requires small { All (λ item. item < 2 ^ 16) items.now }
+    ensures { IfOk result (λ answers. answers.items ≡ map (λ item. item * item) items.now) }
+{
+    let task = |item: &u32| -> Result<u32, OutOfMemory>
+        requires { item.now < 2 ^ 16 }
+        ensures { IfOk result (λ answer. answer ≡ item.now * item.now) }
+    { Ok(*item * *item) };
+    map_tasks(rt, alloc, items, workers, gate, &task)
+}
+
+#[test]
+fn squares_of_three_and_of_none(rt: HostRuntime) -> Result<(), Fail> {
+    for workers in [1, 2, 7, 64] {
+        let answers = squares(&rt, rt.alloc(), &[1, 2, 3], workers, &OpenGate)?;
+        assert_eq!(rt; answers.as_slice(), [1, 4, 9].as_slice());
+    }
+    let none = squares(&rt, rt.alloc(), &[], 2, &OpenGate)?;
+    assert!(rt; none.is_empty());
+    Ok(())
+}
+
+#[test]
+fn two_items_are_done_side_by_side(rt: HostRuntime) -> Result<(), Fail> {
+    let meeting = Meeting::new(2, 2);
+    let answers = squares(&rt, rt.alloc(), &[5, 6], 2, &meeting)?;
+    assert_eq!(rt; answers.as_slice(), [25, 36].as_slice());
+    assert!(rt; meeting.is_met());
+    Ok(())
+}
+
+#[test]
+fn a_free_worker_takes_the_next_item(rt: HostRuntime) -> Result<(), Fail> {
+    let meeting = Meeting::new(1, 4);
+    let answers = squares(&rt, rt.alloc(), &[5, 6, 7, 8], 2, &meeting)?;
+    assert_eq!(rt; answers.as_slice(), [25, 36, 49, 64].as_slice());
+    assert!(rt; meeting.is_met());
+    Ok(())
+}
