@@ -3,7 +3,8 @@ use Rattle.std.specs.Prelude.{ℕ, Bool, true, false, List, [], ◌∷◌, ◌++
 use Rattle.serde_json.specs.Data.{Data}
 use Rattle.serde_json.specs.Find.{get, as_object}
 use Rattle.vx_json.specs.Paths.{member_path, element_path}
-use Rattle.vx_json.specs.Reading.{◌>>=◌, need_in, string_in}
+use Rattle.vx_base.specs.Results.{◌>>=◌}
+use Rattle.vx_json.specs.Reading.{need_in, string_in}
 use Rattle.vx_election.specs.declared.fault.ElectionFault.{ElectionFault}
 use Rattle.vx_election.specs.declared.fault.ElectionFault.TheVariants.{WrongKind, OutOfRange}
 use Rattle.vx_election.specs.declared.named.Named.{Named}

@@ -2,7 +2,8 @@
 use Rattle.std.specs.Prelude.{ℕ, ◌+◌, ◌-◌, ◌*◌, ◌&&◌, ◌==◌, Bool, List, length, slice_index, if◌then◌else◌, Result, Ok, Err, pos}
 use Rattle.jiff.specs.Words.{days_in_month}
 use Rattle.serde_json.specs.Data.{Data}
-use Rattle.vx_json.specs.Reading.{◌>>=◌, string_in, is_within}
+use Rattle.vx_base.specs.Results.{◌>>=◌}
+use Rattle.vx_json.specs.Reading.{string_in, is_within}
 use Rattle.vx_election.specs.declared.fault.ElectionFault.{ElectionFault}
 use Rattle.vx_election.specs.declared.fault.ElectionFault.TheVariants.{OutOfRange}
 use Rattle.vx_election.specs.Faults.{of_json}

@@ -2,7 +2,8 @@
 use Rattle.std.specs.Prelude.{ℕ, suc, ◌&&◌, ◌||◌, ◌==◌, Bool, List, [], ◌∷◌, length, bytes_eq, if◌then◌else◌, Option, Some, None, Result, Ok, Err, is_some, ok_or, option_map}
 use Rattle.std.specs.List.{list_all, list_any}
 use Rattle.serde_json.specs.Data.{Data}
-use Rattle.vx_json.specs.Reading.{◌>>=◌, string_in, is_within}
+use Rattle.vx_base.specs.Results.{◌>>=◌}
+use Rattle.vx_json.specs.Reading.{string_in, is_within}
 use Rattle.vx_election.specs.declared.fault.ElectionFault.{ElectionFault}
 use Rattle.vx_election.specs.declared.fault.ElectionFault.TheVariants.{OutOfRange, RepeatedId, UnknownId}
 use Rattle.vx_election.specs.Faults.{of_json}

@@ -3,7 +3,8 @@ use Rattle.std.specs.Prelude.{ℕ, Bool, false, List, [], ◌∷◌, ◌++◌, l
 use Rattle.serde_json.specs.Data.{Data}
 use Rattle.serde_json.specs.Find.{get}
 use Rattle.vx_json.specs.Paths.{member_path}
-use Rattle.vx_json.specs.Reading.{◌>>=◌, need_in, text_in, whole_in, list_in, flag_in}
+use Rattle.vx_base.specs.Results.{◌>>=◌}
+use Rattle.vx_json.specs.Reading.{need_in, text_in, whole_in, list_in, flag_in}
 use Rattle.vx_election.specs.declared.fault.ElectionFault.{ElectionFault}
 use Rattle.vx_election.specs.declared.fault.ElectionFault.TheVariants.{TooMany}
 use Rattle.vx_election.specs.Faults.{of_json}

@@ -2,7 +2,7 @@
 use Rattle.std.specs.Prelude.{ℕ, List, [], length, map, Result, Ok, codes}
 use Rattle.serde_json.specs.Data.{Data}
 use Rattle.vx_json.specs.Paths.{element_path}
-use Rattle.vx_json.specs.Reading.{◌>>=◌}
+use Rattle.vx_base.specs.Results.{◌>>=◌}
 use Rattle.vx_election.specs.declared.fault.ElectionFault.{ElectionFault}
 use Rattle.vx_election.specs.declared.named.Named.{Named}
 use Rattle.vx_election.specs.Ids.{reference_in, new_reference_in}

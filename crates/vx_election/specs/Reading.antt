@@ -4,7 +4,8 @@ use Rattle.std.specs.Str.{is_utf8}
 use Rattle.serde_json.specs.Data.{Data}
 use Rattle.serde_json.specs.Read.{read}
 use Rattle.sha2.specs.Sha256.{sha256}
-use Rattle.vx_json.specs.Reading.{◌>>=◌, need_in}
+use Rattle.vx_base.specs.Results.{◌>>=◌}
+use Rattle.vx_json.specs.Reading.{need_in}
 use Rattle.vx_election.specs.declared.election.Election.{Election}
 use Rattle.vx_election.specs.declared.fault.ElectionFault.{ElectionFault}
 use Rattle.vx_election.specs.declared.fault.ElectionFault.TheVariants.{NotJson, TooManyCards}

@@ -5,7 +5,8 @@ use Rattle.serde_json.specs.Data.{Data}
 use Rattle.serde_json.specs.Find.{get}
 use Rattle.vx_grid.specs.declared.state.Thresholds.{Thresholds}
 use Rattle.vx_json.specs.Paths.{element_path}
-use Rattle.vx_json.specs.Reading.{◌>>=◌, string_in}
+use Rattle.vx_base.specs.Results.{◌>>=◌}
+use Rattle.vx_json.specs.Reading.{string_in}
 use Rattle.vx_election.specs.declared.fault.ElectionFault.{ElectionFault}
 use Rattle.vx_election.specs.declared.fault.ElectionFault.TheVariants.{OutOfRange, BadThresholds}
 use Rattle.vx_election.specs.declared.reason.Reason.{Reason}

@@ -2,7 +2,7 @@
 use Rattle.std.specs.Prelude.{ℕ, List, [], length, map, sum_by, Result, Ok, codes}
 use Rattle.serde_json.specs.Data.{Data}
 use Rattle.vx_json.specs.Paths.{member_path, element_path}
-use Rattle.vx_json.specs.Reading.{◌>>=◌}
+use Rattle.vx_base.specs.Results.{◌>>=◌}
 use Rattle.vx_election.specs.declared.fault.ElectionFault.{ElectionFault}
 use Rattle.vx_election.specs.declared.named.Named.{Named}
 use Rattle.vx_election.specs.declared.style.Style.{Style}

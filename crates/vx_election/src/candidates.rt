@@ -2,7 +2,8 @@
 
 ghost use Rattle.std.specs.Prelude.{◌≡◌, ◌≤◌, None, map, length, IfOk};
 ghost use Rattle.serde_json.specs.View.{view};
-ghost use Rattle.vx_election.specs.Faults.{Answers};
+ghost use Rattle.vx_base.specs.Refusals.{Gives, GivesAs};
+ghost use Rattle.vx_election.specs.Faults.{is_no_memory};
 ghost use Rattle.vx_election.specs.Ids.{place_in};
 ghost use Rattle.vx_election.specs.Contests.{name_at, with_parties, label_of, affiliations_in, candidate_at, candidate_list_in, candidates_in};
 
@@ -72,7 +73,7 @@ fn affiliations_of(
     value: &Value,
     path: &Path,
 ) -> Result<Vec<u32>, ElectionFault>
-    ensures { Answers (λ places. places.items) result (affiliations_in parties.now (view value.now) path.now) }
+    ensures { GivesAs (λ places. places.items) is_no_memory result (affiliations_in parties.now (view value.now) path.now) }
 {
     let list = optional_list(alloc, value, path, "partyIds", 10)?;
     let at = path.member(alloc, "partyIds")?;
@@ -88,7 +89,7 @@ fn candidate_of(
     path: &Path,
     ids: &Ids,
 ) -> Result<Choice, ElectionFault>
-    ensures answers { Answers (λ choice. choice) result (candidate_at parties.now path.now ids.now (view value.now)) }
+    ensures answers { Gives is_no_memory result (candidate_at parties.now path.now ids.now (view value.now)) }
     ensures is_new { IfOk result (λ choice. place_in choice.id ids.now ≡ None) }
 {
     let id = id_member(alloc, value, path, ids)?;
@@ -108,7 +109,7 @@ fn candidate_list_of(
     path: &Path,
 ) -> Result<Choices, ElectionFault>
     requires { length values.now ≤ 100 }
-    ensures { Answers (λ choices. choices) result (candidate_list_in parties.now path.now (map view values.now)) }
+    ensures { Gives is_no_memory result (candidate_list_in parties.now path.now (map view values.now)) }
 {
     let mut choices = Vec::new(alloc);
     let mut ids = Ids::new(alloc);
@@ -129,7 +130,7 @@ pub(crate) fn candidates_of(
     value: &Value,
     path: &Path,
 ) -> Result<Choices, ElectionFault>
-    ensures { Answers (λ choices. choices) result (candidates_in parties.now (view value.now) path.now) }
+    ensures { Gives is_no_memory result (candidates_in parties.now (view value.now) path.now) }
 {
     let list = list_member(alloc, value, path, "candidates", 100)?;
     let at = path.member(alloc, "candidates")?;

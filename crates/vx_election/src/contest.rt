@@ -1,7 +1,7 @@
-ghost use Rattle.std.specs.Prelude.{◌≡◌, length};
+ghost use Rattle.std.specs.Prelude.{◌≡◌};
 
 use crate::choice::Choices;
-use std::marker::Model;
+use vx_base::ListOf;
 use vx_json::Text;
 
 /// A contest of candidates, or one that is answered by yes or no.
@@ -38,45 +38,4 @@ impl Contest {
 }
 
 /// A list of contests.
-#[derive(Debug, Drop)]
-pub struct Contests {
-    items: Vec<Contest>,
-}
-
-impl Model for Contests {
-    ghost use Rattle.std.specs.Prelude.{List};
-    ghost use Rattle.vx_election.specs.declared.contest.Contest.{Contest};
-
-    ghost Value = { List Contest };
-
-    ghost view = { λ list. list.items.items };
-}
-
-impl Contests {
-    /// The list of a `Vec`; takes no memory.
-    pub fn from_vec(items: Vec<Contest>) -> Self
-        ensures { result ≡ items.items }
-    {
-        Contests { items }
-    }
-
-    /// The `Vec` that holds the list; takes no memory.
-    pub fn into_vec(self) -> Vec<Contest>
-        ensures { result.items ≡ self }
-    {
-        let Contests { items } = self;
-        items
-    }
-
-    pub fn len(&self) -> usize
-        ensures { result ≡ length self.now }
-    {
-        self.items.len()
-    }
-
-    pub fn as_slice(&self) -> &[Contest]
-        ensures { result.now ≡ self.now }
-    {
-        self.items.as_slice()
-    }
-}
+pub type Contests = ListOf<Contest>;

@@ -2,7 +2,8 @@
 
 ghost use Rattle.std.specs.Prelude.{◌≡◌, ◌≤◌, ◌∷◌, [], codes, None, map, length, IfOk};
 ghost use Rattle.serde_json.specs.View.{view};
-ghost use Rattle.vx_election.specs.Faults.{Answers};
+ghost use Rattle.vx_base.specs.Refusals.{Gives};
+ghost use Rattle.vx_election.specs.Faults.{is_no_memory};
 ghost use Rattle.vx_election.specs.Ids.{place_in};
 ghost use Rattle.vx_election.specs.Members.{whole_member};
 ghost use Rattle.vx_election.specs.Contests.{kind_of, kind_in, heading_in, leave_in, voting_in, candidate_contest, label_in, answer_label_in, answer_of, answer_in, answers_in, question_in, yes_no_contest, contest_at, contests_in};
@@ -48,7 +49,7 @@ fn kind_of(text: &str) -> Option<bool>
 /// Whether a contest is answered by yes or no.
 #[tactic(auto, unfolding(crate::specs::Contests::kind_in))]
 fn kind_member(alloc: Global, value: &Value, path: &Path) -> Result<bool, ElectionFault>
-    ensures { Answers (λ kind. kind) result (kind_in (view value.now) path.now) }
+    ensures { Gives is_no_memory result (kind_in (view value.now) path.now) }
 {
     let member = need(alloc, value, path, "type")?;
     let at = path.member(alloc, "type")?;
@@ -68,7 +69,7 @@ fn heading_of(
     path: &Path,
     ids: &Ids,
 ) -> Result<Heading, ElectionFault>
-    ensures answers { Answers (λ heading. heading) result (heading_in districts.now ids.now (view value.now) path.now) }
+    ensures answers { Gives is_no_memory result (heading_in districts.now ids.now (view value.now) path.now) }
     ensures is_new { IfOk result (λ heading. place_in heading.id ids.now ≡ None) }
 {
     let id = id_member(alloc, value, path, ids)?;
@@ -106,7 +107,7 @@ fn leave_of(
     value: &Value,
     path: &Path,
 ) -> Result<Leave, ElectionFault>
-    ensures { Answers (λ leave. leave) result (leave_in parties.now (view value.now) path.now) }
+    ensures { Gives is_no_memory result (leave_in parties.now (view value.now) path.now) }
 {
     let write_ins = optional_flag(alloc, value, path, names::allow_write_ins())?;
     let party = optional_reference(alloc, value, path, "partyId", parties.ids())?;
@@ -114,7 +115,7 @@ fn leave_of(
 }
 
 fn seats_of(alloc: Global, value: &Value, path: &Path) -> Result<u32, ElectionFault>
-    ensures { Answers (λ seats. seats) result (whole_member (view value.now) path.now (codes "seats") 1 50) }
+    ensures { Gives is_no_memory result (whole_member (view value.now) path.now (codes "seats") 1 50) }
 {
     let seats = whole_member(alloc, value, path, "seats", 1, 50)?;
     Ok(seats as u32)
@@ -127,7 +128,7 @@ fn voting_of(
     value: &Value,
     path: &Path,
 ) -> Result<Voting, ElectionFault>
-    ensures { Answers (λ voting. voting) result (voting_in parties.now (view value.now) path.now) }
+    ensures { Gives is_no_memory result (voting_in parties.now (view value.now) path.now) }
 {
     let seats = seats_of(alloc, value, path)?;
     let choices = candidates_of(alloc, parties, value, path)?;
@@ -164,7 +165,7 @@ fn label_of(
     path: &Path,
     otherwise: &str,
 ) -> Result<Text, ElectionFault>
-    ensures { Answers (λ label. label) result (label_in otherwise.now (view value.now) path.now) }
+    ensures { Gives is_no_memory result (label_in otherwise.now (view value.now) path.now) }
 {
     if !value.is_object() {
         return Err(ElectionFault::WrongKind(path.copy(alloc)?));
@@ -181,7 +182,7 @@ fn answer_label_of(
     name: &str,
     otherwise: &str,
 ) -> Result<Text, ElectionFault>
-    ensures { Answers (λ label. label) result (answer_label_in (view value.now) path.now name.now otherwise.now) }
+    ensures { Gives is_no_memory result (answer_label_in (view value.now) path.now name.now otherwise.now) }
 {
     match value.get(name) {
         None => Ok(Text::from_str(alloc, otherwise)?),
@@ -209,7 +210,7 @@ fn answer_member(
     id: &str,
     otherwise: &str,
 ) -> Result<Choice, ElectionFault>
-    ensures { Answers (λ choice. choice) result (answer_in (view value.now) path.now name.now id.now otherwise.now) }
+    ensures { Gives is_no_memory result (answer_in (view value.now) path.now name.now id.now otherwise.now) }
 {
     let label = answer_label_of(alloc, value, path, name, otherwise)?;
     Ok(answer_of(alloc, id, label)?)
@@ -227,7 +228,7 @@ fn pair_of(alloc: Global, yes: Choice, no: Choice) -> Result<Choices, OutOfMemor
 /// The two answers, yes before no.
 #[tactic(auto, unfolding(crate::specs::Contests::answers_in))]
 fn answers_of(alloc: Global, value: &Value, path: &Path) -> Result<Choices, ElectionFault>
-    ensures { Answers (λ choices. choices) result (answers_in (view value.now) path.now) }
+    ensures { Gives is_no_memory result (answers_in (view value.now) path.now) }
 {
     let yes = answer_member(alloc, value, path, "yesOption", "yes", "Yes")?;
     let no = answer_member(alloc, value, path, "noOption", "no", "No")?;
@@ -243,7 +244,7 @@ struct Question {
 
 #[tactic(auto, unfolding(crate::specs::Contests::question_in))]
 fn question_of(alloc: Global, value: &Value, path: &Path) -> Result<Question, ElectionFault>
-    ensures { Answers (λ question. question) result (question_in (view value.now) path.now) }
+    ensures { Gives is_no_memory result (question_in (view value.now) path.now) }
 {
     let description = optional_text(alloc, value, path, names::description(), 0, 10_000, "")?;
     let answers = answers_of(alloc, value, path)?;
@@ -280,7 +281,7 @@ fn contest_of(
     path: &Path,
     ids: &Ids,
 ) -> Result<Contest, ElectionFault>
-    ensures answers { Answers (λ contest. contest) result (contest_at parties.now districts.now path.now ids.now (view value.now)) }
+    ensures answers { Gives is_no_memory result (contest_at parties.now districts.now path.now ids.now (view value.now)) }
     ensures is_new { IfOk result (λ contest. place_in contest.id ids.now ≡ None) }
 {
     let heading = heading_of(alloc, districts, value, path, ids)?;
@@ -302,7 +303,7 @@ pub(crate) fn contests_of(
     path: &Path,
 ) -> Result<Contests, ElectionFault>
     requires { length values.now ≤ 500 }
-    ensures { Answers (λ contests. contests) result (contests_in parties.now districts.now path.now (map view values.now)) }
+    ensures { Gives is_no_memory result (contests_in parties.now districts.now path.now (map view values.now)) }
 {
     let mut contests = Vec::new(alloc);
     let mut ids = Ids::new(alloc);

@@ -2,7 +2,8 @@
 
 ghost use Rattle.std.specs.Prelude.{◌≡◌, ◌+◌, ◌<◌, ◌≤◌, ◌*◌, length, IsTrue};
 ghost use Rattle.serde_json.specs.View.{view};
-ghost use Rattle.vx_election.specs.Faults.{Answers};
+ghost use Rattle.vx_base.specs.Refusals.{Gives};
+ghost use Rattle.vx_election.specs.Faults.{is_no_memory};
 ghost use Rattle.vx_election.specs.Dates.{are_digits, number_at, has_date_form, is_calendar_day, is_date, date_in};
 
 use crate::fault::ElectionFault;
@@ -63,7 +64,7 @@ fn is_date(text: &str) -> bool
 /// The text that the value is, where it is a day.
 #[tactic(auto, unfolding(crate::specs::Dates::date_in))]
 pub(crate) fn date_of(alloc: Global, value: &Value, path: &Path) -> Result<Text, ElectionFault>
-    ensures { Answers (λ text. text) result (date_in (view value.now) path.now) }
+    ensures { Gives is_no_memory result (date_in (view value.now) path.now) }
 {
     let text = string_of(alloc, value, path)?;
     if !is_date(text) {

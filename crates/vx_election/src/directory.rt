@@ -2,7 +2,8 @@
 
 ghost use Rattle.std.specs.Prelude.{◌≡◌, ◌≤◌, None, map, length, IfOk};
 ghost use Rattle.serde_json.specs.View.{view};
-ghost use Rattle.vx_election.specs.Faults.{Answers};
+ghost use Rattle.vx_base.specs.Refusals.{Gives};
+ghost use Rattle.vx_election.specs.Faults.{is_no_memory};
 ghost use Rattle.vx_election.specs.Ids.{place_in};
 ghost use Rattle.vx_election.specs.Parts.{named_at, named_list_in};
 
@@ -62,7 +63,7 @@ impl Directory {
 /// A party, a district or a precinct with an id that none of those has.
 #[tactic(auto, unfolding(crate::specs::Parts::named_at))]
 fn named_of(alloc: Global, value: &Value, path: &Path, ids: &Ids) -> Result<Named, ElectionFault>
-    ensures answers { Answers (λ named. named) result (named_at path.now ids.now (view value.now)) }
+    ensures answers { Gives is_no_memory result (named_at path.now ids.now (view value.now)) }
     ensures is_new { IfOk result (λ named. place_in named.id ids.now ≡ None) }
 {
     let id = id_member(alloc, value, path, ids)?;
@@ -81,7 +82,7 @@ pub(crate) fn directory_of(
     path: &Path,
 ) -> Result<Directory, ElectionFault>
     requires { length values.now ≤ 2000 }
-    ensures { Answers (λ list. list) result (named_list_in path.now (map view values.now)) }
+    ensures { Gives is_no_memory result (named_list_in path.now (map view values.now)) }
 {
     let mut list = Vec::new(alloc);
     let mut ids = Ids::new(alloc);

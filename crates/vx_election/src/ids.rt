@@ -2,7 +2,8 @@
 
 ghost use Rattle.std.specs.Prelude.{◌≡◌, ◌<◌, ◌^◌, ◌++◌, ◌∷◌, [], length, None, IfOk, is_ok, if◌then◌else◌};
 ghost use Rattle.vx_election.specs.Ids.{is_id_character, is_id, place_in, id_in, new_id_in, reference_in};
-ghost use Rattle.vx_election.specs.Faults.{Answers};
+ghost use Rattle.vx_base.specs.Refusals.{Gives, GivesAs};
+ghost use Rattle.vx_election.specs.Faults.{is_no_memory};
 ghost use Rattle.serde_json.specs.View.{view};
 ghost use Rattle.std.specs.List.{list_all};
 
@@ -94,7 +95,7 @@ pub(crate) fn id_of<'v>(
     value: &'v Value,
     path: &Path,
 ) -> Result<&'v str, ElectionFault>
-    ensures { Answers (λ id. id.now) result (id_in (view value.now) path.now) }
+    ensures { GivesAs (λ id. id.now) is_no_memory result (id_in (view value.now) path.now) }
 {
     let text = string_of(alloc, value, path)?;
     if !is_id(text) {
@@ -111,7 +112,7 @@ pub(crate) fn new_id_of<'v>(
     path: &Path,
     ids: &Ids,
 ) -> Result<&'v str, ElectionFault>
-    ensures answers { Answers (λ id. id.now) result (new_id_in (view value.now) path.now ids.now) }
+    ensures answers { GivesAs (λ id. id.now) is_no_memory result (new_id_in (view value.now) path.now ids.now) }
     ensures is_new { IfOk result (λ id. place_in id.now ids.now ≡ None) }
 {
     let id = id_of(alloc, value, path)?;
@@ -132,7 +133,7 @@ pub(crate) fn reference_of(
     path: &Path,
     ids: &Ids,
 ) -> Result<u32, ElectionFault>
-    ensures { Answers (λ place. place) result (reference_in (view value.now) path.now ids.now) }
+    ensures { Gives is_no_memory result (reference_in (view value.now) path.now ids.now) }
 {
     let id = id_of(alloc, value, path)?;
     match ids.find(id) {

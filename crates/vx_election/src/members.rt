@@ -2,7 +2,8 @@
 
 ghost use Rattle.std.specs.Prelude.{◌≡◌, ◌≤◌, None, length, map, IfOk};
 ghost use Rattle.serde_json.specs.View.{view};
-ghost use Rattle.vx_election.specs.Faults.{Answers};
+ghost use Rattle.vx_base.specs.Refusals.{Gives, GivesAs};
+ghost use Rattle.vx_election.specs.Faults.{is_no_memory};
 ghost use Rattle.vx_election.specs.Ids.{place_in};
 ghost use Rattle.vx_election.specs.Members.{text_member, optional_text, whole_member, optional_flag, id_member, reference_member, optional_reference, list_up_to, list_member, optional_list};
 
@@ -22,7 +23,7 @@ pub(crate) fn text_member(
     low: u32,
     high: u32,
 ) -> Result<Text, ElectionFault>
-    ensures { Answers (λ text. text) result (text_member (view value.now) path.now name.now low high) }
+    ensures { Gives is_no_memory result (text_member (view value.now) path.now name.now low high) }
 {
     let member = need(alloc, value, path, name)?;
     let at = path.member(alloc, name)?;
@@ -40,7 +41,7 @@ pub(crate) fn optional_text(
     high: u32,
     otherwise: &str,
 ) -> Result<Text, ElectionFault>
-    ensures { Answers (λ text. text) result (optional_text (view value.now) path.now name.now low high otherwise.now) }
+    ensures { Gives is_no_memory result (optional_text (view value.now) path.now name.now low high otherwise.now) }
 {
     match value.get(name) {
         None => Ok(Text::from_str(alloc, otherwise)?),
@@ -61,7 +62,7 @@ pub(crate) fn whole_member(
     low: u64,
     high: u64,
 ) -> Result<u64, ElectionFault>
-    ensures answers { Answers (λ number. number) result (whole_member (view value.now) path.now name.now low high) }
+    ensures answers { Gives is_no_memory result (whole_member (view value.now) path.now name.now low high) }
     ensures within { IfOk result (λ number. number ≤ high) }
 {
     let member = need(alloc, value, path, name)?;
@@ -77,7 +78,7 @@ pub(crate) fn optional_flag(
     path: &Path,
     name: &str,
 ) -> Result<bool, ElectionFault>
-    ensures { Answers (λ flag. flag) result (optional_flag (view value.now) path.now name.now) }
+    ensures { Gives is_no_memory result (optional_flag (view value.now) path.now name.now) }
 {
     match value.get(name) {
         None => Ok(false),
@@ -96,7 +97,7 @@ pub(crate) fn id_member<'v>(
     path: &Path,
     ids: &Ids,
 ) -> Result<&'v str, ElectionFault>
-    ensures answers { Answers (λ id. id.now) result (id_member (view value.now) path.now ids.now) }
+    ensures answers { GivesAs (λ id. id.now) is_no_memory result (id_member (view value.now) path.now ids.now) }
     ensures is_new { IfOk result (λ id. place_in id.now ids.now ≡ None) }
 {
     let member = need(alloc, value, path, "id")?;
@@ -113,7 +114,7 @@ pub(crate) fn reference_member(
     name: &str,
     ids: &Ids,
 ) -> Result<u32, ElectionFault>
-    ensures { Answers (λ place. place) result (reference_member (view value.now) path.now name.now ids.now) }
+    ensures { Gives is_no_memory result (reference_member (view value.now) path.now name.now ids.now) }
 {
     let member = need(alloc, value, path, name)?;
     let at = path.member(alloc, name)?;
@@ -129,7 +130,7 @@ pub(crate) fn optional_reference(
     name: &str,
     ids: &Ids,
 ) -> Result<Option<u32>, ElectionFault>
-    ensures { Answers (λ place. place) result (optional_reference (view value.now) path.now name.now ids.now) }
+    ensures { Gives is_no_memory result (optional_reference (view value.now) path.now name.now ids.now) }
 {
     match value.get(name) {
         None => Ok(None),
@@ -148,7 +149,7 @@ pub(crate) fn list_up_to<'v>(
     path: &Path,
     limit: usize,
 ) -> Result<&'v [Value], ElectionFault>
-    ensures answers { Answers (λ list. map view list.now) result (list_up_to (view value.now) path.now limit) }
+    ensures answers { GivesAs (λ list. map view list.now) is_no_memory result (list_up_to (view value.now) path.now limit) }
     ensures within { IfOk result (λ list. length list.now ≤ limit) }
 {
     let list = list_of(alloc, value, path)?;
@@ -167,7 +168,7 @@ pub(crate) fn list_member<'v>(
     name: &str,
     limit: usize,
 ) -> Result<&'v [Value], ElectionFault>
-    ensures answers { Answers (λ list. map view list.now) result (list_member (view value.now) path.now name.now limit) }
+    ensures answers { GivesAs (λ list. map view list.now) is_no_memory result (list_member (view value.now) path.now name.now limit) }
     ensures within { IfOk result (λ list. length list.now ≤ limit) }
 {
     let member = need(alloc, value, path, name)?;
@@ -184,7 +185,7 @@ pub(crate) fn optional_list<'v>(
     name: &str,
     limit: usize,
 ) -> Result<&'v [Value], ElectionFault>
-    ensures answers { Answers (λ list. map view list.now) result (optional_list (view value.now) path.now name.now limit) }
+    ensures answers { GivesAs (λ list. map view list.now) is_no_memory result (optional_list (view value.now) path.now name.now limit) }
     ensures within { IfOk result (λ list. length list.now ≤ limit) }
 {
     match value.get(name) {

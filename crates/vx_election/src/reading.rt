@@ -3,7 +3,8 @@
 ghost use Rattle.std.specs.Prelude.{◌≡◌, IfOk};
 ghost use Rattle.serde_json.specs.View.{view};
 ghost use Rattle.sha2.specs.Sha256.{sha256};
-ghost use Rattle.vx_election.specs.Faults.{Answers};
+ghost use Rattle.vx_base.specs.Refusals.{Gives, GivesAs};
+ghost use Rattle.vx_election.specs.Faults.{is_no_memory};
 ghost use Rattle.vx_election.specs.Valid.{IsValid};
 ghost use Rattle.vx_election.specs.Reading.{date_member, parties_in, named_member, contests_member, styles_member, election_in, value_of, election_of};
 
@@ -28,7 +29,7 @@ const CARD_LIMIT: u64 = 1024;
 
 #[tactic(auto, unfolding(crate::specs::Reading::date_member))]
 fn date_member(alloc: Global, value: &Value) -> Result<Text, ElectionFault>
-    ensures { Answers (λ text. text) result (date_member (view value.now)) }
+    ensures { Gives is_no_memory result (date_member (view value.now)) }
 {
     let top = Path::root(alloc);
     let member = need(alloc, value, &top, "date")?;
@@ -38,7 +39,7 @@ fn date_member(alloc: Global, value: &Value) -> Result<Text, ElectionFault>
 
 #[tactic(auto, unfolding(crate::specs::Reading::parties_in))]
 fn parties_of(alloc: Global, value: &Value) -> Result<Directory, ElectionFault>
-    ensures { Answers (λ list. list) result (parties_in (view value.now)) }
+    ensures { Gives is_no_memory result (parties_in (view value.now)) }
 {
     let top = Path::root(alloc);
     let list = optional_list(alloc, value, &top, "parties", 200)?;
@@ -49,7 +50,7 @@ fn parties_of(alloc: Global, value: &Value) -> Result<Directory, ElectionFault>
 /// The districts or the precincts.
 #[tactic(auto, unfolding(crate::specs::Reading::named_member))]
 fn directory_member(alloc: Global, value: &Value, name: &str) -> Result<Directory, ElectionFault>
-    ensures { Answers (λ list. list) result (named_member (view value.now) name.now) }
+    ensures { Gives is_no_memory result (named_member (view value.now) name.now) }
 {
     let top = Path::root(alloc);
     let list = list_member(alloc, value, &top, name, 2000)?;
@@ -64,7 +65,7 @@ fn contests_member(
     districts: &Directory,
     value: &Value,
 ) -> Result<Contests, ElectionFault>
-    ensures { Answers (λ contests. contests) result (contests_member parties.now districts.now (view value.now)) }
+    ensures { Gives is_no_memory result (contests_member parties.now districts.now (view value.now)) }
 {
     let top = Path::root(alloc);
     let list = list_member(alloc, value, &top, "contests", 500)?;
@@ -81,7 +82,7 @@ fn styles_member(
     precincts: &Directory,
     value: &Value,
 ) -> Result<Styles, ElectionFault>
-    ensures { Answers (λ styles. styles) result (styles_member parties.now districts.now precincts.now (view value.now)) }
+    ensures { Gives is_no_memory result (styles_member parties.now districts.now precincts.now (view value.now)) }
 {
     let top = Path::root(alloc);
     let list = list_member(alloc, value, &top, names::ballot_styles(), 1000)?;
@@ -97,7 +98,7 @@ fn styles_member(
 /// The members of the definition in their order.
 #[tactic(auto, unfolding(crate::specs::Reading::election_in))]
 fn election_in(alloc: Global, digest: [u8; 32], value: &Value) -> Result<Election, ElectionFault>
-    ensures { Answers (λ election. election) result (election_in digest (view value.now)) }
+    ensures { Gives is_no_memory result (election_in digest (view value.now)) }
 {
     let top = Path::root(alloc);
     let title = text_member(alloc, value, &top, "title", 1, 256)?;
@@ -133,7 +134,7 @@ fn digest_of(bytes: &[u8]) -> [u8; 32]
 /// The value that the bytes are.
 #[tactic(auto, unfolding(crate::specs::Reading::value_of))]
 fn value_of(alloc: Global, bytes: &[u8]) -> Result<Value, ElectionFault>
-    ensures { Answers (λ value. view value) result (value_of bytes.now) }
+    ensures { GivesAs (λ value. view value) is_no_memory result (value_of bytes.now) }
 {
     let Ok(text) = str::from_utf8(bytes) else {
         return Err(ElectionFault::NotJson);
@@ -148,7 +149,7 @@ fn value_of(alloc: Global, bytes: &[u8]) -> Result<Value, ElectionFault>
 /// The election that the bytes define, or their first fault.
 #[tactic(auto, unfolding(crate::specs::Reading::election_of))]
 pub fn read_election(alloc: Global, bytes: &[u8]) -> Result<Election, ElectionFault>
-    ensures answers { Answers (λ election. election) result (election_of bytes.now) }
+    ensures answers { Gives is_no_memory result (election_of bytes.now) }
     ensures valid { IfOk result (λ election. IsValid election) }
 {
     let value = value_of(alloc, bytes)?;

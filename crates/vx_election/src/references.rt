@@ -2,7 +2,8 @@
 
 ghost use Rattle.std.specs.Prelude.{◌≡◌, ◌++◌, ◌∷◌, [], map, length, is_ok, false, IfOk, if◌then◌else◌};
 ghost use Rattle.serde_json.specs.View.{view};
-ghost use Rattle.vx_election.specs.Faults.{Answers};
+ghost use Rattle.vx_base.specs.Refusals.{Gives, GivesAs};
+ghost use Rattle.vx_election.specs.Faults.{is_no_memory};
 ghost use Rattle.vx_election.specs.Ids.{is_among, new_reference_in};
 ghost use Rattle.vx_election.specs.Parts.{references_in, new_references_in};
 
@@ -88,7 +89,7 @@ fn new_reference_of(
     ids: &Ids,
     found: &Places,
 ) -> Result<u32, ElectionFault>
-    ensures answers { Answers (λ place. place) result (new_reference_in (view value.now) path.now ids.now found.now) }
+    ensures answers { Gives is_no_memory result (new_reference_in (view value.now) path.now ids.now found.now) }
     ensures is_new { IfOk result (λ place. is_among place found.now ≡ false) }
 {
     let id = id_of(alloc, value, path)?;
@@ -111,7 +112,7 @@ pub(crate) fn new_references_of(
     path: &Path,
     ids: &Ids,
 ) -> Result<Indexes, ElectionFault>
-    ensures answers { Answers (λ places. places) result (new_references_in path.now ids.now (map view values.now)) }
+    ensures answers { Gives is_no_memory result (new_references_in path.now ids.now (map view values.now)) }
     ensures count { IfOk result (λ places. length places ≡ length values.now) }
 {
     let mut found = Places::new(alloc);
@@ -131,7 +132,7 @@ pub(crate) fn references_of(
     path: &Path,
     ids: &Ids,
 ) -> Result<Vec<u32>, ElectionFault>
-    ensures { Answers (λ places. places.items) result (references_in path.now ids.now (map view values.now)) }
+    ensures { GivesAs (λ places. places.items) is_no_memory result (references_in path.now ids.now (map view values.now)) }
 {
     let mut found = Vec::new(alloc);
     for value in values {

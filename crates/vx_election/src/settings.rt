@@ -2,7 +2,8 @@
 
 ghost use Rattle.std.specs.Prelude.{◌≡◌, ◌≤◌, map, length, IfOk};
 ghost use Rattle.serde_json.specs.View.{view};
-ghost use Rattle.vx_election.specs.Faults.{Answers};
+ghost use Rattle.vx_base.specs.Refusals.{Gives, GivesAs};
+ghost use Rattle.vx_election.specs.Faults.{is_no_memory};
 ghost use Rattle.vx_election.specs.Members.{whole_member};
 ghost use Rattle.vx_election.specs.Settings.{pixels_of, are_in_order, stated_thresholds_in, thresholds_in, reason_of, reason_in, reason_list_in, enabled_of, is_named, stated_reasons_in, reasons_in};
 
@@ -35,7 +36,7 @@ fn thousandths_of(
     path: &Path,
     name: &str,
 ) -> Result<u32, ElectionFault>
-    ensures answers { Answers (λ number. number) result (whole_member (view value.now) path.now name.now 1 1000) }
+    ensures answers { Gives is_no_memory result (whole_member (view value.now) path.now name.now 1 1000) }
     ensures within { IfOk result (λ number. number ≤ 1000) }
 {
     let number = whole_member(alloc, value, path, name, 1, 1000)?;
@@ -49,7 +50,7 @@ fn stated_thresholds_of(
     value: &Value,
     path: &Path,
 ) -> Result<Thresholds, ElectionFault>
-    ensures { Answers (λ thresholds. thresholds) result (stated_thresholds_in (view value.now) path.now) }
+    ensures { Gives is_no_memory result (stated_thresholds_in (view value.now) path.now) }
 {
     let definite = thousandths_of(alloc, value, path, "definite")?;
     let marginal = thousandths_of(alloc, value, path, "marginal")?;
@@ -64,7 +65,7 @@ fn stated_thresholds_of(
 /// The thresholds of an election, in pixels: those of 50 and 120 thousandths where it names none.
 #[tactic(auto, unfolding(crate::specs::Settings::thresholds_in))]
 pub(crate) fn thresholds_of(alloc: Global, value: &Value) -> Result<Thresholds, ElectionFault>
-    ensures { Answers (λ thresholds. thresholds) result (thresholds_in (view value.now)) }
+    ensures { Gives is_no_memory result (thresholds_in (view value.now)) }
 {
     match value.get(names::mark_thousandths()) {
         None => Ok(Thresholds {
@@ -99,7 +100,7 @@ fn reason_of(text: &str) -> Option<Reason>
 
 #[tactic(auto, unfolding(crate::specs::Settings::reason_in))]
 fn reason_member(alloc: Global, value: &Value, path: &Path) -> Result<Reason, ElectionFault>
-    ensures { Answers (λ reason. reason) result (reason_in (view value.now) path.now) }
+    ensures { Gives is_no_memory result (reason_in (view value.now) path.now) }
 {
     let text = string_of(alloc, value, path)?;
     match reason_of(text) {
@@ -115,7 +116,7 @@ fn reason_list_of(
     values: &[Value],
     path: &Path,
 ) -> Result<Vec<Reason>, ElectionFault>
-    ensures { Answers (λ reasons. reasons.items) result (reason_list_in path.now (map view values.now)) }
+    ensures { GivesAs (λ reasons. reasons.items) is_no_memory result (reason_list_in path.now (map view values.now)) }
 {
     let mut reasons = Vec::new(alloc);
     for value in values {
@@ -152,7 +153,7 @@ fn enabled_of(reasons: &[Reason]) -> ReasonSet
 
 #[tactic(auto, unfolding(crate::specs::Settings::stated_reasons_in))]
 fn stated_reasons_of(alloc: Global, value: &Value, path: &Path) -> Result<ReasonSet, ElectionFault>
-    ensures { Answers (λ reasons. reasons) result (stated_reasons_in (view value.now) path.now) }
+    ensures { Gives is_no_memory result (stated_reasons_in (view value.now) path.now) }
 {
     let list = list_up_to(alloc, value, path, 5)?;
     let reasons = reason_list_of(alloc, list, path)?;
@@ -162,7 +163,7 @@ fn stated_reasons_of(alloc: Global, value: &Value, path: &Path) -> Result<Reason
 /// The reasons of an election: all but Undervote where it names none.
 #[tactic(auto, unfolding(crate::specs::Settings::reasons_in))]
 pub(crate) fn reasons_of(alloc: Global, value: &Value) -> Result<ReasonSet, ElectionFault>
-    ensures { Answers (λ reasons. reasons) result (reasons_in (view value.now)) }
+    ensures { Gives is_no_memory result (reasons_in (view value.now)) }
 {
     match value.get("vxReasons") {
         None => Ok(ReasonSet::of([true, false, true, true, true])),

@@ -2,7 +2,8 @@
 
 ghost use Rattle.std.specs.Prelude.{◌≡◌, ◌≤◌, ◌*◌, ◌^◌, ◌<◌, None, map, length, IfOk};
 ghost use Rattle.serde_json.specs.View.{view};
-ghost use Rattle.vx_election.specs.Faults.{Answers};
+ghost use Rattle.vx_base.specs.Refusals.{Gives};
+ghost use Rattle.vx_election.specs.Faults.{is_no_memory};
 ghost use Rattle.vx_election.specs.Ids.{place_in};
 ghost use Rattle.vx_election.specs.Styles.{style_places_in, style_at, styles_in, card_count};
 
@@ -26,7 +27,7 @@ fn style_places_of(
     path: &Path,
     name: &str,
 ) -> Result<Indexes, ElectionFault>
-    ensures answers { Answers (λ places. places) result (style_places_in named.now (view value.now) path.now name.now) }
+    ensures answers { Gives is_no_memory result (style_places_in named.now (view value.now) path.now name.now) }
     ensures few { IfOk result (λ places. length places ≤ 2000) }
 {
     let list = list_member(alloc, value, path, name, 2000)?;
@@ -45,7 +46,7 @@ fn style_of(
     path: &Path,
     ids: &Ids,
 ) -> Result<Style, ElectionFault>
-    ensures answers { Answers (λ style. style) result (style_at parties.now districts.now precincts.now path.now ids.now (view value.now)) }
+    ensures answers { Gives is_no_memory result (style_at parties.now districts.now precincts.now path.now ids.now (view value.now)) }
     ensures is_new { IfOk result (λ style. place_in style.id ids.now ≡ None) }
     ensures few { IfOk result (λ style. length style.precincts ≤ 2000) }
 {
@@ -74,7 +75,7 @@ pub(crate) fn styles_of(
 ) -> Result<Styles, ElectionFault>
     requires { length values.now ≤ 1000 }
     ensures few { IfOk result (λ styles. card_count styles ≤ 2000 * 1000) }
-    ensures answers { Answers (λ styles. styles) result (styles_in parties.now districts.now precincts.now path.now (map view values.now)) }
+    ensures answers { Gives is_no_memory result (styles_in parties.now districts.now precincts.now path.now (map view values.now)) }
 {
     let mut styles = Vec::new(alloc);
     let mut ids = Ids::new(alloc);

@@ -10,13 +10,11 @@ mod fault;
 mod kinds;
 mod path;
 mod text;
-mod texts;
 
 pub use fault::JsonFault;
 pub use kinds::{flag_of, list_of, need, string_of, text_of, whole_of};
 pub use path::Path;
-pub use text::{Text, characters_of};
-pub use texts::Texts;
+pub use text::{Text, Texts, characters_of};
 
 #[cfg(test)]
 mod tests;

@@ -2,7 +2,7 @@ ghost use Rattle.std.specs.Prelude.{◌≡◌, ◌++◌, [], length, chars, IfOk
 
 use std::alloc::Global;
 use std::marker::Model;
-use vx_base::OutOfMemory;
+use vx_base::{ListOf, OutOfMemory};
 
 /// A text. Contracts see the list of its bytes in UTF-8.
 #[derive(Debug, Drop)]
@@ -80,6 +80,9 @@ impl Text {
         self.text.push_str(more)
     }
 }
+
+/// A list of texts.
+pub type Texts = ListOf<Text>;
 
 /// The number of characters of a text, which are Unicode scalar values.
 pub fn characters_of(text: &str) -> usize
