@@ -3,7 +3,8 @@ use Rattle.std.proofs.Common.{◌≡◌, ◌==◌, ℕ, List, length, Bool, true
 use Rattle.std.proofs.lemmas.List.{length-map}
 use Rattle.std.specs.Prelude.{Option, None, Some, Result, Ok, Err, IsErrAnd}
 use Rattle.vx_base.specs.Results.{◌>>=◌}
-use Rattle.vx_base.specs.Refusals.{GivesAs}
+use Rattle.vx_base.specs.Refusals.{Gives}
+use Rattle.std.specs.Borrow.{Bor}
 use Rattle.vx_base.proofs.Results.{bind_never, Unless-always}
 use Rattle.vx_plane.specs.Plane.{Page}
 use Rattle.vx_grid.specs.declared.places.Point.{Point}
@@ -24,8 +25,9 @@ use Rattle.vx_scan_model.specs.declared.fault.PageFault.{PageFault}
 use Rattle.vx_scan_model.specs.declared.fault.PageFault.TheVariants.{FrameSize, OtherElection}
 use Rattle.vx_scan_model.specs.Border.{border_of, BorderIsGiven}
 use Rattle.vx_scan_model.specs.Named.{page_numbered, plan_unless, plan_on_card, named_plan}
-use Rattle.vx_scan_model.specs.Reading.{is_allowed, code_read, bubble_score, scores_of, states_of, reading_on, reading_of_code, reading_of_border, reading_of, is_no_memory}
-use Rattle.vx_page.specs.Named.{IsReadOn}
+use Rattle.vx_scan_model.specs.Reading.{is_allowed, code_read, bubble_score, scores_of, states_of, reading_on, reading_of_code, reading_of_border, reading_of}
+use Rattle.vx_scan_model.specs.Faults.{is_no_memory}
+use Rattle.vx_page.specs.Named.{IsOfPlan, GivesOnPlan}
 
 module _ (election : Election) (page : Page) (border : List Point) (code : PageCode) where
   -- the reading of a code, by what it names
@@ -44,7 +46,7 @@ module _ (election : Election) (page : Page) (border : List Point) (code : PageC
       ∙ ap₂ Read (sym scored) (sym (stated ∙ ap (states_of election.thresholds) scored))
 
   -- and that it has a score and a state for each bubble
-  pub read-on : (plan : PagePlan) (scores : List ℕ) (states : List State) → named_plan election code ≡ Ok plan → scores ≡ scores_of page border plan.bubbles → states ≡ states_of election.thresholds scores → IsReadOn election (record { code = code; border = border; scores = scores; states = states }) plan
+  pub read-on : (plan : PagePlan) (scores : List ℕ) (states : List State) → named_plan election code ≡ Ok plan → scores ≡ scores_of page border plan.bubbles → states ≡ states_of election.thresholds scores → IsOfPlan election (record { code = code; border = border; scores = scores; states = states }) plan
   read-on plan scores states named scored stated =
       let all : length scores ≡ length plan.bubbles = ap length scored ∙ length-map plan.bubbles (bubble_score page border) in
       record {
@@ -98,12 +100,19 @@ reading-traced given election page counted answer h same is =
     ∙ ap (reading_of_border election counted) (sym (given counted answer is))
 
 -- a fault that is handed on
-pub gives-fault : {A B : Type 0} (view : A → B) (result : Result A PageFault) (defined : Result B PageFault) (fault : PageFault) → IsErrAnd result (λ (e : PageFault). e ≡ fault) → defined ≡ Err fault → GivesAs view is_no_memory result defined
-gives-fault view (Err e) defined fault h is = Unless-always (is_no_memory e) (is ∙ ap Err (sym h))
-gives-fault view (Ok x) defined fault h is = absurd h
+pub gives-fault : (election : Election) (result : Result (PageReading × Bor PagePlan) PageFault) (defined : Result PageReading PageFault) (fault : PageFault) → IsErrAnd result (λ (e : PageFault). e ≡ fault) → defined ≡ Err fault → GivesOnPlan election defined result
+gives-fault election (Err e) defined fault h is = Unless-always (is_no_memory e) (is ∙ ap Err (sym h))
+gives-fault election (Ok given) defined fault h is = absurd h
 
--- where the frame is read, no answer is a fault of the frame
-pub gives-no_frame : {A : Type 0} (view : A → PageReading) (election : Election) (page : Page) (border : Result (List Point) BorderFault) (result : Result A PageFault) (width height : ℕ) → GivesAs view is_no_memory result (reading_of_border election page border) → result ≡ Err (FrameSize width height) → ⊥
-gives-no_frame view election page border (Ok x) width height h e = cc
-gives-no_frame view election page border (Err (FrameSize m n)) width height h e = no-frame election page border m n h
-gives-no_frame view election page border (Err fault) width height h e = cc
+-- a reading where the frame is allowed is no fault of the frame
+pub allowed-no_frame : (election : Election) (page : Page) (width height : ℕ) → is_allowed page ≡ true → reading_of election page ≡ Err (FrameSize width height) → ⊥
+unfolding reading_of
+allowed-no_frame election page width height h e =
+    let other : Result PageReading PageFault = Err (FrameSize page.width page.height) in
+    no-frame election page (border_of page) width height
+    (sym (ap (λ (b : Bool). cond b (reading_of_border election page (border_of page)) other) h) ∙ e)
+
+pub gives-no_frame : (election : Election) (page : Page) (result : Result PageReading PageFault) (width height : ℕ) → is_allowed page ≡ true → Gives is_no_memory result (reading_of election page) → result ≡ Err (FrameSize width height) → ⊥
+gives-no_frame election page (Ok reading) width height allowed h e = cc
+gives-no_frame election page (Err (FrameSize m n)) width height allowed h e = allowed-no_frame election page m n allowed h
+gives-no_frame election page (Err fault) width height allowed h e = cc

@@ -12,4 +12,4 @@ mod named;
 mod page;
 
 pub use named::find_plan;
-pub use page::{PlannedReading, read_page, read_planned};
+pub use page::{read_page, read_planned};

@@ -1,5 +1,5 @@
 -- The border that the function gives is the one of the scan.
-use Rattle.std.proofs.Common.{◌≡◌, ℕ, Bool, true, false, cond, List, Result, Ok, Err, pos, ◌+ℤ◌, ◌-ℤ◌, arith, refl}
+use Rattle.std.proofs.Common.{◌≡◌, Bool, true, false, cond, List, Result, Ok, Err, pos, ◌+ℤ◌, ◌-ℤ◌, arith, refl}
 use Rattle.std.proofs.lemmas.Bool.{and_parts, and_from, both_ways}
 use Rattle.vx_plane.specs.Plane.{Page}
 use Rattle.vx_grid.specs.declared.places.Point.{Point}

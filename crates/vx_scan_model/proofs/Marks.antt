@@ -1,7 +1,7 @@
 -- The marks that are found one after the other are followed.
-use Rattle.std.proofs.Common.{◌≡◌, ◌-◌, ◌<◌, ◌≤◌, ◌++◌, ◌∷◌, [], inl, inr, ℕ, zero, suc, false, List, length, Option, Some, None, Result, Ok, Err, pos, arith, refl, sym, ap, subst}
+use Rattle.std.proofs.Common.{◌≡◌, ◌+◌, ◌-◌, ◌<◌, ◌≤◌, ◌++◌, ◌∷◌, [], ℕ, zero, suc, false, List, length, Option, Some, None, Result, Ok, Err, pos, arith, add-one, refl, sym, subst}
 use Rattle.std.specs.Prelude.{◌==◌}
-use Rattle.std.proofs.lemmas.Bool.{cases_lt, ne_eqb}
+use Rattle.std.proofs.lemmas.Bool.{ne_eqb}
 use Rattle.std.proofs.lemmas.List.{length-append, get_or_append_left, get_or-append_right}
 use Rattle.vx_plane.specs.Plane.{Page}
 use Rattle.vx_grid.specs.declared.places.Point.{Point}
@@ -60,7 +60,7 @@ module _ (corner_is_followed : CornerIsFollowed) (followed_grows : FollowedGrows
       }
 
   -- and each other mark after those before it
-  later_mark : (page : Page) (n : ℕ) (places : List Point) (found : Option Point) → 0 < n → n < 146 → AreFollowed page n places → IsBestOf page (prediction_of places n) found → AreMarksOf page (n + 1) (with_found places (NoMark (side_of n) (index_of n) (prediction_of places n)) found)
+  later_mark : (page : Page) (n : ℕ) (places : List Point) (found : Option Point) → 0 < n → n < 146 → AreFollowed page n places → IsBestOf page (prediction_of places n) found → AreMarksOf page (suc n) (with_found places (NoMark (side_of n) (index_of n) (prediction_of places n)) found)
   later_mark page n places None some few before none = record {
     mark = n;
     later = some;
@@ -74,7 +74,7 @@ module _ (corner_is_followed : CornerIsFollowed) (followed_grows : FollowedGrows
   }
   later_mark page n places (Some p) some few before best = record {
     all = omega (arith, length-append places (p ∷ []), before.all);
-    followed = λ h. followed_push page n places p some before.all (before.followed some) best;
+    followed = λ h. let Followed : ℕ → Type 0 = λ m. IsFollowed page m (places ++ p ∷ []) in subst Followed (add-one n) (followed_push page n places p some before.all (before.followed some) best);
   }
 
   -- with one mark more

@@ -3,3 +3,4 @@ pub mod Border
 pub mod Reading
 pub mod FaultTexts
 pub mod Named
+pub mod Faults

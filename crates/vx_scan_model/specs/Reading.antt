@@ -1,16 +1,13 @@
 -- The reading of a scan of an election's page, or its first fault. This project's own rule.
-use Rattle.std.specs.Prelude.{◌≡◌, ◌<◌, ℕ, ◌&&◌, Bool, true, false, nat_le, if◌then◌else◌, List, map, length, slice_index_or, Result, Ok, Err}
+use Rattle.std.specs.Prelude.{ℕ, ◌&&◌, Bool, nat_le, if◌then◌else◌, List, map, Result, Ok, Err}
 use Rattle.std.specs.List.{range_with_len}
 use Rattle.vx_plane.specs.Plane.{Page}
 use Rattle.vx_grid.specs.declared.places.Point.{Point}
 use Rattle.vx_grid.specs.declared.state.State.{State}
 use Rattle.vx_grid.specs.declared.state.Thresholds.{Thresholds}
 use Rattle.vx_election.specs.declared.election.Election.{Election}
-use Rattle.vx_styles.specs.Cards.{cards_of}
 use Rattle.vx_layout.specs.declared.bubbles.Bubble.{Bubble}
 use Rattle.vx_layout.specs.declared.pages.PagePlan.{PagePlan}
-use Rattle.vx_layout.specs.declared.plan.CardPlan.{CardPlan}
-use Rattle.vx_layout.specs.Plan.{plan_of}
 use Rattle.vx_code.specs.declared.code.PageCode.{PageCode}
 use Rattle.vx_code.specs.declared.code.CodeFault.{CodeFault}
 use Rattle.vx_code.specs.Code.{place_of_box, code_shown_by}
@@ -19,10 +16,10 @@ use Rattle.vx_fit.specs.Fit.{place_of}
 use Rattle.vx_score.specs.Score.{score_of, code_count_of, state_of}
 use Rattle.vx_scan_model.specs.declared.reading.PageReading.{PageReading}
 use Rattle.vx_scan_model.specs.declared.fault.PageFault.{PageFault}
-use Rattle.vx_scan_model.specs.declared.fault.PageFault.TheVariants.{FrameSize, Border, Code, OtherElection, NoCard, NoPage, OutOfMemory}
+use Rattle.vx_scan_model.specs.declared.fault.PageFault.TheVariants.{FrameSize, Border, Code}
 use Rattle.vx_base.specs.Results.{◌>>=◌}
 use Rattle.vx_scan_model.specs.Border.{border_of}
-use Rattle.vx_scan_model.specs.Named.{named_plan}
+pub use Rattle.vx_scan_model.specs.Named.{named_plan}
 
 -- an allowed frame: 1600 to 2000 columns and 2100 to 2400 rows
 abbrev pub is_allowed : Page → Bool
@@ -75,18 +72,3 @@ reading_of_border election page (Ok border) = reading_of_code election page bord
 unfoldable pub reading_of : Election → Page → Result PageReading PageFault
 reading_of election page =
     if is_allowed page then reading_of_border election page (border_of page) else Err (FrameSize page.width page.height)
-
--- the plans of all cards of an election, in order
-pub record ArePlansOf (election : Election) (plans : List CardPlan) : Type 0 where
-  pub all : length plans ≡ length (cards_of election)
-  pub each : (card : ℕ) (d : CardPlan) → card < length plans → plan_of election card ≡ Ok (slice_index_or plans card d)
-
--- whether a fault is want of memory
-abbrev pub is_no_memory : PageFault → Bool
-is_no_memory (FrameSize width height) = false
-is_no_memory (Border fault) = false
-is_no_memory (Code fault) = false
-is_no_memory (OtherElection tag) = false
-is_no_memory (NoCard card) = false
-is_no_memory (NoPage page) = false
-is_no_memory OutOfMemory = true

@@ -4,6 +4,8 @@ ghost use Rattle.vx_scan_model.specs.Border.{BorderIsGiven, EachScanHasItsBorder
 ghost use Rattle.vx_scan_model.specs.Printed.{PagesArePlanned, PrintedHaveCodes};
 
 use vx_border::{a_list_is_followed, borders_are_one};
+use vx_code::tags_are_in_range;
+use vx_layout::plans_are_numbered;
 
 /// What is the border of a scan, or its first fault, is what the function of its page gives: so
 /// there is one answer for each scan.
@@ -27,4 +29,7 @@ pub fn every_scan_has_its_border()
 pub fn planned_pages_can_be_printed()
     ensures planned { PagesArePlanned }
     ensures codes { PrintedHaveCodes }
-{}
+{
+    plans_are_numbered();
+    tags_are_in_range();
+}

@@ -14,11 +14,9 @@
 mod fault;
 mod laws;
 mod reading;
-mod scores;
 #[cfg(test)]
 mod tests;
 
 pub use fault::PageFault;
 pub use laws::{a_border_is_the_border, every_scan_has_its_border, planned_pages_can_be_printed};
-pub use reading::PageReading;
-pub use scores::Scores;
+pub use reading::{PageReading, Scores};
