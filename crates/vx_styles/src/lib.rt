@@ -6,9 +6,14 @@
 #![tactic(auto)]
 
 mod card;
+mod laws;
 mod styles;
 
 pub use card::{Card, CardList};
+pub use laws::{
+    cards_are_few, contests_of_a_card_are_few, contests_of_a_card_are_there,
+    each_card_has_its_precinct,
+};
 pub use styles::{cards, contests_of};
 
 #[cfg(test)]

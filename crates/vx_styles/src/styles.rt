@@ -1,5 +1,5 @@
 ghost use Rattle.std.specs.Prelude.{◌≡◌, ◌==◌, ◌<◌, ◌≤◌, ◌^◌, ◌+◌, ◌++◌, length, IfOk, OnOk};
-ghost use Rattle.std.specs.List.{list_any};
+ghost use Rattle.std.specs.List.{All, list_any};
 ghost use Rattle.vx_election.specs.Valid.{IsValid};
 ghost use Rattle.vx_styles.specs.Cards.{cards_of_style, cards_from, cards_of, is_open_to, has_contest, contests_from, contests_of_card};
 
@@ -24,7 +24,8 @@ fn push_cards(cards: &mut Vec<Card>, style: u32, precincts: &[u32]) -> Result<()
 /// The cards of an election: its styles in order, and for each its precincts in order.
 pub fn cards(alloc: Global, election: &Election) -> Result<CardList, OutOfMemory>
     requires { IsValid election.now }
-    ensures { IfOk result (λ cards. cards ≡ cards_of election.now) }
+    ensures exact { IfOk result (λ cards. cards ≡ cards_of election.now) }
+    ensures few { IfOk result (λ cards. length cards ≤ 1024) }
 {
     Ok(CardList::from_vec(cards_of(alloc, election.styles.as_slice())?))
 }
@@ -88,7 +89,9 @@ fn contests_of_style(
 pub fn contests_of(alloc: Global, election: &Election, card: u32) -> Result<Indexes, OutOfMemory>
     requires valid { IsValid election.now }
     requires there { card < length (cards_of election.now) }
-    ensures { IfOk result (λ places. places ≡ contests_of_card election.now card) }
+    ensures exact { IfOk result (λ places. places ≡ contests_of_card election.now card) }
+    ensures few { IfOk result (λ places. length places ≤ 500) }
+    ensures there { IfOk result (All (λ place. place < length election.now.contests)) }
 {
     let cards = cards_of(alloc, election.styles.as_slice())?;
     let place = cards[card as usize].style as usize;
