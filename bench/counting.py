@@ -59,18 +59,33 @@ def seconds(command):
     return least
 
 
-def compare(name, runs, room):
+def pages_a_second(runs):
+    """How many pages a program does in a second by the wall clock, from two pairs of a number of pages
+    and a command: what both do once, the start included, doesn't count."""
+    (few, short), (many, long) = runs
+    return (many - few) / max(seconds(long) - seconds(short), 1e-9)
+
+
+def compare(name, runs, room, clocked=None, most=None):
     """Prints what a page takes in two programs, VX first, and gives the ratio of the instructions.
 
     `runs` has two pairs of a number of pages and a command for each program, the fewer pages first.
     The instructions are those of the pages that the second has more; the time is that of the second
-    run, its start included.
+    run, its start included. `clocked` are such pairs for the time alone, which then is that of the
+    pages that the second has more. Where VX takes more than `most` instructions a page, that is said
+    and ends the measurement.
     """
     (few, short), (many, long) = runs
     counts = []
     for who, first, second in zip((name, "plain C"), short, long):
         counts.append((instructions(second, room) - instructions(first, room)) / (many - few))
-        print("%s: %d instructions a page, %.0f pages a second" % (who, counts[-1], many / seconds(second)))
+        if clocked is None:
+            speed = many / seconds(second)
+        else:
+            speed = pages_a_second([(pages, commands[len(counts) - 1]) for pages, commands in clocked])
+        print("%s: %d instructions a page, %.0f pages a second" % (who, counts[-1], speed))
     ratio = counts[0] / counts[1]
     print("%.2f times the instructions" % ratio)
+    if most is not None and counts[0] > most:
+        raise SystemExit("more than %d instructions a page" % most)
     return ratio

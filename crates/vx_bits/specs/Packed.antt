@@ -14,6 +14,11 @@ stride_of width = (width + 7) / 8
 abbrev pub packed_pixel : List ℕ → ℕ → ℕ → Bool
 packed_pixel bytes start x = bit_at (slice_index bytes (start + x / 8)) (7 - x % 8) == 1
 
+-- every pixel is as before but the one in this column of the row that begins at a byte
+abbrev pub IsSameElsewhere : List ℕ → List ℕ → ℕ → ℕ → Type 0
+IsSameElsewhere old new start x = (other y : ℕ) →
+    (other + y / 8 ≡ start + x / 8 → y % 8 ≡ x % 8 → ⊥) → packed_pixel new other y ≡ packed_pixel old other y
+
 -- the dark places of packed rows
 abbrev pub packed_pixels : ℕ → List ℕ → Pixels
 packed_pixels width bytes (pos x) (pos y) = packed_pixel bytes (y * stride_of width) x
@@ -59,7 +64,11 @@ packed_row row = map (packed_byte row) (range_with_len 0 (stride_of (length row)
 unfoldable pub raster_of : Page → List ℕ
 raster_of page = flat_map packed_row page.rows
 
+-- a page is what its dark places make
+abbrev pub IsWhole : Page → Type 0
+IsWhole page = page ≡ page_of page.width page.height (dark_at page)
+
 -- a raster has its rows' bytes, and shows its page
 pub record RasterLaws : Type 0 where
-  pub size : (page : Page) → page ≡ page_of page.width page.height (dark_at page) → length (raster_of page) ≡ page.height * stride_of page.width
-  pub shows : (page : Page) → page ≡ page_of page.width page.height (dark_at page) → packed_page page.width page.height (raster_of page) ≡ page
+  pub size : (page : Page) → IsWhole page → length (raster_of page) ≡ page.height * stride_of page.width
+  pub shows : (page : Page) → IsWhole page → packed_page page.width page.height (raster_of page) ≡ page

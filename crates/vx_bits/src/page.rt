@@ -66,7 +66,8 @@ impl BitPage {
     pub fn set_dark(&mut self, x: u32, y: u32, dark: bool)
         requires column { x < self.old.width }
         requires row { y < self.old.height }
-        ensures { self.new ≡ page_of self.old.width self.old.height (with_pixel (dark_at self.old) (pos x) (pos y) dark) }
+        ensures { self.new ≡ page_of self.old.width self.old.height
+            (with_pixel (dark_at self.old) (pos x) (pos y) dark) }
     {
         let start = y as usize * stride(self.width);
         put(&mut self.rows, start, x, dark);

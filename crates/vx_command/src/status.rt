@@ -1,5 +1,5 @@
 ghost use Rattle.std.specs.Prelude.{◌≡◌};
-ghost use Rattle.vx_command.specs.Status.{number_of, status_of as status_of_answer};
+ghost use Rattle.vx_command.specs.Status.{answer_of, number_of, status_of as status_of_answer};
 
 use crate::halt::Halt;
 use std::fmt;
@@ -57,7 +57,8 @@ impl Status {
 
 /// The status that a command's answer ends the program with.
 pub fn status_of(answer: Result<(), Halt>) -> Status
-    ensures { result ≡ status_of_answer answer }
+    ensures exact { result ≡ status_of_answer answer }
+    ensures answer { answer_of result ≡ answer }
 {
     match answer {
         Ok(()) => Status::Ok,

@@ -10,7 +10,7 @@ ghost use Rattle.vx_command.specs.Steps.{is_no_memory, GivesTaking, IsTakingHalt
 
 use crate::halt::{Halt, halt_of_election, halt_of_taking};
 use std::alloc::Global;
-use vx_bits::Bytes;
+use vx_base::Bytes;
 use vx_election::{Election, read_election};
 use vx_io::{Inputs, take};
 

@@ -11,7 +11,7 @@ ghost use Rattle.vx_command_print.specs.Outcome.{printed_page, page_text as page
 
 use crate::ballot::Ballot;
 use std::alloc::Global;
-use vx_bits::Bytes;
+use vx_base::Bytes;
 use vx_code::{PageCode, tag_of};
 use vx_command::{Halt, acts_in_order, steps_in_order, write_text};
 use vx_election::Election;

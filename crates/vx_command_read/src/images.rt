@@ -10,7 +10,7 @@ ghost use Rattle.vx_command_read.specs.Scans.{ReadsScan};
 
 use crate::reading_text::image_text;
 use std::alloc::Global;
-use vx_bits::Bytes;
+use vx_base::Bytes;
 use vx_command::{Halt, acts_in_order, halt_of_bitmap, steps_in_order, write_text};
 use vx_election::Election;
 use vx_io::Sink;

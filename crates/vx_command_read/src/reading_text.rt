@@ -8,7 +8,8 @@ ghost use Rattle.vx_command_read.specs.ReadingText as reading;
 ghost use Rattle.vx_command_read.specs.ReadingText.{page_line, border_line, bubble_line, bubble_lines, block_text, fault_line, image_text as image_text_of};
 
 use std::alloc::Global;
-use vx_bits::{BitView, Bytes, OutOfMemory};
+use vx_base::{Bytes, OutOfMemory};
+use vx_bits::BitView;
 use vx_code::PageCode;
 use vx_command::{Halt, kind_word};
 use vx_election::Election;

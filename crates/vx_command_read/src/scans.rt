@@ -9,7 +9,7 @@ ghost use Rattle.vx_command_read.specs.Scans.{ReadsFirst};
 
 use crate::images::read_scan;
 use std::alloc::Global;
-use vx_bits::Bytes;
+use vx_base::Bytes;
 use vx_command::{Halt, INPUT_LIMIT, acts_in_order, steps_in_order, take_input};
 use vx_election::Election;
 use vx_io::{Inputs, Sink};

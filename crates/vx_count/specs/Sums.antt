@@ -7,13 +7,16 @@ use Rattle.vx_plane.specs.Count.{count_in}
 abbrev pub blocks_of : Page → ℕ
 blocks_of page = page.width / 1024
 
--- the first so many sums of a page, row by row: the dark pixels of a row before one of those columns
-pub record AreFirstSums (page : Page) (many : ℕ) (sums : List ℕ) : Type 0 where
-  pub size : length sums ≡ many
-  pub each : (row k : ℕ) → k < blocks_of page → row * blocks_of page + k < many →
-      slice_index sums (row * blocks_of page + k) ≡ count_in (pos 0) (pos row) (1024 * (k + 1)) 1 (dark_at page)
+-- sum k of a row: its dark pixels before that column
+abbrev pub sum_at : Page → ℕ → ℕ → ℕ
+sum_at page row k = count_in (pos 0) (pos row) (1024 * (k + 1)) 1 (dark_at page)
 
--- the sums of a whole page, so many in each row
-pub record AreSums (page : Page) (blocks : ℕ) (sums : List ℕ) : Type 0 where
-  pub each_row : blocks ≡ blocks_of page
-  pub all : AreFirstSums page (page.height * blocks_of page) sums
+-- numbers that begin with so many sums of a page, row by row
+pub record BeginsWithSums (page : Page) (many : ℕ) (sums : List ℕ) : Type 0 where
+  pub each : (row k : ℕ) → k < blocks_of page → row * blocks_of page + k < many →
+      slice_index sums (row * blocks_of page + k) ≡ sum_at page row k
+
+-- the sums of a page
+pub record AreSums (page : Page) (sums : List ℕ) : Type 0 where
+  pub size : length sums ≡ page.height * blocks_of page
+  pub all : BeginsWithSums page (page.height * blocks_of page) sums

@@ -10,21 +10,21 @@ turned width height set u v = set ((pos width -ℤ pos 1) -ℤ u) ((pos height -
 abbrev pub turned_page : Page → Page
 turned_page page = page_of page.width page.height (turned page.width page.height (dark_at page))
 
+-- a page that is made of its dark places
+abbrev pub IsWhole : Page → Type 0
+IsWhole page = page ≡ page_of page.width page.height (dark_at page)
+
+-- such a page is as before when it is turned twice
+abbrev pub TurnsBack : Type 0
+TurnsBack = (page : Page) → IsWhole page → turned_page (turned_page page) ≡ page
+
 -- a page as it is, or turned
 abbrev pub shown_page : Bool → Page → Page
 shown_page false page = page
 shown_page true page = turned_page page
 
--- a page that is made of its dark places
-pub record IsWhole (page : Page) : Type 0 where
-  pub whole : page ≡ page_of page.width page.height (dark_at page)
-
--- a page of at most 4096 pixels each way
-pub record IsShown (page : Page) : Type 0 where
+-- a page that a counter keeps, of at most 4096 pixels each way
+pub record IsKept (page : Page) : Type 0 where
   pub columns : page.width ≤ 4096
   pub rows : page.height ≤ 4096
-  pub whole : page ≡ page_of page.width page.height (dark_at page)
-
--- a page that is made of its dark places is as before when it is turned twice
-abbrev pub TurnsBack : Type 0
-TurnsBack = (page : Page) → page ≡ page_of page.width page.height (dark_at page) → turned_page (turned_page page) ≡ page
+  pub whole : IsWhole page

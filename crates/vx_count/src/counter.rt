@@ -23,11 +23,11 @@ impl Model for Counter {
 
     ghost Value = { Page };
 
-    ghost use Rattle.vx_count.specs.Turned.{shown_page, IsShown};
+    ghost use Rattle.vx_count.specs.Turned.{shown_page, IsKept};
 
     ghost view = { λ a. shown_page a.turned a.sums };
 
-    ghost invariant = { λ a. IsShown a.sums };
+    ghost invariant = { λ a. IsKept a.sums };
 }
 
 impl Counter {

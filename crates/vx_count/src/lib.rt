@@ -8,12 +8,12 @@
 
 mod counter;
 mod cut;
-pub mod laws;
+mod laws;
 mod packed;
 mod row_sums;
-
-pub use counter::Counter;
-pub use row_sums::RowSums;
-
 #[cfg(test)]
 mod tests;
+
+pub use counter::Counter;
+pub use laws::turned_twice_is_as_before;
+pub use row_sums::RowSums;

@@ -9,6 +9,10 @@ use Rattle.vx_io.specs.Outside.{Files}
 abbrev pub raised : ℕ → ℕ
 raised count = min (count + 1) (2 ^ 64 - 1)
 
+-- no call yet
+abbrev pub no_calls : Tally
+no_calls = record { calls = 0; faults = 0 }
+
 -- a call more, which failed or didn't
 abbrev pub counted : Tally → Bool → Tally
 counted tally failed =

@@ -1,5 +1,5 @@
 ghost use Rattle.std.specs.Prelude.{◌≡◌, ◌<◌, ◌≤◌, Some, length, take, min, IfOk, is_err};
-ghost use Rattle.vx_io.specs.Fakes.{HeldInputs, counted, files_of, is_listed};
+ghost use Rattle.vx_io.specs.Fakes.{HeldInputs, counted, files_of, is_listed, no_calls};
 ghost use Rattle.vx_io.specs.Outside.{CountsFaults, IsSameBehind, IsSizeOf, IsThere, ReadsFrom};
 
 use crate::lists::{Calls, NamedBytes, is_among};
@@ -37,7 +37,7 @@ fn copy_front(from: &[u8], to: &mut [u8]) -> usize
 impl MemInputs {
     /// Holds the files; takes no memory.
     pub fn new(files: NamedBytes, fails: Calls) -> Self
-        ensures { result ≡ record { files = files; fails = fails; tally = record { calls = 0; faults = 0 } } }
+        ensures { result ≡ record { files = files; fails = fails; tally = no_calls } }
     {
         MemInputs {
             files,
@@ -81,7 +81,8 @@ impl Inputs for MemInputs {
         requires room { 0 < length buf.old }
         requires there { IsThere (Some (files_of self.old.files)) name.now at }
         ensures within { IfOk result (λ count. (0 < count) × (count ≤ length buf.new)) }
-        ensures read { IfOk result (λ count. ReadsFrom (Some (files_of self.old.files)) name.now at (take count buf.new)) }
+        ensures read { IfOk result (λ count.
+            ReadsFrom (Some (files_of self.old.files)) name.now at (take count buf.new)) }
         ensures behind { IfOk result (λ count. IsSameBehind count buf.old buf.new) }
         ensures held { files_of self.new.files ≡ files_of self.old.files }
         ensures cause { CountsFaults (is_err result) self.old.tally.faults self.new.tally.faults }

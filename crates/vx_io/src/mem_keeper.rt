@@ -1,5 +1,5 @@
 ghost use Rattle.std.specs.Prelude.{◌≡◌, ◌<◌, ◌++◌, ◌∷◌, [], Some, None, length, IfOk, OnOk, OnErr, is_err, is_some};
-ghost use Rattle.vx_io.specs.Fakes.{HeldKeeper, counted, kept_of_next};
+ghost use Rattle.vx_io.specs.Fakes.{HeldKeeper, counted, kept_of_next, no_calls};
 ghost use Rattle.vx_io.specs.Keeping.{Stores, has_failed};
 ghost use Rattle.vx_io.specs.Outside.{IsCountOf, IsIndexOf, IsRecordAt, Appends, MayAppend, CountsFaults};
 
@@ -28,7 +28,7 @@ impl Model for MemKeeper {
 impl MemKeeper {
     /// Keeps the records; takes no memory.
     pub fn new(records: Records, fails: KeeperCalls) -> Self
-        ensures { result ≡ record { records = records; fails = fails; tally = record { calls = 0; faults = 0 } } }
+        ensures { result ≡ record { records = records; fails = fails; tally = no_calls } }
     {
         MemKeeper {
             records,
@@ -104,11 +104,14 @@ impl Keeper for MemKeeper {
 
     fn append(&mut self, body: &[u8]) -> Result<(), KeeperError>
         ensures appended { OnOk result (Appends (Some self.old.records) (Some self.new.records) body.now) }
-        ensures failed { result ≡ Err KeeperError.Failed → MayAppend (Some self.old.records) (Some self.new.records) body.now }
+        ensures failed { result ≡ Err KeeperError.Failed
+            → MayAppend (Some self.old.records) (Some self.new.records) body.now }
         ensures refused { result ≡ Err KeeperError.OutOfMemory → self.new.records ≡ self.old.records }
         ensures cause { CountsFaults (has_failed result) self.old.tally.faults self.new.tally.faults }
-        ensures stores { Stores (kept_of_next self.old.fails self.old.tally) self.old.records self.new.records body.now result }
-        ensures counted { self.new ≡ record self.old { records = self.new.records; tally = counted self.old.tally (has_failed result) } }
+        ensures stores { Stores (kept_of_next self.old.fails self.old.tally)
+            self.old.records self.new.records body.now result }
+        ensures counted { self.new ≡ record self.old
+            { records = self.new.records; tally = counted self.old.tally (has_failed result) } }
     {
         let listed = kept_at(&self.fails, self.tally.number_of_next());
         let answer = store(&mut self.records, listed, body);

@@ -1,5 +1,5 @@
 ghost use Rattle.std.specs.Prelude.{◌≡◌, ◌<◌, ◌≤◌, ◌-◌, ◌++◌, ◌||◌, ◌==◌, [], Some, length, take, min, IfOk, OnErr, is_err};
-ghost use Rattle.vx_io.specs.Fakes.{HeldSink, counted, is_listed};
+ghost use Rattle.vx_io.specs.Fakes.{HeldSink, counted, is_listed, no_calls};
 ghost use Rattle.vx_io.specs.Outside.{CountsFaults, TookFront, TookPiece};
 
 use crate::lists::{Calls, is_among};
@@ -24,7 +24,8 @@ impl Model for MemSink {
 
     ghost Value = { HeldSink };
 
-    ghost view = { λ sink. record { taken = sink.bytes.items; room = sink.room; fails = sink.fails; tally = sink.tally } };
+    ghost view = { λ sink.
+        record { taken = sink.bytes.items; room = sink.room; fails = sink.fails; tally = sink.tally } };
 
     ghost invariant = { λ sink. (length sink.bytes.items ≤ sink.room) × (sink.room ≤ vec_capacity sink.bytes) };
 }
@@ -32,7 +33,7 @@ impl Model for MemSink {
 impl MemSink {
     /// Takes the memory for `room` bytes.
     pub fn new(alloc: Global, room: u64, fails: Calls) -> Result<Self, AllocError>
-        ensures { IfOk result (λ sink. sink ≡ record { taken = []; room = room; fails = fails; tally = record { calls = 0; faults = 0 } }) }
+        ensures { IfOk result (λ sink. sink ≡ record { taken = []; room = room; fails = fails; tally = no_calls }) }
     {
         let room = room as usize;
         Ok(MemSink {
@@ -69,10 +70,12 @@ impl Sink for MemSink {
         ensures took { IfOk result (TookPiece (Some self.old.taken) (Some self.new.taken) piece.now) }
         ensures refused { OnErr result (TookFront (Some self.old.taken) (Some self.new.taken) piece.now) }
         ensures cause { CountsFaults (is_err result) self.old.tally.faults self.new.tally.faults }
-        ensures failed { is_err result ≡ (is_listed self.old.fails self.old.tally || length self.old.taken == self.old.room) }
+        ensures failed { is_err result
+            ≡ (is_listed self.old.fails self.old.tally || length self.old.taken == self.old.room) }
         ensures count { IfOk result (λ count. count ≡ min (length piece.now) (self.old.room - length self.old.taken)) }
         ensures nothing { OnErr result (self.new.taken ≡ self.old.taken) }
-        ensures counted { self.new ≡ record self.old { taken = self.new.taken; tally = counted self.old.tally (is_err result) } }
+        ensures counted { self.new ≡ record self.old
+            { taken = self.new.taken; tally = counted self.old.tally (is_err result) } }
     {
         let left = self.left();
         let failed = is_among(&self.fails, self.tally.number_of_next()) || left == 0;

@@ -9,7 +9,7 @@ use Rattle.vx_pbm.specs.Header.{is_space}
 use Rattle.vx_pbm.specs.Raster.{is_raw, is_plain, raw_image, plain_image, IsSized}
 use Rattle.vx_pbm.specs.Raw.{p4_of}
 
--- what of the bytes is unread: the place of its first byte, its text, whether a plain image precedes it
+-- what of the bytes is unread: the offset of its first byte, its text, whether a plain image precedes it
 pub record Unread : Type 0 where
   pub at : ℕ
   pub text : List ℕ
@@ -19,7 +19,7 @@ pub record Unread : Type 0 where
 abbrev pub whole : List ℕ → Unread
 whole bytes = record { at = 0; text = bytes; behind_plain = false }
 
--- bytes that were read up to a place
+-- bytes that were read up to an offset
 abbrev pub unread_from : List ℕ → ℕ → Bool → Unread
 unread_from bytes at behind_plain = record { at = at; text = drop at bytes; behind_plain = behind_plain }
 
@@ -34,7 +34,8 @@ goes_on (byte ∷ rest) = not (is_space byte)
 
 -- an image that was found, and what is unread behind it
 abbrev pub step_over : Unread → Bool → Page × ℕ → Result (Option (Page × Unread)) PbmFault
-step_over unread plain found = Ok (Some (found.0, record { at = unread.at + found.1; text = drop found.1 unread.text; behind_plain = plain }))
+step_over unread plain found =
+    Ok (Some (found.0, record { at = unread.at + found.1; text = drop found.1 unread.text; behind_plain = plain }))
 
 -- the first image of what is unread, with what is unread behind it; none at the end; or the fault
 unfoldable pub next_of : Unread → Result (Option (Page × Unread)) PbmFault
@@ -45,7 +46,7 @@ next_of unread =
     else if is_raw unread.text then raw_image unread.at unread.text >>= step_over unread false
     else Err (BadMagic unread.at)
 
--- the pages of bytes in order, and the fault of the first place that leaves the grammar, if any
+-- the pages of bytes in order, and the fault of the first offset that leaves the grammar, if any
 pub record Images : Type 0 where
   pub pages : List Page
   pub fault : Option PbmFault
@@ -77,18 +78,24 @@ images_left unread = images_within (length unread.text + 1) unread
 unfoldable pub images_of : List ℕ → Images
 images_of bytes = images_left (whole bytes)
 
+-- a refusal: the fault of the first image, or want of memory, which only a plain image has
+abbrev pub Refuses : Unread → PbmFault → Type 0
+Refuses unread fault =
+    MatchBool (is_no_memory fault) (may_be_plain unread ≡ true) (next_of unread ≡ Err fault)
+
 -- What a reader answered, and what is unread afterwards. The first image is given and stepped over. At
 -- the end, at a fault, and at want of memory, which only a plain image has, nothing moves on.
 abbrev pub Steps : Unread → Result (Option Page) PbmFault → Unread → Type 0
 Steps old (Ok (Some page)) new = next_of old ≡ Ok (Some (page, new))
 Steps old (Ok None) new = (next_of old ≡ Ok None) × (new ≡ old)
-Steps old (Err fault) new = MatchBool (is_no_memory fault) (may_be_plain old ≡ true) (next_of old ≡ Err fault) × (new ≡ old)
+Steps old (Err fault) new = Refuses old fault × (new ≡ old)
 
 -- The same of all images that are left: the page was the first of them, or there was none but the fault.
 abbrev pub Walks : Unread → Result (Option Page) PbmFault → Unread → Type 0
 Walks old (Ok (Some page)) new = images_left old ≡ with_page page (images_left new)
 Walks old (Ok None) new = images_left old ≡ ended None
-Walks old (Err fault) new = MatchBool (is_no_memory fault) (images_left new ≡ images_left old) (images_left old ≡ ended (Some fault))
+Walks old (Err fault) new =
+    MatchBool (is_no_memory fault) (images_left new ≡ images_left old) (images_left old ≡ ended (Some fault))
 
 -- a fault of bytes that so many others precede
 abbrev pub moved_fault : ℕ → PbmFault → PbmFault
@@ -102,7 +109,8 @@ moved_fault size OutOfMemory = OutOfMemory
 
 -- the images of bytes and then those of others behind so many bytes
 abbrev pub followed_by : Images → ℕ → Images → Images
-followed_by first size second = record { pages = first.pages ++ second.pages; fault = option_map (moved_fault size) second.fault }
+followed_by first size second =
+    record { pages = first.pages ++ second.pages; fault = option_map (moved_fault size) second.fault }
 
 -- raw images alone that leave the grammar nowhere
 pub record AreRaw (bytes : List ℕ) : Type 0 where
@@ -111,7 +119,8 @@ pub record AreRaw (bytes : List ℕ) : Type 0 where
 
 -- raw images, and bytes behind them that don't begin as a plain image does
 abbrev pub JoinsRawImages : Type 0
-JoinsRawImages = (front rest : List ℕ) → AreRaw front → is_plain rest ≡ false → images_of (front ++ rest) ≡ followed_by (images_of front) (length front) (images_of rest)
+JoinsRawImages = (front rest : List ℕ) → AreRaw front → is_plain rest ≡ false →
+    images_of (front ++ rest) ≡ followed_by (images_of front) (length front) (images_of rest)
 
 -- a page that a reader gives: as high and as wide as it says, neither above 4096
 pub record IsWholePage (page : Page) : Type 0 where
@@ -130,8 +139,10 @@ Gave old (page ∷ pages) new = (between : Unread) × Steps old (Ok (Some page))
 -- a reader that gave these pages of bytes comes to their end or to a fault: these are their images
 pub record EndsWalk (bytes : List ℕ) (pages : List Page) (unread : Unread) : Type 0 where
   pub at_end : Steps unread (Ok None) unread → images_of bytes ≡ record { pages = pages; fault = None }
-  pub at_fault : (fault : PbmFault) → is_no_memory fault ≡ false → Steps unread (Err fault) unread → images_of bytes ≡ record { pages = pages; fault = Some fault }
+  pub at_fault : (fault : PbmFault) → is_no_memory fault ≡ false → Steps unread (Err fault) unread →
+    images_of bytes ≡ record { pages = pages; fault = Some fault }
 
 -- a whole walk gives the images of the bytes
 abbrev pub WalksAllImages : Type 0
-WalksAllImages = (bytes : List ℕ) (pages : List Page) (unread : Unread) → Gave (whole bytes) pages unread → EndsWalk bytes pages unread
+WalksAllImages = (bytes : List ℕ) (pages : List Page) (unread : Unread) →
+    Gave (whole bytes) pages unread → EndsWalk bytes pages unread

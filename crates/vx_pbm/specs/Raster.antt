@@ -9,15 +9,15 @@ use Rattle.vx_pbm.specs.declared.fault.PbmFault.{PbmFault}
 use Rattle.vx_pbm.specs.declared.fault.PbmFault.TheVariants.{BadHeader, SizeTooLarge, Truncated, BadPixel}
 use Rattle.vx_pbm.specs.Header.{header_at, is_space}
 
--- a header that was read, of an image that begins at a place, where neither side is above 4096
+-- a header that was read, of an image that begins at an offset, where neither side is above 4096
 abbrev pub in_size : ℕ → Result Header ℕ → Result Header PbmFault
-in_size at (Err place) = Err (BadHeader (at + place))
+in_size at (Err offset) = Err (BadHeader (at + offset))
 in_size at (Ok header) =
     if nat_le header.width 4096 && nat_le header.height 4096 then Ok header
     else Err (SizeTooLarge header.width header.height)
 
 -- An image that begins a text gives its page and the number of its bytes, or else its fault. The text
--- stands at a place of the whole bytes.
+-- stands at an offset of the whole bytes.
 
 -- the raster of a raw image: eight pixels to a byte, a 1 bit dark, the padding bits anything
 unfoldable pub raw_raster : Header → List ℕ → Result (Page × ℕ) PbmFault
@@ -59,7 +59,8 @@ listed width pixels u v = false
 unfoldable pub plain_raster : Header → List ℕ → Result (Page × ℕ) PbmFault
 plain_raster header text = do
   end ← raster_end (header.height * header.width) 0 header.size (drop header.size text)
-  Ok (page_of header.width header.height (listed header.width (pixels_in (take (end - header.size) (drop header.size text)))), end)
+  Ok (page_of header.width header.height
+      (listed header.width (pixels_in (take (end - header.size) (drop header.size text)))), end)
 
 -- a plain image, which stands at the first byte, its magic left out of account
 unfoldable pub plain_image : List ℕ → Result (Page × ℕ) PbmFault

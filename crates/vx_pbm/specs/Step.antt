@@ -1,9 +1,8 @@
 -- One step of a reader.
-use Rattle.std.specs.Prelude.{◌≡◌, ◌≤◌, List, ℕ, length, true, Option, Some, None, Result, Ok, Err, MatchBool}
+use Rattle.std.specs.Prelude.{◌≡◌, ◌≤◌, List, ℕ, length, Option, Some, None, Result, Ok, Err}
 use Rattle.vx_pbm.specs.declared.fault.PbmFault.{PbmFault}
 use Rattle.vx_pbm.specs.declared.step.Step.{Step}
-use Rattle.vx_pbm.specs.Faults.{is_no_memory}
-use Rattle.vx_pbm.specs.Images.{Unread, unread_from, next_of, may_be_plain}
+use Rattle.vx_pbm.specs.Images.{Unread, unread_from, next_of, Refuses}
 use Rattle.vx_pbm.specs.Raster.{IsSized}
 
 -- a step to the first image of what is unread
@@ -16,4 +15,4 @@ pub record StepsOver (bytes : List ℕ) (unread : Unread) (step : Step) : Type 0
 abbrev pub Finds : List ℕ → Unread → Result (Option Step) PbmFault → Type 0
 Finds bytes unread (Ok (Some step)) = StepsOver bytes unread step
 Finds bytes unread (Ok None) = next_of unread ≡ Ok None
-Finds bytes unread (Err fault) = MatchBool (is_no_memory fault) (may_be_plain unread ≡ true) (next_of unread ≡ Err fault)
+Finds bytes unread (Err fault) = Refuses unread fault

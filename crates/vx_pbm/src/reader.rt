@@ -42,8 +42,9 @@ impl<'b> PbmReader<'b> {
         }
     }
 
-    /// The next image, or none at the end of the bytes. Behind an image less is unread. After a fault each further call answers the
-    /// same. A plain image takes memory; after want of memory the reader stands before that image.
+    /// The next image, or none at the end of the bytes. Behind an image less is unread. After a
+    /// fault each further call answers the same. A plain image takes memory; after want of memory
+    /// the reader stands before that image.
     pub fn next(&mut self) -> Result<Option<Image<'b>>, PbmFault>
         ensures exact { Steps self.old result self.new }
         ensures images { Walks self.old result self.new }

@@ -1,0 +1,3 @@
+pub mod Moving
+pub mod Numerals
+pub mod Spellings

@@ -1,0 +1,19 @@
+-- Lists that are moved element by element.
+use Rattle.std.proofs.Common.{◌≡◌, ◌+◌, ◌<◌, ℕ, List, [], ◌∷◌, ◌++◌, length, drop, map, get_or, Some, sym, ap, ◌∙◌, append_assoc}
+use Rattle.std.specs.Prelude.{slice_get, option_map}
+use Rattle.std.proofs.lemmas.Option.{slice_get_within, get_or_from_slice_get, slice_get-map, slice_get-get_or}
+use Rattle.std.proofs.lemmas.List.{drop_more}
+
+-- one element more
+pub one_moved : {X : Type 0} (moved xs all : List X) (i : ℕ) (x : X) → slice_get xs i ≡ Some x → moved ++ drop i xs ≡ all → (moved ++ x ∷ []) ++ drop (i + 1) xs ≡ all
+one_moved {X} moved xs all i x at is =
+    append_assoc moved (x ∷ []) (drop (i + 1) xs)
+    ∙ ap (λ (left : List X). moved ++ left) (sym (drop_more xs i x (slice_get_within xs i x at) ∙ ap (λ (y : X). y ∷ drop (i + 1) xs) (get_or_from_slice_get xs i x x at)))
+    ∙ is
+
+-- an element of a list, seen
+pub seen_at : {X Y : Type 0} (view : X → Y) (xs : List X) (i : ℕ) (x : X) (y : Y) → i < length xs → x ≡ get_or xs i x → y ≡ view x → slice_get (map view xs) i ≡ Some y
+seen_at view xs i x y inside is seen =
+    slice_get-map view xs i
+    ∙ ap (option_map view) (slice_get-get_or xs i x inside ∙ ap Some (sym is))
+    ∙ ap Some (sym seen)

@@ -1,0 +1,4 @@
+pub mod Numeral
+pub mod Words
+pub mod Outcome
+pub mod Arguments
