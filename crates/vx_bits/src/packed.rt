@@ -19,13 +19,13 @@ pub(crate) fn is_dark(rows: &[u8], start: usize, x: u32) -> bool
     (byte >> (7 - x % 8)) & 1 == 1
 }
 
-/// The byte with its bit `place`, from 0 for the lowest, set for dark and cleared for light.
-fn with_bit(byte: u8, place: u32, dark: bool) -> u8
-    requires { place < 8 }
-    ensures same { bit_at result place ≡ one_if dark }
-    ensures others { (i : ℕ) → i < 8 → i ≢ place → bit_at result i ≡ bit_at byte i }
+/// The byte with its bit `index`, from 0 for the lowest, set for dark and cleared for light.
+fn with_bit(byte: u8, index: u32, dark: bool) -> u8
+    requires { index < 8 }
+    ensures same { bit_at result index ≡ one_if dark }
+    ensures others { (i : ℕ) → i < 8 → i ≢ index → bit_at result i ≡ bit_at byte i }
 {
-    let bit = 1u8 << place;
+    let bit = 1u8 << index;
     if dark { byte | bit } else { byte & !bit }
 }
 

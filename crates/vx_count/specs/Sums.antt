@@ -11,17 +11,12 @@ blocks_of page = page.width / 1024
 abbrev pub sum_at : Page → ℕ → ℕ → ℕ
 sum_at page row k = count_in (pos 0) (pos row) (1024 * (k + 1)) 1 (dark_at page)
 
--- the first so many sums of a page, row by row
-pub record AreFirstSums (page : Page) (many : ℕ) (sums : List ℕ) : Type 0 where
-  pub size : length sums ≡ many
+-- numbers that begin with so many sums of a page, row by row
+pub record BeginsWithSums (page : Page) (many : ℕ) (sums : List ℕ) : Type 0 where
   pub each : (row k : ℕ) → k < blocks_of page → row * blocks_of page + k < many →
       slice_index sums (row * blocks_of page + k) ≡ sum_at page row k
 
--- all sums of a page
-abbrev pub AreAllSums : Page → List ℕ → Type 0
-AreAllSums page sums = AreFirstSums page (page.height * blocks_of page) sums
-
--- the sums of a page, so many in each row
-pub record AreSums (page : Page) (blocks : ℕ) (sums : List ℕ) : Type 0 where
-  pub each_row : blocks ≡ blocks_of page
-  pub all : AreAllSums page sums
+-- the sums of a page
+pub record AreSums (page : Page) (sums : List ℕ) : Type 0 where
+  pub size : length sums ≡ page.height * blocks_of page
+  pub all : BeginsWithSums page (page.height * blocks_of page) sums

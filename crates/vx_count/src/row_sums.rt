@@ -1,7 +1,7 @@
-ghost use Rattle.std.specs.Prelude.{◌≡◌, ◌+◌, ◌*◌, ◌<◌, ◌≤◌, IfOk, OnOk, pos};
+ghost use Rattle.std.specs.Prelude.{◌≡◌, ◌+◌, ◌*◌, ◌<◌, ◌≤◌, IfOk, length, pos};
 ghost use Rattle.vx_plane.specs.Plane.{page_of, dark_at};
 ghost use Rattle.vx_plane.specs.Count.{count_in};
-ghost use Rattle.vx_count.specs.Sums.{AreFirstSums, AreAllSums, blocks_of};
+ghost use Rattle.vx_count.specs.Sums.{AreSums, BeginsWithSums, blocks_of};
 
 use crate::packed::PackedRows;
 use std::alloc::{AllocError, Global};
@@ -19,7 +19,6 @@ const BLOCK_WORDS: u32 = 16;
 #[derive(Drop)]
 pub struct RowSums {
     rows: PackedRows,
-    blocks: usize,
     sums: Vec<u16>,
 }
 
@@ -32,31 +31,34 @@ impl Model for RowSums {
 
     ghost view = { λ a. a.rows };
 
-    ghost invariant = { λ a. AreSums a.rows a.blocks a.sums.items };
+    ghost invariant = { λ a. AreSums a.rows a.sums.items };
 }
 
-/// Adds the sums of a row behind those of the rows before it.
-fn push_sums(sums: &mut Vec<u16>, rows: &PackedRows, row: u32) -> Result<(), AllocError>
+/// Writes the sums of a row behind those of the rows above it.
+fn write_sums(sums: &mut [u16], rows: &PackedRows, row: u32)
     requires row { row < rows.now.height }
-    requires above { AreFirstSums rows.now (row * blocks_of rows.now) sums.old.items }
-    ensures { OnOk result (AreFirstSums rows.now ((row + 1) * blocks_of rows.now) sums.new.items) }
+    requires size { length sums.old ≡ rows.now.height * blocks_of rows.now }
+    requires above { BeginsWithSums rows.now (row * blocks_of rows.now) sums.old }
+    ensures size { length sums.new ≡ length sums.old }
+    ensures sums { BeginsWithSums rows.now ((row + 1) * blocks_of rows.now) sums.new }
 {
+    let blocks = rows.width() / BLOCK;
+    let start = row as usize * blocks as usize;
     let mut dark = 0;
-    for k in 0..rows.width() / BLOCK {
+    for k in 0..blocks {
         dark += rows.in_words(k * BLOCK, row, BLOCK_WORDS);
-        sums.push(dark as u16)?;
+        sums[start + k as usize] = dark as u16;
     }
-    Ok(())
 }
 
 /// The sums of all rows.
 fn sums_of(alloc: Global, rows: &PackedRows) -> Result<Vec<u16>, AllocError>
-    ensures { IfOk result (λ sums. AreAllSums rows.now sums.items) }
+    ensures { IfOk result (λ sums. AreSums rows.now sums.items) }
 {
     let size = rows.height() as usize * (rows.width() / BLOCK) as usize;
-    let mut sums = Vec::with_capacity(alloc, size)?;
+    let mut sums = vec![in alloc; 0u16; size]?;
     for row in 0..rows.height() {
-        push_sums(&mut sums, rows, row)?;
+        write_sums(&mut sums, rows, row);
     }
     Ok(sums)
 }
@@ -69,8 +71,7 @@ impl RowSums {
     {
         let rows = PackedRows::new(alloc, page)?;
         let sums = sums_of(alloc, &rows)?;
-        let blocks = (rows.width() / BLOCK) as usize;
-        Ok(RowSums { rows, blocks, sums })
+        Ok(RowSums { rows, sums })
     }
 
     /// The page's number of columns.
@@ -98,7 +99,8 @@ impl RowSums {
         if block == 0 {
             return 0;
         }
-        self.sums[row as usize * self.blocks + (block - 1) as usize].into()
+        let blocks = (self.rows.width() / BLOCK) as usize;
+        self.sums[row as usize * blocks + (block - 1) as usize].into()
     }
 
     /// The number of dark pixels of a row at the places below `x`.

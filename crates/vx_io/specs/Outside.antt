@@ -20,12 +20,12 @@ pub record CountsFaults (failed : Bool) (before now : ℕ) : Type 0 where
 abbrev pub IsSizeOf : Option Files → List ℕ → Option ℕ → Type 0
 IsSizeOf told name answer = IfSome told (λ files. answer ≡ option_map length (files name))
 
--- where contents are told, something is held under the name and the place is inside it
+-- where contents are told, something is held under the name and the offset is inside it
 abbrev pub IsThere : Option Files → List ℕ → ℕ → Type 0
 IsThere told name at =
     (files : Files) → told ≡ Some files → (bytes : List ℕ) × (files name ≡ Some bytes) × (at < length bytes)
 
--- where contents are told, a piece is what is held under the name from the place on
+-- where contents are told, a piece is what is held under the name from the offset on
 abbrev pub ReadsFrom : Option Files → List ℕ → ℕ → List ℕ → Type 0
 ReadsFrom told name at piece =
     IfSome told (λ files. IfSome (files name) (λ bytes. piece ≡ take (length piece) (drop at bytes)))

@@ -65,7 +65,7 @@ impl NamedBytes {
         None
     }
 
-    /// The bytes under a name from a place inside them on.
+    /// The bytes under a name from an offset inside them on.
     pub(crate) fn rest(&self, name: &str, at: u64) -> &[u8]
         requires { IsSomeAnd (files_of self.now name.now) (λ bytes. at < length bytes) }
         ensures some { 0 < length result.now }

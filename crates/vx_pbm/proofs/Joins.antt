@@ -15,7 +15,7 @@ use Rattle.vx_pbm.proofs.Steps.{raw_not_plain, and_false}
 use Rattle.vx_pbm.proofs.Local.{raw_more, raw_within}
 use Rattle.vx_pbm.proofs.Walks.{images_step, raw_size}
 
--- text at a place, with no plain image before it
+-- text at an offset, with no plain image before it
 abbrev left_at : ℕ → List ℕ → Unread
 left_at at text = record { at = at; text = text; behind_plain = false }
 
@@ -123,7 +123,7 @@ moved_raster_test true size x fault same = ap Err (sym same)
 moved_raster_test false size x fault same = refl
 
 moved_in_size : (size at : ℕ) (read : Result Header ℕ) → in_size (size + at) read ≡ moved_read size (in_size at read)
-moved_in_size size at (Err place) = ap (λ n. Err (BadHeader n)) (add_assoc size at place)
+moved_in_size size at (Err offset) = ap (λ n. Err (BadHeader n)) (add_assoc size at offset)
 moved_in_size size at (Ok header) = moved_test _ size header (SizeTooLarge header.width header.height) refl
 
 moved_raw_raster : (size : ℕ) (header : Header) (text : List ℕ) → raw_raster header text ≡ moved_read size (raw_raster header text)

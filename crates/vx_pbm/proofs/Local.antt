@@ -39,13 +39,13 @@ space_local [] rest e = absurd cc
 space_local (byte ∷ text) rest e = e
 
 -- what a test let through
-passed : {X : Type 0} (t : Bool) (x y : X) (place : ℕ) → cond t (Ok x) (Err place) ≡ Ok y → (t ≡ true) × (x ≡ y)
-passed true x y place e = (refl, cc)
-passed false x y place e = absurd cc
+passed : {X : Type 0} (t : Bool) (x y : X) (offset : ℕ) → cond t (Ok x) (Err offset) ≡ Ok y → (t ≡ true) × (x ≡ y)
+passed true x y offset e = (refl, cc)
+passed false x y offset e = absurd cc
 
-let_through : {X : Type 0} (t : Bool) (x : X) (place : ℕ) → t ≡ true → cond t (Ok x) (Err place) ≡ Ok x
-let_through true x place e = refl
-let_through false x place e = absurd cc
+let_through : {X : Type 0} (t : Bool) (x : X) (offset : ℕ) → t ≡ true → cond t (Ok x) (Err offset) ≡ Ok x
+let_through true x offset e = refl
+let_through false x offset e = absurd cc
 
 -- where a gap lies
 pub record GapIs (text : List ℕ) (at end : ℕ) : Type 0 where

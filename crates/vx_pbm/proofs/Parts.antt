@@ -33,7 +33,7 @@ from_width text at = number_at text at >>= from_second_gap text
 
 header_in : Header → Result Header ℕ → Header
 header_in default (Ok header) = header
-header_in default (Err place) = default
+header_in default (Err offset) = default
 
 -- what was read as a header has its parts
 pub parts_of : (text : List ℕ) (header : Header) → header_at text ≡ Ok header → Parts text header

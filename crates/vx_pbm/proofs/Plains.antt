@@ -50,8 +50,8 @@ listed_more width height k pixels dark some is =
     page_of-same width height _ _ (λ u v m g.
     elim (cases_eq (v * width + u) k) [
       | inl e ↦
-          let place : (v ≡ k / width) × (u ≡ k % width) = same_from_place v u (k / width) (k % width) width m (omega arith) (e ∙ sym (division k width some)) in
-          ap₂ (λ i j. with_pixel before (pos (k % width)) (pos (k / width)) dark (pos i) (pos j)) place.1 place.0
+          let offset : (v ≡ k / width) × (u ≡ k % width) = same_from_place v u (k / width) (k % width) width m (omega arith) (e ∙ sym (division k width some)) in
+          ap₂ (λ i j. with_pixel before (pos (k % width)) (pos (k / width)) dark (pos i) (pos j)) offset.1 offset.0
           ∙ (with_pixel-here before (k % width) (k / width) dark
           ∙ sym (ap (λ n. get_or (pixels ++ dark ∷ []) n false) e ∙ get_or_at pixels dark [] false k (sym is)))
       | inr ne ↦
@@ -77,15 +77,15 @@ put_more width height k pixels true page after some is shown e =
 put_more width height k pixels false page after some is shown e = e ∙ (shown ∙ listed_light width height pixels)
 
 -- a page that shows the first bytes of a raster, and what is left of it
-pub record Filled (width height place need : ℕ) (raster : List ℕ) (i : ℕ) (page : Page) (have : ℕ) : Type 0 where
+pub record Filled (width height offset need : ℕ) (raster : List ℕ) (i : ℕ) (page : Page) (have : ℕ) : Type 0 where
   pub page_is : page ≡ page_of width height (listed width (pixels_in (take i raster)))
   pub have_is : have ≡ length (pixels_in (take i raster))
   pub few : have ≤ need
-  pub rest : raster_end need have (place + i) (drop i raster) ≡ raster_end need 0 place raster
+  pub rest : raster_end need have (offset + i) (drop i raster) ≡ raster_end need 0 offset raster
 
 -- the same with one pixel more
-pub filled_pixel : (width height place need : ℕ) (raster : List ℕ) (i : ℕ) (page after : Page) (have : ℕ) → 0 < width → i < length raster → have ≢ need → is_pixel (get_or raster i 0) ≡ true → Filled width height place need raster i page have → after ≡ cond (get_or raster i 0 == 49) (page_of page.width page.height (with_pixel (dark_at page) (pos (have % page.width)) (pos (have / page.width)) true)) page → Filled width height place need raster (i + 1) after (have + 1)
-filled_pixel width height place need raster i page after have some inside more pixel filled is =
+pub filled_pixel : (width height offset need : ℕ) (raster : List ℕ) (i : ℕ) (page after : Page) (have : ℕ) → 0 < width → i < length raster → have ≢ need → is_pixel (get_or raster i 0) ≡ true → Filled width height offset need raster i page have → after ≡ cond (get_or raster i 0 == 49) (page_of page.width page.height (with_pixel (dark_at page) (pos (have % page.width)) (pos (have / page.width)) true)) page → Filled width height offset need raster (i + 1) after (have + 1)
+filled_pixel width height offset need raster i page after have some inside more pixel filled is =
     let one : pixels_in (take (i + 1) raster) ≡ pixels_in (take i raster) ++ (get_or raster i 0 == 49) ∷ [] =
     pixels_more raster i inside ∙ ap (λ ys. pixels_in (take i raster) ++ map (λ (byte : ℕ). byte == 49) ys) (filter_one (get_or raster i 0) true pixel) in
     record {
@@ -95,13 +95,13 @@ filled_pixel width height place need raster i page after have some inside more p
       few = omega (arith, filled.few);
       rest =
           ap (λ at. raster_end need (have + 1) at (drop (i + 1) raster)) (omega arith)
-          ∙ (sym (ap (raster_end need have (place + i)) (drop_more raster i 0 inside) ∙ second (have == need) (is_pixel (get_or raster i 0)) _ _ _ (ne_eqb have need more) pixel)
+          ∙ (sym (ap (raster_end need have (offset + i)) (drop_more raster i 0 inside) ∙ second (have == need) (is_pixel (get_or raster i 0)) _ _ _ (ne_eqb have need more) pixel)
           ∙ filled.rest);
     }
 
 -- the same with whitespace more
-pub filled_space : (width height place need : ℕ) (raster : List ℕ) (i : ℕ) (page : Page) (have : ℕ) → i < length raster → have ≢ need → is_pixel (get_or raster i 0) ≡ false → is_space (get_or raster i 0) ≡ true → Filled width height place need raster i page have → Filled width height place need raster (i + 1) page have
-filled_space width height place need raster i page have inside more other space filled =
+pub filled_space : (width height offset need : ℕ) (raster : List ℕ) (i : ℕ) (page : Page) (have : ℕ) → i < length raster → have ≢ need → is_pixel (get_or raster i 0) ≡ false → is_space (get_or raster i 0) ≡ true → Filled width height offset need raster i page have → Filled width height offset need raster (i + 1) page have
+filled_space width height offset need raster i page have inside more other space filled =
     let none : pixels_in (take (i + 1) raster) ≡ pixels_in (take i raster) ++ [] =
     pixels_more raster i inside ∙ ap (λ ys. pixels_in (take i raster) ++ map (λ (byte : ℕ). byte == 49) ys) (filter_one (get_or raster i 0) false other) in
     let same : pixels_in (take (i + 1) raster) ≡ pixels_in (take i raster) = none ∙ append-nil (pixels_in (take i raster)) in
@@ -111,7 +111,7 @@ filled_space width height place need raster i page have inside more other space 
       few = filled.few;
       rest =
           ap (λ at. raster_end need have at (drop (i + 1) raster)) (omega arith)
-          ∙ (sym (ap (raster_end need have (place + i)) (drop_more raster i 0 inside) ∙ third (have == need) (is_pixel (get_or raster i 0)) (is_space (get_or raster i 0)) _ _ _ _ (ne_eqb have need more) other space)
+          ∙ (sym (ap (raster_end need have (offset + i)) (drop_more raster i 0 inside) ∙ third (have == need) (is_pixel (get_or raster i 0)) (is_space (get_or raster i 0)) _ _ _ _ (ne_eqb have need more) other space)
           ∙ filled.rest);
     }
 
@@ -120,9 +120,9 @@ ended_at_need need have at [] e = ap (λ t. cond t (Ok at) (Err (Truncated have 
 ended_at_need need have at (byte ∷ rest) e = ap (λ t. cond t (Ok at) (cond (is_pixel byte) (raster_end need (have + 1) (at + 1) rest) (cond (is_space byte) (raster_end need have (at + 1) rest) (Err (BadPixel at))))) (eq-eqb have need e)
 
 -- where all pixels were read, the raster ends
-pub whole_raster : (width height place need : ℕ) (raster : List ℕ) (i : ℕ) (page : Page) (have wanted : ℕ) → need ≡ wanted → have ≡ need → Filled width height place need raster i page have → Ok (place + i) ≡ raster_end wanted 0 place raster
-whole_raster width height place need raster i page have wanted same all filled =
-    sym (ended_at_need need have (place + i) (drop i raster) all) ∙ (filled.rest ∙ ap (λ n. raster_end n 0 place raster) same)
+pub whole_raster : (width height offset need : ℕ) (raster : List ℕ) (i : ℕ) (page : Page) (have wanted : ℕ) → need ≡ wanted → have ≡ need → Filled width height offset need raster i page have → Ok (offset + i) ≡ raster_end wanted 0 offset raster
+whole_raster width height offset need raster i page have wanted same all filled =
+    sym (ended_at_need need have (offset + i) (drop i raster) all) ∙ (filled.rest ∙ ap (λ n. raster_end n 0 offset raster) same)
 
 light_raster : (header : Header) (text part : List ℕ) (page : Page) (end : Result ℕ PbmFault) → page ≡ page_of header.width header.height nowhere → part ≡ drop header.size text → end ≡ raster_end (page.height * page.width) 0 header.size part → raster_end (header.height * header.width) 0 header.size (drop header.size text) ≡ end
 light_raster header text part page end light is e =

@@ -38,7 +38,7 @@ chosen_fault true x bad fault other e = absurd cc
 chosen_fault false x bad fault other e = let is : bad ≡ fault = cc in subst (λ (f : PbmFault). is_no_memory f ≡ false) is other
 
 size_fault : (at : ℕ) (header : Result Header ℕ) (fault : PbmFault) → in_size at header ≡ Err fault → is_no_memory fault ≡ false
-size_fault at (Err place) fault e = let is : BadHeader (at + place) ≡ fault = cc in subst (λ (f : PbmFault). is_no_memory f ≡ false) is refl
+size_fault at (Err offset) fault e = let is : BadHeader (at + offset) ≡ fault = cc in subst (λ (f : PbmFault). is_no_memory f ≡ false) is refl
 size_fault at (Ok header) fault e = chosen_fault _ header (SizeTooLarge header.width header.height) fault refl e
 
 unless_fault : {X : Type 0} (t : Bool) (x : X) (bad fault : PbmFault) → is_no_memory bad ≡ false → cond t (Err bad) (Ok x) ≡ Err fault → is_no_memory fault ≡ false
@@ -74,7 +74,7 @@ pub next_plain_fault : (bytes : List ℕ) (fault : PbmFault) → is_plain bytes 
 next_plain_fault bytes fault magic room read =
     plain_steps bytes magic room ∙ ap (λ r. r >>= step_over (unread_from bytes 0 false) true) read
 
--- a raw image at a place
+-- a raw image at an offset
 raw_steps : (bytes : List ℕ) (at : ℕ) → is_raw (drop at bytes) ≡ true → at + 2 ≤ length bytes → next_of (unread_from bytes at false) ≡ (raw_image at (drop at bytes) >>= step_over (unread_from bytes at false) false)
 unfolding next_of
 raw_steps bytes at magic room =

@@ -21,7 +21,7 @@ header_test true header found fault e = cc
 header_test false header found fault e = absurd cc
 
 pub sized_header : (at : ℕ) (read : Result Header ℕ) (header : Header) → in_size at read ≡ Ok header → read ≡ Ok header
-sized_header at (Err place) header e = absurd cc
+sized_header at (Err offset) header e = absurd cc
 sized_header at (Ok found) header e = ap Ok (header_test _ found header (SizeTooLarge found.width found.height) e)
 
 raw_test : (t : Bool) (fault : PbmFault) (page : Page) (whole : ℕ) (found : Page × ℕ) → cond t (Err fault) (Ok (page, whole)) ≡ Ok found → whole ≡ found.1

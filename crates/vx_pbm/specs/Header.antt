@@ -1,4 +1,4 @@
--- The header of a bitmap, after netpbm's PBM format. Places in a text are counted from 0.
+-- The header of a bitmap, after netpbm's PBM format. Offsets in a text are counted from 0.
 use Rattle.std.specs.Prelude.{ℕ, ◌+◌, ◌<◌, ◌≤◌, ◌==◌, ◌&&◌, ◌||◌, Bool, true, false, not, List, [], ◌∷◌, drop, take, length, nat_lt, nat_le, if◌then◌else◌, Result, Ok, Err}
 use Rattle.std.specs.Char.{is_ascii_digit}
 use Rattle.std.specs.Str.Parse.{digits_value}
@@ -37,8 +37,8 @@ abbrev pub begins_with_space : List ℕ → Bool
 begins_with_space [] = false
 begins_with_space (byte ∷ rest) = is_space byte
 
--- Each part of a header at a place of a text gives the place behind it, or else the first place
--- that no header has. A number comes with its place.
+-- Each part of a header at an offset of a text gives the offset behind it, or else the first offset
+-- that no header has. A number comes with its offset.
 
 -- one or more whitespace bytes and comments
 unfoldable pub gap_at : List ℕ → ℕ → Result ℕ ℕ
@@ -56,7 +56,7 @@ unfoldable pub space_at : List ℕ → ℕ → Result ℕ ℕ
 space_at text at = if begins_with_space (drop at text) then Ok (at + 1) else Err at
 
 -- the header of a text that begins with a magic of two bytes: a gap, the width, a gap, the height and
--- one whitespace byte; or the first place that no header has
+-- one whitespace byte; or the first offset that no header has
 unfoldable pub header_at : List ℕ → Result Header ℕ
 header_at text = do
   at ← gap_at text 2

@@ -9,7 +9,7 @@ use Rattle.vx_pbm.specs.Header.{is_space}
 use Rattle.vx_pbm.specs.Raster.{is_raw, is_plain, raw_image, plain_image, IsSized}
 use Rattle.vx_pbm.specs.Raw.{p4_of}
 
--- what of the bytes is unread: the place of its first byte, its text, whether a plain image precedes it
+-- what of the bytes is unread: the offset of its first byte, its text, whether a plain image precedes it
 pub record Unread : Type 0 where
   pub at : ℕ
   pub text : List ℕ
@@ -19,7 +19,7 @@ pub record Unread : Type 0 where
 abbrev pub whole : List ℕ → Unread
 whole bytes = record { at = 0; text = bytes; behind_plain = false }
 
--- bytes that were read up to a place
+-- bytes that were read up to an offset
 abbrev pub unread_from : List ℕ → ℕ → Bool → Unread
 unread_from bytes at behind_plain = record { at = at; text = drop at bytes; behind_plain = behind_plain }
 
@@ -46,7 +46,7 @@ next_of unread =
     else if is_raw unread.text then raw_image unread.at unread.text >>= step_over unread false
     else Err (BadMagic unread.at)
 
--- the pages of bytes in order, and the fault of the first place that leaves the grammar, if any
+-- the pages of bytes in order, and the fault of the first offset that leaves the grammar, if any
 pub record Images : Type 0 where
   pub pages : List Page
   pub fault : Option PbmFault

@@ -9,15 +9,15 @@ use Rattle.vx_pbm.specs.declared.fault.PbmFault.{PbmFault}
 use Rattle.vx_pbm.specs.declared.fault.PbmFault.TheVariants.{BadHeader, SizeTooLarge, Truncated, BadPixel}
 use Rattle.vx_pbm.specs.Header.{header_at, is_space}
 
--- a header that was read, of an image that begins at a place, where neither side is above 4096
+-- a header that was read, of an image that begins at an offset, where neither side is above 4096
 abbrev pub in_size : ℕ → Result Header ℕ → Result Header PbmFault
-in_size at (Err place) = Err (BadHeader (at + place))
+in_size at (Err offset) = Err (BadHeader (at + offset))
 in_size at (Ok header) =
     if nat_le header.width 4096 && nat_le header.height 4096 then Ok header
     else Err (SizeTooLarge header.width header.height)
 
 -- An image that begins a text gives its page and the number of its bytes, or else its fault. The text
--- stands at a place of the whole bytes.
+-- stands at an offset of the whole bytes.
 
 -- the raster of a raw image: eight pixels to a byte, a 1 bit dark, the padding bits anything
 unfoldable pub raw_raster : Header → List ℕ → Result (Page × ℕ) PbmFault

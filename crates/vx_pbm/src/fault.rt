@@ -6,12 +6,12 @@ ghost use Rattle.vx_pbm.specs.declared.fault.PbmFault.TheVariants.{OutOfMemory};
 use std::fmt;
 use vx_base::OutOfMemory as AllocError;
 
-/// The first place where bytes leave the grammar of bitmaps. Places count bytes from 0.
+/// The first offset where bytes leave the grammar of bitmaps. Offsets count bytes from 0.
 #[derive(Debug, Clone, Copy, PartialEq, Eq)]
 pub enum PbmFault {
-    /// No image begins at this place.
+    /// No image begins at this offset.
     BadMagic(u64),
-    /// No header has this byte at this place, or the bytes end there. A number that is 0 or has
+    /// No header has this byte at this offset, or the bytes end there. A number that is 0 or has
     /// more than 9 digits is bad at its first digit.
     BadHeader(u64),
     /// The width or the height that a header gives is above 4096.
@@ -19,9 +19,9 @@ pub enum PbmFault {
     /// The bytes end before the raster does: what there is and what it takes, counted in bytes for
     /// a raw image and in pixels for a plain one.
     Truncated(u64, u64),
-    /// The byte at this place of a plain raster is no pixel and no whitespace.
+    /// The byte at this offset of a plain raster is no pixel and no whitespace.
     BadPixel(u64),
-    /// The byte at this place, directly after a plain image's last pixel, isn't whitespace.
+    /// The byte at this offset, directly after a plain image's last pixel, isn't whitespace.
     TrailingPlain(u64),
     /// Memory ran out.
     OutOfMemory,

@@ -68,12 +68,12 @@ fn number_of(digits: &[u8]) -> u32
     number
 }
 
-/// The place behind the gap at a place; `Err` has the place, where no gap begins.
+/// The offset behind the gap at an offset; `Err` has the offset, where no gap begins.
 #[tactic(auto, unfolding(crate::specs::Header::gap_at))]
 fn gap_at(text: &[u8], at: usize) -> Result<usize, usize>
     requires { at ≤ length text.now }
     ensures exact { result ≡ gap_at text.now at }
-    ensures within { MatchResult result (λ behind. behind ≤ length text.now) (λ place. place ≤ length text.now) }
+    ensures within { MatchResult result (λ behind. behind ≤ length text.now) (λ offset. offset ≤ length text.now) }
 {
     let size = gap_size(&text[at..]);
     if size == 0 {
@@ -82,14 +82,14 @@ fn gap_at(text: &[u8], at: usize) -> Result<usize, usize>
     Ok(at + size)
 }
 
-/// The number at a place, above 0 and of one to nine digits, and the place behind it; `Err` has
-/// the place, where there is no such number.
+/// The number at an offset, above 0 and of one to nine digits, and the offset behind it; `Err` has
+/// the offset, where there is no such number.
 #[tactic(auto, unfolding(crate::specs::Header::number_at))]
 fn number_at(text: &[u8], at: usize) -> Result<(u32, usize), usize>
     requires { at ≤ length text.now }
     ensures exact { result ≡ number_at text.now at }
     ensures within { MatchResult result (λ found. (found.1 ≤ length text.now) × (0 < found.0))
-        (λ place. place ≤ length text.now) }
+        (λ offset. offset ≤ length text.now) }
 {
     let rest = &text[at..];
     let count = digit_count(rest);
@@ -103,12 +103,12 @@ fn number_at(text: &[u8], at: usize) -> Result<(u32, usize), usize>
     Ok((number, at + count))
 }
 
-/// The place behind the whitespace byte at a place; `Err` has the place, where there is none.
+/// The offset behind the whitespace byte at an offset; `Err` has the offset, where there is none.
 #[tactic(auto, unfolding(crate::specs::Header::space_at))]
 fn space_at(text: &[u8], at: usize) -> Result<usize, usize>
     requires { at ≤ length text.now }
     ensures exact { result ≡ space_at text.now at }
-    ensures within { MatchResult result (λ behind. behind ≤ length text.now) (λ place. place ≤ length text.now) }
+    ensures within { MatchResult result (λ behind. behind ≤ length text.now) (λ offset. offset ≤ length text.now) }
 {
     if at < text.len() && is_space(text[at]) {
         return Ok(at + 1);
@@ -116,12 +116,12 @@ fn space_at(text: &[u8], at: usize) -> Result<usize, usize>
     Err(at)
 }
 
-/// The header of a text that begins with a magic of two bytes, or the first place that no header has.
+/// The header of a text that begins with a magic of two bytes, or the first offset that no header has.
 #[tactic(auto, unfolding(crate::specs::Header::header_at))]
 pub(crate) fn header_at(text: &[u8]) -> Result<Header, usize>
     requires { 2 ≤ length text.now }
     ensures exact { result ≡ header_at text.now }
-    ensures within { MatchResult result (λ header. IsHeader text.now header) (λ place. place ≤ length text.now) }
+    ensures within { MatchResult result (λ header. IsHeader text.now header) (λ offset. offset ≤ length text.now) }
 {
     let at = gap_at(text, 2)?;
     let (width, at) = number_at(text, at)?;

@@ -6,17 +6,17 @@ use crate::fault::PbmFault;
 use crate::header::{Header, header_at};
 use vx_bits::BitView;
 
-/// The header of an image that begins at a place of the bytes, where no side is above 4096.
+/// The header of an image that begins at an offset of the bytes, where no side is above 4096.
 #[tactic(auto, unfolding(crate::specs::Raster::in_size))]
 pub(crate) fn in_size(at: usize, text: &[u8]) -> Result<Header, PbmFault>
     requires magic { 2 ≤ length text.now }
-    requires place { at + length text.now < 2 ^ 64 }
+    requires offset { at + length text.now < 2 ^ 64 }
     ensures exact { result ≡ in_size at (header_at text.now) }
     ensures header { IfOk result (λ header. IsHeader text.now header) }
     ensures sized { IfOk result (λ header. IsSized header.width header.height) }
 {
     match header_at(text) {
-        Err(place) => Err(PbmFault::BadHeader((at + place) as u64)),
+        Err(offset) => Err(PbmFault::BadHeader((at + offset) as u64)),
         Ok(header) => {
             if header.width <= 4096 && header.height <= 4096 {
                 Ok(header)
@@ -46,11 +46,11 @@ fn raw_raster<'b>(header: Header, text: &'b [u8]) -> Result<(BitView<'b>, usize)
 }
 
 /// The page of a raw image that begins a text, and the number of its bytes. The text begins with
-/// a magic and stands at a place of the bytes.
+/// a magic and stands at an offset of the bytes.
 #[tactic(auto, unfolding(crate::specs::Raster::raw_image))]
 pub(crate) fn raw_image<'b>(at: usize, text: &'b [u8]) -> Result<(BitView<'b>, usize), PbmFault>
     requires magic { 2 ≤ length text.now }
-    requires place { at + length text.now < 2 ^ 64 }
+    requires offset { at + length text.now < 2 ^ 64 }
     ensures exact { result ≡ raw_image at text.now }
     ensures within { IfOk result (λ found. found.1 ≤ length text.now) }
     ensures sized { IfOk result (λ found. IsSized found.0.width found.0.height) }

@@ -3,7 +3,7 @@
 //!
 //! The reader is seen as what of its bytes is unread. Each answer is the first image of that, by the
 //! grammar of `specs/Header.antt`, `specs/Raster.antt` and `specs/Images.antt`, or the fault of the
-//! first place that leaves it. Raw images are lent from the bytes. The text of a raw bitmap that is
+//! first offset that leaves it. Raw images are lent from the bytes. The text of a raw bitmap that is
 //! written is defined in `specs/Raw.antt`; what is written is read back, and raw bitmaps may follow
 //! one another.
 #![tactic(auto)]

@@ -30,36 +30,36 @@ fn put(page: &mut BitPage, index: u32, dark: bool)
     }
 }
 
-/// Puts the pixels of a plain raster, which stands at a place of the bytes, on a light page. The
-/// answer is the place behind the last one.
-fn fill(page: &mut BitPage, place: usize, raster: &[u8]) -> Result<usize, PbmFault>
+/// Puts the pixels of a plain raster, which stands at an offset of the bytes, on a light page. The
+/// answer is the offset behind the last one.
+fn fill(page: &mut BitPage, offset: usize, raster: &[u8]) -> Result<usize, PbmFault>
     requires light { page.old ≡ page_of page.old.width page.old.height nowhere }
-    requires place { place + length raster.now < 2 ^ 64 }
-    ensures exact { result ≡ raster_end (page.old.height * page.old.width) 0 place raster.now }
+    requires offset { offset + length raster.now < 2 ^ 64 }
+    ensures exact { result ≡ raster_end (page.old.height * page.old.width) 0 offset raster.now }
     ensures filled { IfOk result (λ end. page.new ≡ page_of page.old.width page.old.height
-        (listed page.old.width (pixels_in (take (end - place) raster.now)))) }
-    ensures within { IfOk result (λ end. (place ≤ end) × (end ≤ place + length raster.now)) }
+        (listed page.old.width (pixels_in (take (end - offset) raster.now)))) }
+    ensures within { IfOk result (λ end. (offset ≤ end) × (end ≤ offset + length raster.now)) }
 {
     let need = page.height() * page.width();
     let mut have: u32 = 0;
     for (i, byte) in raster.iter().enumerate() {
         if have == need {
-            return Ok(place + i);
+            return Ok(offset + i);
         }
         if is_pixel(*byte) {
             put(page, have, *byte == b'1');
             have += 1;
         } else if !is_space(*byte) {
-            return Err(PbmFault::BadPixel((place + i) as u64));
+            return Err(PbmFault::BadPixel((offset + i) as u64));
         }
     }
     if have < need {
         return Err(PbmFault::Truncated(u64::from(have), u64::from(need)));
     }
-    Ok(place + raster.len())
+    Ok(offset + raster.len())
 }
 
-/// The page of a plain image that the bytes are, and the place behind its last pixel. The bytes
+/// The page of a plain image that the bytes are, and the offset behind its last pixel. The bytes
 /// begin with a magic.
 #[tactic(auto, unfolding(crate::specs::Raster::plain_image))]
 pub(crate) fn plain_image(alloc: Global, bytes: &[u8]) -> Result<(BitPage, usize), PbmFault>

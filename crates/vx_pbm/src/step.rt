@@ -10,7 +10,7 @@ use crate::lent::raw_image;
 use crate::plain::plain_image;
 use std::alloc::Global;
 
-/// An image, the place behind it, and whether it is a plain one.
+/// An image, the offset behind it, and whether it is a plain one.
 #[derive(Drop)]
 pub(crate) struct Step<'b> {
     pub(crate) image: Image<'b>,
@@ -39,7 +39,7 @@ fn plain_step<'b>(alloc: Global, bytes: &'b [u8]) -> Result<Option<Step<'b>>, Pb
     }))
 }
 
-/// The raw image that stands in the bytes at a place.
+/// The raw image that stands in the bytes at an offset.
 fn raw_step<'b>(bytes: &'b [u8], at: usize) -> Result<Option<Step<'b>>, PbmFault>
     requires magic { is_raw (drop at bytes.now) ≡ true }
     requires room { at + 2 ≤ length bytes.now }

@@ -10,7 +10,7 @@ returns-then-have-need-clause-exact c =
 
 pub loop-i-preserved : goal.loop-i-preserved
 loop-i-preserved c =
-    let After : Page → ℕ → Type 0 = Filled c.args.page.now.width c.args.page.now.height c.args.place (c.height.result * c.width.result) c.args.raster.now (c.loop-i.i + 1) in
+    let After : Page → ℕ → Type 0 = Filled c.args.page.now.width c.args.page.now.height c.args.offset (c.height.result * c.width.result) c.args.raster.now (c.loop-i.i + 1) in
     elim c.if-is_pixel.branch [
       | then-is_pixel w ↦
           subst (After c.if-is_pixel.page) (sym w.have-is)

@@ -12,5 +12,5 @@ returns-then-block-eq0 c =
 
 pub returns : goal.returns
 returns c =
-    sum-found c.self.inside.rows c.args.self.now c.args.row c.args.block c.self.inside.blocks c.into.result c.index.result.now c.self.inside.sums.items
-    c.self.view_is c.self.invariant c.requires.row (omega arith) c.requires.block c.index.ensures c.into.ensures
+    sum-found c.self.inside.rows c.args.self.now c.args.row c.args.block c.width.result c.into.result c.index.result.now c.self.inside.sums.items
+    c.self.view_is c.self.invariant c.width.ensures.value c.requires.row (omega arith) c.requires.block c.index.ensures c.into.ensures
