@@ -9,7 +9,7 @@ use Rattle.vx_layout.specs.declared.bubbles.Bubble.{Bubble}
 use Rattle.vx_layout.specs.declared.lines.TextLine.{TextLine}
 use Rattle.vx_layout.specs.declared.pages.PagePlan.{PagePlan}
 use Rattle.vx_layout.specs.declared.plan.CardPlan.{CardPlan}
-use Rattle.vx_layout.specs.Pages.{IsOnGrid, NamesOption, HasBubbles}
+use Rattle.vx_layout.specs.Pages.{IsOnGrid, NamesOption, StandsOnGrid}
 use Rattle.vx_layout.specs.Plan.{plan_of}
 use Rattle.vx_layout.specs.Print.{line_pixels}
 use Rattle.vx_layout.specs.Zones.{bubble_zone_of, code_zones, frame_zone, Apart, IsClear, IsClearPlan}
@@ -64,8 +64,8 @@ clear-plan election number plan valid h =
     (laid-page election page blocks is.placed (card_at election number) (count_of election number) (sizes-from_valid election valid)))
 
 -- the bubbles of a plan stand on the grid, for options of the election
-pub planned-bubbles : (election : Election) (number : ℕ) (plan : CardPlan) → IsValid election → plan_of election number ≡ Ok plan → HasBubbles election plan
-planned-bubbles election number plan valid h =
+pub planned-on_grid : (election : Election) (number : ℕ) (plan : CardPlan) → IsValid election → plan_of election number ≡ Ok plan → StandsOnGrid election plan
+planned-on_grid election number plan valid h =
     let is = parts-of_plan election number plan valid h in
     let blocks = blocks_of election number in
     record {

@@ -1,10 +1,11 @@
--- Lists that are made by the numbers from one on.
-use Rattle.std.proofs.Common.{◌≡◌, ℕ, zero, suc, ◌+◌, ◌<◌, ◌≤◌, map, sym, ◌∙◌, arith}
-use Rattle.std.specs.Prelude.{All, slice_get, Some}
+-- Lists that are made by the numbers from one on, and answers that are as defined.
+use Rattle.std.proofs.Common.{◌≡◌, ℕ, zero, suc, ◌+◌, ◌<◌, ◌≤◌, map, Ok, Err, refl, sym, ◌∙◌, arith}
+use Rattle.std.specs.Prelude.{All, Result, slice_get, Some}
 use Rattle.std.specs.List.{range_with_len}
 use Rattle.std.proofs.lemmas.List.Elements.{All-nil, All-cons, All-map}
 use Rattle.std.proofs.lemmas.List.FromFn.{length-map-range_with_len, get_or-map-range_with_len}
 use Rattle.std.proofs.lemmas.Option.{slice_get_within, get_or_from_slice_get}
+use Rattle.vx_base.proofs.Results.{Holds}
 
 -- what holds of each number of a range
 pub All-range : (P : ℕ → Type 0) (from count : ℕ) → ((k : ℕ) → from ≤ k → k < from + count → P k) → All P (range_with_len from count)
@@ -23,3 +24,8 @@ made-at make from count i x at =
     let xs = map make (range_with_len from count) in
     let inside : i < count = omega (arith, slice_get_within xs i x at, length-map-range_with_len make from count) in
     sym (get_or_from_slice_get xs i x x at) ∙ get_or-map-range_with_len make from count i (from + i) x inside (omega arith)
+
+-- what holds of each value that a definition gives
+pub holds-each : {A F : Type 0} (P : A → Type 0) (defined : Result A F) → ((x : A) → defined ≡ Ok x → P x) → Holds P defined
+holds-each P (Ok x) each = record { is = each x refl }
+holds-each P (Err e) each = record { is = tt }

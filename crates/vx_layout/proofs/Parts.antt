@@ -17,7 +17,7 @@ use Rattle.vx_layout.specs.declared.fault.LayoutFault.TheVariants.{TooManyPages,
 use Rattle.vx_layout.specs.Flow.{top, blocks_from, IsPlaced, even_up}
 use Rattle.vx_layout.specs.Plan.{page_plan, pages_of, card_plan, contests_checked, plan_with, plan_of_card, plan_of}
 use Rattle.vx_layout.specs.Pages.{IsNumbered}
-use Rattle.vx_layout.proofs.Cards.{few-cards, contests-there}
+use Rattle.vx_layout.proofs.Cards.{contests-there}
 use Rattle.vx_layout.proofs.Made.{All-made, made-at}
 use Rattle.vx_layout.proofs.Placing.{All-placed}
 use Rattle.vx_layout.proofs.Printable.{stand-from_checked}
@@ -87,8 +87,8 @@ even-up : (pages : ℕ) → even_up pages % 2 ≡ 0
 even-up pages = omega arith
 
 -- the pages of a plan are numbered
-pub planned-numbered : (election : Election) (number : ℕ) (plan : CardPlan) → IsValid election → plan_of election number ≡ Ok plan → IsNumbered number plan
-planned-numbered election number plan valid h =
+pub planned-numbered : (election : Election) (number : ℕ) (plan : CardPlan) → length (cards_of election) ≤ 1024 → IsValid election → plan_of election number ≡ Ok plan → IsNumbered number plan
+planned-numbered election number plan fits valid h =
     let is = parts-of_plan election number plan valid h in
     let make = page_at election number in
     let count = count_of election number in
@@ -98,7 +98,7 @@ planned-numbered election number plan valid h =
     λ i page there. let Has : List PagePlan → Type 0 = λ l. slice_get l i ≡ Some page in made-at make 1 count i page (subst Has (sym pages) there) in
     record {
       card = ap (λ (p : CardPlan). p.card) (sym is.is);
-      card_fits = omega (arith, is.there, few-cards election valid);
+      card_fits = omega (arith, is.there, fits);
       even = ap (λ (n : ℕ). n % 2) counted ∙ even-up _;
       some = omega (arith, counted);
       few = omega (arith, counted, is.few);

@@ -34,7 +34,7 @@ pub record NamesOption (contests : List Contest) (bubble : Bubble) : Type 0 wher
   pub option : bubble.option < options_of (contest_at contests bubble.contest)
 
 -- every bubble of a plan stands on the grid, for an option of the election
-pub record HasBubbles (election : Election) (plan : CardPlan) : Type 0 where
+pub record StandsOnGrid (election : Election) (plan : CardPlan) : Type 0 where
   pub on_grid : All (λ (page : PagePlan). All IsOnGrid page.bubbles) plan.pages
   pub options : All (λ (page : PagePlan). All (NamesOption election.contests) page.bubbles) plan.pages
 
@@ -44,8 +44,8 @@ PlansAreNumbered =
     (election : Election) (card : ℕ) (plan : CardPlan) → IsValid election → plan_of election card ≡ Ok plan
     → IsNumbered card plan
 
--- and have such bubbles
-abbrev pub PlansHaveBubbles : Type 0
-PlansHaveBubbles =
+-- and their bubbles stand so
+abbrev pub PlansStandOnGrid : Type 0
+PlansStandOnGrid =
     (election : Election) (card : ℕ) (plan : CardPlan) → IsValid election → plan_of election card ≡ Ok plan
-    → HasBubbles election plan
+    → StandsOnGrid election plan

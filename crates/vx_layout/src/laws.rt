@@ -1,18 +1,22 @@
 //! Laws of the plans of an election. These functions do nothing; their contracts are the laws.
 
-ghost use Rattle.vx_layout.specs.Pages.{PlansAreNumbered, PlansHaveBubbles};
+ghost use Rattle.vx_layout.specs.Pages.{PlansAreNumbered, PlansStandOnGrid};
 ghost use Rattle.vx_layout.specs.Plans.{PlansAreThose};
+
+use vx_styles::cards_are_few;
 
 /// The plan of a card of a valid election has the card's number, below 1024, and 2 to 62 pages, an
 /// even number, which are numbered from 1 in order.
 pub fn plans_are_numbered()
     ensures { PlansAreNumbered }
-{}
+{
+    cards_are_few()
+}
 
 /// The bubbles of such a plan stand in the grid columns 4, 13 and 22 and in the grid rows 6 to 33,
 /// each for an option that a contest of the election has.
-pub fn plans_have_bubbles()
-    ensures { PlansHaveBubbles }
+pub fn plans_stand_on_the_grid()
+    ensures { PlansStandOnGrid }
 {}
 
 /// The plans of all cards as one list, `plans_of`, are those of which each is the plan of the card

@@ -29,7 +29,7 @@ mod typing;
 
 pub use bubbles::{Bubble, Bubbles};
 pub use fault::{CardFault, LayoutFault};
-pub use laws::{plans_are_numbered, plans_have_bubbles, plans_of_are_plans};
+pub use laws::{plans_are_numbered, plans_of_are_plans, plans_stand_on_the_grid};
 pub use lines::{TextLine, TextLines};
 pub use pages::{PagePlan, PagePlans};
 pub use plan::{CardPlan, CardPlans, card_plan_is_shared};

@@ -7,7 +7,7 @@ ghost use Rattle.vx_base.specs.Refusals.{Gives};
 ghost use Rattle.vx_styles.specs.Cards.{cards_of};
 ghost use Rattle.vx_layout.specs.Faults.{is_no_memory, is_card_no_memory};
 ghost use Rattle.vx_layout.specs.Options.{ShowsEachOption, GivesEachContestAPage};
-ghost use Rattle.vx_layout.specs.Pages.{IsNumbered, HasBubbles};
+ghost use Rattle.vx_layout.specs.Pages.{IsNumbered, StandsOnGrid};
 ghost use Rattle.vx_layout.specs.Plan.{pages_of, plan_with, plan_checked, plan_of};
 ghost use Rattle.vx_layout.specs.Plans.{plans_of, ArePlansOf};
 ghost use Rattle.vx_layout.specs.Zones.{IsClearPlan, AreApartInPlan};
@@ -20,7 +20,7 @@ use crate::paging::lay_pages;
 use crate::plan::{CardPlan, CardPlans};
 use std::alloc::Global;
 use vx_election::Election;
-use vx_styles::{Card, cards, contests_of};
+use vx_styles::{Card, cards, cards_are_few, contests_of, each_card_has_its_precinct};
 
 /// The greatest number of a page.
 const LAST_PAGE: u32 = 63;
@@ -94,6 +94,7 @@ fn plan_listed(
     if card as usize >= cards.len() {
         return Err(LayoutFault::NoCard(cards.len() as u32));
     }
+    each_card_has_its_precinct();
     let numbers = contests_of(alloc, election, card)?;
     plan_contests(
         alloc,
@@ -126,7 +127,7 @@ pub fn plan_card(alloc: Global, election: &Election, card: u32) -> Result<CardPl
     // It has the card's number, and its pages are numbered from 1 in order, below 64.
     ensures numbered { IfOk result (IsNumbered card) }
     // Each bubble stands on the grid, for an option that a contest of the election has.
-    ensures bubbles { IfOk result (HasBubbles election.now) }
+    ensures on_grid { IfOk result (StandsOnGrid election.now) }
     // Every option of each of the card's contests has its one bubble, in order, and no other has.
     ensures options { IfOk result (ShowsEachOption election.now card) }
     // All bubbles of a contest stand on one page.
@@ -137,6 +138,7 @@ pub fn plan_card(alloc: Global, election: &Election, card: u32) -> Result<CardPl
     // No bubble's zone meets the box of another bubble of its page.
     ensures apart { IfOk result AreApartInPlan }
 {
+    cards_are_few();
     planned(alloc, election, card)
 }
 
@@ -144,6 +146,7 @@ pub fn plan_card(alloc: Global, election: &Election, card: u32) -> Result<CardPl
 fn plan_list(alloc: Global, election: &Election, cards: &[Card]) -> Result<CardPlans, CardFault>
     requires valid { IsValid election.now }
     requires listed { cards.now ≡ cards_of election.now }
+    requires few { length cards.now ≤ 1024 }
     ensures { Gives is_card_no_memory result (plans_of election.now) }
 {
     let mut plans = CardPlans::new(alloc);

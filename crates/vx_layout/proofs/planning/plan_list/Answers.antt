@@ -2,12 +2,8 @@ use Rattle.std.proofs.Common.{◌≡◌, ◌<◌, length, ap, arith}
 use Rattle.vx_base.proofs.Results.{Unless-weaker}
 use Rattle.vx_styles.specs.Cards.{cards_of}
 use Rattle.vx_layout.specs.Faults.{is_no_memory}
-use Rattle.vx_layout.proofs.Cards.{few-cards}
 use Rattle.vx_layout.proofs.Listed.{first-stops, all-listed}
 use Rattle.vx_layout.proofs.planning.plan_list.Goals as goal
-
-pub overflow_cast-card-end : goal.overflow_cast-card-end
-overflow_cast-card-end c = omega (arith, ap length c.requires.listed, few-cards c.args.election.now c.requires.valid)
 
 pub returns-in-Err : goal.returns-in-Err
 returns-in-Err c =
