@@ -14,4 +14,4 @@ reason_place WriteIn = 4
 
 -- whether a set has the reason
 abbrev pub has_reason : ReasonSet → Reason → Bool
-has_reason set reason = get_or set.held (reason_place reason) false
+has_reason set reason = get_or set (reason_place reason) false

@@ -62,7 +62,7 @@ is_named reason reasons = list_any (λ r. reason_place r == reason_place reason)
 
 -- those reasons with MarginalMark
 abbrev pub enabled_of : List Reason → ReasonSet
-enabled_of reasons = record { held = is_named Overvote reasons ∷ is_named Undervote reasons ∷ true ∷ is_named BlankBallot reasons ∷ is_named WriteIn reasons ∷ [] }
+enabled_of reasons = is_named Overvote reasons ∷ is_named Undervote reasons ∷ true ∷ is_named BlankBallot reasons ∷ is_named WriteIn reasons ∷ []
 
 -- the reasons of an election that names none
 abbrev pub default_reasons : ReasonSet

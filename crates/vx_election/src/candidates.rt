@@ -73,7 +73,8 @@ fn affiliations_of(
     value: &Value,
     path: &Path,
 ) -> Result<Vec<u32>, ElectionFault>
-    ensures { GivesAs (λ places. places.items) is_no_memory result (affiliations_in parties.now (view value.now) path.now) }
+    ensures { GivesAs (λ places. places.items) is_no_memory result
+        (affiliations_in parties.now (view value.now) path.now) }
 {
     let list = optional_list(alloc, value, path, "partyIds", 10)?;
     let at = path.member(alloc, "partyIds")?;
@@ -89,7 +90,8 @@ fn candidate_of(
     path: &Path,
     ids: &Ids,
 ) -> Result<Choice, ElectionFault>
-    ensures answers { Gives is_no_memory result (candidate_at parties.now path.now ids.now (view value.now)) }
+    ensures exact { Gives is_no_memory result
+        (candidate_at parties.now path.now ids.now (view value.now)) }
     ensures is_new { IfOk result (λ choice. place_in choice.id ids.now ≡ None) }
 {
     let id = id_member(alloc, value, path, ids)?;
@@ -109,7 +111,8 @@ fn candidate_list_of(
     path: &Path,
 ) -> Result<Choices, ElectionFault>
     requires { length values.now ≤ 100 }
-    ensures { Gives is_no_memory result (candidate_list_in parties.now path.now (map view values.now)) }
+    ensures { Gives is_no_memory result
+        (candidate_list_in parties.now path.now (map view values.now)) }
 {
     let mut choices = Vec::new(alloc);
     let mut ids = Ids::new(alloc);

@@ -69,7 +69,8 @@ fn heading_of(
     path: &Path,
     ids: &Ids,
 ) -> Result<Heading, ElectionFault>
-    ensures answers { Gives is_no_memory result (heading_in districts.now ids.now (view value.now) path.now) }
+    ensures exact { Gives is_no_memory result
+        (heading_in districts.now ids.now (view value.now) path.now) }
     ensures is_new { IfOk result (λ heading. place_in heading.id ids.now ≡ None) }
 {
     let id = id_member(alloc, value, path, ids)?;
@@ -115,7 +116,8 @@ fn leave_of(
 }
 
 fn seats_of(alloc: Global, value: &Value, path: &Path) -> Result<u32, ElectionFault>
-    ensures { Gives is_no_memory result (whole_member (view value.now) path.now (codes "seats") 1 50) }
+    ensures { Gives is_no_memory result
+        (whole_member (view value.now) path.now (codes "seats") 1 50) }
 {
     let seats = whole_member(alloc, value, path, "seats", 1, 50)?;
     Ok(seats as u32)
@@ -182,7 +184,8 @@ fn answer_label_of(
     name: &str,
     otherwise: &str,
 ) -> Result<Text, ElectionFault>
-    ensures { Gives is_no_memory result (answer_label_in (view value.now) path.now name.now otherwise.now) }
+    ensures { Gives is_no_memory result
+        (answer_label_in (view value.now) path.now name.now otherwise.now) }
 {
     match value.get(name) {
         None => Ok(Text::from_str(alloc, otherwise)?),
@@ -210,7 +213,8 @@ fn answer_member(
     id: &str,
     otherwise: &str,
 ) -> Result<Choice, ElectionFault>
-    ensures { Gives is_no_memory result (answer_in (view value.now) path.now name.now id.now otherwise.now) }
+    ensures { Gives is_no_memory result
+        (answer_in (view value.now) path.now name.now id.now otherwise.now) }
 {
     let label = answer_label_of(alloc, value, path, name, otherwise)?;
     Ok(answer_of(alloc, id, label)?)
@@ -281,7 +285,8 @@ fn contest_of(
     path: &Path,
     ids: &Ids,
 ) -> Result<Contest, ElectionFault>
-    ensures answers { Gives is_no_memory result (contest_at parties.now districts.now path.now ids.now (view value.now)) }
+    ensures exact { Gives is_no_memory result
+        (contest_at parties.now districts.now path.now ids.now (view value.now)) }
     ensures is_new { IfOk result (λ contest. place_in contest.id ids.now ≡ None) }
 {
     let heading = heading_of(alloc, districts, value, path, ids)?;
@@ -303,7 +308,8 @@ pub(crate) fn contests_of(
     path: &Path,
 ) -> Result<Contests, ElectionFault>
     requires { length values.now ≤ 500 }
-    ensures { Gives is_no_memory result (contests_in parties.now districts.now path.now (map view values.now)) }
+    ensures { Gives is_no_memory result
+        (contests_in parties.now districts.now path.now (map view values.now)) }
 {
     let mut contests = Vec::new(alloc);
     let mut ids = Ids::new(alloc);

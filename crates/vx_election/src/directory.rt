@@ -63,7 +63,7 @@ impl Directory {
 /// A party, a district or a precinct with an id that none of those has.
 #[tactic(auto, unfolding(crate::specs::Parts::named_at))]
 fn named_of(alloc: Global, value: &Value, path: &Path, ids: &Ids) -> Result<Named, ElectionFault>
-    ensures answers { Gives is_no_memory result (named_at path.now ids.now (view value.now)) }
+    ensures exact { Gives is_no_memory result (named_at path.now ids.now (view value.now)) }
     ensures is_new { IfOk result (λ named. place_in named.id ids.now ≡ None) }
 {
     let id = id_member(alloc, value, path, ids)?;

@@ -31,7 +31,8 @@ impl Model for Ids {
 
     ghost view = { λ self. self.ids.items };
 
-    ghost invariant = { λ self. (id : List ℕ) → get_by_text self.places id ≡ place_in id self.ids.items };
+    ghost invariant = { λ self. (id : List ℕ) →
+        get_by_text self.places id ≡ place_in id self.ids.items };
 }
 
 impl Ids {
@@ -112,7 +113,8 @@ pub(crate) fn new_id_of<'v>(
     path: &Path,
     ids: &Ids,
 ) -> Result<&'v str, ElectionFault>
-    ensures answers { GivesAs (λ id. id.now) is_no_memory result (new_id_in (view value.now) path.now ids.now) }
+    ensures exact { GivesAs (λ id. id.now) is_no_memory result
+        (new_id_in (view value.now) path.now ids.now) }
     ensures is_new { IfOk result (λ id. place_in id.now ids.now ≡ None) }
 {
     let id = id_of(alloc, value, path)?;

@@ -41,7 +41,8 @@ pub(crate) fn optional_text(
     high: u32,
     otherwise: &str,
 ) -> Result<Text, ElectionFault>
-    ensures { Gives is_no_memory result (optional_text (view value.now) path.now name.now low high otherwise.now) }
+    ensures { Gives is_no_memory result
+        (optional_text (view value.now) path.now name.now low high otherwise.now) }
 {
     match value.get(name) {
         None => Ok(Text::from_str(alloc, otherwise)?),
@@ -62,7 +63,8 @@ pub(crate) fn whole_member(
     low: u64,
     high: u64,
 ) -> Result<u64, ElectionFault>
-    ensures answers { Gives is_no_memory result (whole_member (view value.now) path.now name.now low high) }
+    ensures exact { Gives is_no_memory result
+        (whole_member (view value.now) path.now name.now low high) }
     ensures within { IfOk result (λ number. number ≤ high) }
 {
     let member = need(alloc, value, path, name)?;
@@ -97,7 +99,8 @@ pub(crate) fn id_member<'v>(
     path: &Path,
     ids: &Ids,
 ) -> Result<&'v str, ElectionFault>
-    ensures answers { GivesAs (λ id. id.now) is_no_memory result (id_member (view value.now) path.now ids.now) }
+    ensures exact { GivesAs (λ id. id.now) is_no_memory result
+        (id_member (view value.now) path.now ids.now) }
     ensures is_new { IfOk result (λ id. place_in id.now ids.now ≡ None) }
 {
     let member = need(alloc, value, path, "id")?;
@@ -114,7 +117,8 @@ pub(crate) fn reference_member(
     name: &str,
     ids: &Ids,
 ) -> Result<u32, ElectionFault>
-    ensures { Gives is_no_memory result (reference_member (view value.now) path.now name.now ids.now) }
+    ensures { Gives is_no_memory result
+        (reference_member (view value.now) path.now name.now ids.now) }
 {
     let member = need(alloc, value, path, name)?;
     let at = path.member(alloc, name)?;
@@ -130,7 +134,8 @@ pub(crate) fn optional_reference(
     name: &str,
     ids: &Ids,
 ) -> Result<Option<u32>, ElectionFault>
-    ensures { Gives is_no_memory result (optional_reference (view value.now) path.now name.now ids.now) }
+    ensures { Gives is_no_memory result
+        (optional_reference (view value.now) path.now name.now ids.now) }
 {
     match value.get(name) {
         None => Ok(None),
@@ -149,7 +154,8 @@ pub(crate) fn list_up_to<'v>(
     path: &Path,
     limit: usize,
 ) -> Result<&'v [Value], ElectionFault>
-    ensures answers { GivesAs (λ list. map view list.now) is_no_memory result (list_up_to (view value.now) path.now limit) }
+    ensures exact { GivesAs (λ list. map view list.now) is_no_memory result
+        (list_up_to (view value.now) path.now limit) }
     ensures within { IfOk result (λ list. length list.now ≤ limit) }
 {
     let list = list_of(alloc, value, path)?;
@@ -168,7 +174,8 @@ pub(crate) fn list_member<'v>(
     name: &str,
     limit: usize,
 ) -> Result<&'v [Value], ElectionFault>
-    ensures answers { GivesAs (λ list. map view list.now) is_no_memory result (list_member (view value.now) path.now name.now limit) }
+    ensures exact { GivesAs (λ list. map view list.now) is_no_memory result
+        (list_member (view value.now) path.now name.now limit) }
     ensures within { IfOk result (λ list. length list.now ≤ limit) }
 {
     let member = need(alloc, value, path, name)?;
@@ -185,7 +192,8 @@ pub(crate) fn optional_list<'v>(
     name: &str,
     limit: usize,
 ) -> Result<&'v [Value], ElectionFault>
-    ensures answers { GivesAs (λ list. map view list.now) is_no_memory result (optional_list (view value.now) path.now name.now limit) }
+    ensures exact { GivesAs (λ list. map view list.now) is_no_memory result
+        (optional_list (view value.now) path.now name.now limit) }
     ensures within { IfOk result (λ list. length list.now ≤ limit) }
 {
     match value.get(name) {

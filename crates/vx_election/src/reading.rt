@@ -65,7 +65,8 @@ fn contests_member(
     districts: &Directory,
     value: &Value,
 ) -> Result<Contests, ElectionFault>
-    ensures { Gives is_no_memory result (contests_member parties.now districts.now (view value.now)) }
+    ensures { Gives is_no_memory result
+        (contests_member parties.now districts.now (view value.now)) }
 {
     let top = Path::root(alloc);
     let list = list_member(alloc, value, &top, "contests", 500)?;
@@ -82,7 +83,8 @@ fn styles_member(
     precincts: &Directory,
     value: &Value,
 ) -> Result<Styles, ElectionFault>
-    ensures { Gives is_no_memory result (styles_member parties.now districts.now precincts.now (view value.now)) }
+    ensures { Gives is_no_memory result
+        (styles_member parties.now districts.now precincts.now (view value.now)) }
 {
     let top = Path::root(alloc);
     let list = list_member(alloc, value, &top, names::ballot_styles(), 1000)?;
@@ -149,7 +151,7 @@ fn value_of(alloc: Global, bytes: &[u8]) -> Result<Value, ElectionFault>
 /// The election that the bytes define, or their first fault.
 #[tactic(auto, unfolding(crate::specs::Reading::election_of))]
 pub fn read_election(alloc: Global, bytes: &[u8]) -> Result<Election, ElectionFault>
-    ensures answers { Gives is_no_memory result (election_of bytes.now) }
+    ensures exact { Gives is_no_memory result (election_of bytes.now) }
     ensures valid { IfOk result (λ election. IsValid election) }
 {
     let value = value_of(alloc, bytes)?;

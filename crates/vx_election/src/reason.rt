@@ -1,6 +1,8 @@
 ghost use Rattle.std.specs.Prelude.{◌≡◌};
 ghost use Rattle.vx_election.specs.Reasons.{has_reason};
 
+use std::marker::Model;
+
 /// Why a person has to look at a contest of a sheet.
 #[derive(Clone, Copy, Debug, PartialEq, Eq)]
 pub enum Reason {
@@ -16,16 +18,26 @@ pub enum Reason {
     WriteIn,
 }
 
-/// A set of reasons.
+/// A set of reasons. Contracts see, for each reason in the order of `Reason`, whether it is in.
 #[derive(Clone, Copy, Debug, PartialEq, Eq)]
 pub struct ReasonSet {
     held: [bool; 5],
 }
 
+impl Model for ReasonSet {
+    ghost use Rattle.std.specs.Prelude.{List, Bool};
+
+    ghost Value = { List Bool };
+
+    ghost view = { λ set. set.held };
+
+    ghost inverse = { λ held. record { held = held } };
+}
+
 impl ReasonSet {
     /// The reasons whose place in the order of `Reason` is true; takes no memory.
     pub fn of(held: [bool; 5]) -> ReasonSet
-        ensures { result.held ≡ held }
+        ensures { result ≡ held }
     {
         ReasonSet { held }
     }

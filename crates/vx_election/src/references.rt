@@ -34,7 +34,8 @@ impl Model for Places {
 
     ghost view = { λ self. self.places.items };
 
-    ghost invariant = { λ self. (place : ℕ) → contains nat_cmp self.seen place ≡ is_among place self.places.items };
+    ghost invariant = { λ self. (place : ℕ) →
+        contains nat_cmp self.seen place ≡ is_among place self.places.items };
 }
 
 impl Places {
@@ -89,7 +90,8 @@ fn new_reference_of(
     ids: &Ids,
     found: &Places,
 ) -> Result<u32, ElectionFault>
-    ensures answers { Gives is_no_memory result (new_reference_in (view value.now) path.now ids.now found.now) }
+    ensures exact { Gives is_no_memory result
+        (new_reference_in (view value.now) path.now ids.now found.now) }
     ensures is_new { IfOk result (λ place. is_among place found.now ≡ false) }
 {
     let id = id_of(alloc, value, path)?;
@@ -112,7 +114,8 @@ pub(crate) fn new_references_of(
     path: &Path,
     ids: &Ids,
 ) -> Result<Indexes, ElectionFault>
-    ensures answers { Gives is_no_memory result (new_references_in path.now ids.now (map view values.now)) }
+    ensures exact { Gives is_no_memory result
+        (new_references_in path.now ids.now (map view values.now)) }
     ensures count { IfOk result (λ places. length places ≡ length values.now) }
 {
     let mut found = Places::new(alloc);
@@ -132,7 +135,8 @@ pub(crate) fn references_of(
     path: &Path,
     ids: &Ids,
 ) -> Result<Vec<u32>, ElectionFault>
-    ensures { GivesAs (λ places. places.items) is_no_memory result (references_in path.now ids.now (map view values.now)) }
+    ensures { GivesAs (λ places. places.items) is_no_memory result
+        (references_in path.now ids.now (map view values.now)) }
 {
     let mut found = Vec::new(alloc);
     for value in values {

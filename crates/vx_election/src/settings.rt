@@ -36,7 +36,8 @@ fn thousandths_of(
     path: &Path,
     name: &str,
 ) -> Result<u32, ElectionFault>
-    ensures answers { Gives is_no_memory result (whole_member (view value.now) path.now name.now 1 1000) }
+    ensures exact { Gives is_no_memory result
+        (whole_member (view value.now) path.now name.now 1 1000) }
     ensures within { IfOk result (λ number. number ≤ 1000) }
 {
     let number = whole_member(alloc, value, path, name, 1, 1000)?;
@@ -116,7 +117,8 @@ fn reason_list_of(
     values: &[Value],
     path: &Path,
 ) -> Result<Vec<Reason>, ElectionFault>
-    ensures { GivesAs (λ reasons. reasons.items) is_no_memory result (reason_list_in path.now (map view values.now)) }
+    ensures { GivesAs (λ reasons. reasons.items) is_no_memory result
+        (reason_list_in path.now (map view values.now)) }
 {
     let mut reasons = Vec::new(alloc);
     for value in values {

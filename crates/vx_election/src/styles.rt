@@ -27,7 +27,8 @@ fn style_places_of(
     path: &Path,
     name: &str,
 ) -> Result<Indexes, ElectionFault>
-    ensures answers { Gives is_no_memory result (style_places_in named.now (view value.now) path.now name.now) }
+    ensures exact { Gives is_no_memory result
+        (style_places_in named.now (view value.now) path.now name.now) }
     ensures few { IfOk result (λ places. length places ≤ 2000) }
 {
     let list = list_member(alloc, value, path, name, 2000)?;
@@ -46,7 +47,8 @@ fn style_of(
     path: &Path,
     ids: &Ids,
 ) -> Result<Style, ElectionFault>
-    ensures answers { Gives is_no_memory result (style_at parties.now districts.now precincts.now path.now ids.now (view value.now)) }
+    ensures exact { Gives is_no_memory result
+        (style_at parties.now districts.now precincts.now path.now ids.now (view value.now)) }
     ensures is_new { IfOk result (λ style. place_in style.id ids.now ≡ None) }
     ensures few { IfOk result (λ style. length style.precincts ≤ 2000) }
 {
@@ -75,7 +77,8 @@ pub(crate) fn styles_of(
 ) -> Result<Styles, ElectionFault>
     requires { length values.now ≤ 1000 }
     ensures few { IfOk result (λ styles. card_count styles ≤ 2000 * 1000) }
-    ensures answers { Gives is_no_memory result (styles_in parties.now districts.now precincts.now path.now (map view values.now)) }
+    ensures exact { Gives is_no_memory result
+        (styles_in parties.now districts.now precincts.now path.now (map view values.now)) }
 {
     let mut styles = Vec::new(alloc);
     let mut ids = Ids::new(alloc);

@@ -17,7 +17,8 @@ pub fn need<'v>(
     path: &Path,
     name: &str,
 ) -> Result<&'v Value, JsonFault>
-    ensures { GivesAs (λ member. view member.now) is_no_memory result (need_in (view value.now) path.now name.now) }
+    ensures { GivesAs (λ member. view member.now) is_no_memory result
+        (need_in (view value.now) path.now name.now) }
 {
     if !value.is_object() {
         return Err(JsonFault::WrongKind(path.copy(alloc)?));
@@ -30,7 +31,8 @@ pub fn need<'v>(
 
 /// The text that the value is, of any length. It lives as long as the value.
 pub fn string_of<'v>(alloc: Global, value: &'v Value, path: &Path) -> Result<&'v str, JsonFault>
-    ensures { GivesAs (λ text. text.now) is_no_memory result (string_in (view value.now) path.now) }
+    ensures { GivesAs (λ text. text.now) is_no_memory result
+        (string_in (view value.now) path.now) }
 {
     match value.as_str() {
         Some(text) => Ok(text),
@@ -82,7 +84,8 @@ pub fn whole_of(
 
 /// The elements of the list that the value is. They live as long as the value.
 pub fn list_of<'v>(alloc: Global, value: &'v Value, path: &Path) -> Result<&'v [Value], JsonFault>
-    ensures { GivesAs (λ list. map view list.now) is_no_memory result (list_in (view value.now) path.now) }
+    ensures { GivesAs (λ list. map view list.now) is_no_memory result
+        (list_in (view value.now) path.now) }
 {
     match value.as_array() {
         Some(list) => Ok(list.as_slice()),

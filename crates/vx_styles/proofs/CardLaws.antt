@@ -1,7 +1,7 @@
 -- Cards name styles, precincts and contests that are there.
-use Rattle.std.proofs.Common.{◌≡◌, ℕ, suc, ◌+◌, ◌≤◌, ◌<◌, List, [], ◌∷◌, length, get_or, Bool, true, false, cond, refl, sym, ap, ◌∙◌, arith, length-append}
+use Rattle.std.proofs.Common.{◌≡◌, ℕ, zero, suc, ◌+◌, ◌≤◌, ◌<◌, List, [], ◌∷◌, ◌++◌, length, drop, get_or, Bool, true, false, cond, refl, sym, ap, ◌∙◌, arith, length-append}
 use Rattle.std.specs.List.{All}
-use Rattle.std.proofs.lemmas.List.{length-map}
+use Rattle.std.proofs.lemmas.List.{length-map, at_drop_more, get_or_append_left, get_or-map}
 use Rattle.std.proofs.lemmas.List.Elements.{All-nil, All-cons, All-head, All-tail, All-append, All-map, All-weaker, All-get_or}
 use Rattle.std.proofs.lemmas.List.Sums.{sum_by-cons}
 use Rattle.vx_election.specs.declared.contest.Contest.{Contest}
@@ -10,7 +10,7 @@ use Rattle.vx_election.specs.declared.election.Election.{Election}
 use Rattle.vx_election.specs.Styles.{card_count}
 use Rattle.vx_election.specs.Valid.{IsValid, IsStyle}
 use Rattle.vx_styles.specs.declared.card.Card.{Card}
-use Rattle.vx_styles.specs.Cards.{cards_of_style, cards_from, cards_of, has_contest, no_style, card_at, contests_from, contests_of_card}
+use Rattle.vx_styles.specs.Cards.{cards_of_style, cards_from, cards_of, has_contest, no_card, card_at, style_of_card, contests_from, contests_of_card}
 
 -- there are as many cards as the styles have precincts
 length-cards_from : (place : ℕ) (styles : List Style) → length (cards_from place styles) ≡ card_count styles
@@ -24,19 +24,25 @@ length-cards_from place (style ∷ styles) =
 pub few-cards : (election : Election) → IsValid election → length (cards_of election) ≤ 1024
 few-cards election valid = omega (arith, length-cards_from 0 election.styles, valid.styles.cards)
 
-abbrev HasStyle : ℕ → Card → Type 0
-HasStyle limit card = card.style < limit
+-- where cards are left from a style on, that style is there
+pub left-there : (styles : List Style) (k place left : ℕ) → left < length (cards_from place (drop k styles)) → k < length styles
+left-there [] zero place left lt = absurd (omega (arith, lt))
+left-there [] (suc k) place left lt = absurd (omega (arith, lt))
+left-there (style ∷ styles) zero place left lt = omega arith
+left-there (style ∷ styles) (suc k) place left lt = omega (arith, left-there styles k place left lt)
 
-styles-below : (place : ℕ) (styles : List Style) → All (HasStyle (place + length styles)) (cards_from place styles)
-styles-below place [] = All-nil (HasStyle (place + 0))
-styles-below place (style ∷ styles) =
-    let all = place + length (style ∷ styles) in
-    let here = All-map (HasStyle all) (λ precinct. record { style = place; precinct = precinct }) style.precincts (λ k d below. omega arith) in
-    let others = All-weaker (HasStyle (place + 1 + length styles)) (HasStyle all) (λ card below. omega (arith, below)) (cards_from (place + 1) styles) (styles-below (place + 1) styles) in
-    All-append (HasStyle all) (cards_of_style place style.precincts) (cards_from (place + 1) styles) here others
+-- the cards from a style on are its own, and those from the next on
+pub cards-parted : (styles : List Style) (place : ℕ) (d : Style) → place < length styles → cards_from place (drop place styles) ≡ cards_of_style place (get_or styles place d).precincts ++ cards_from (place + 1) (drop (place + 1) styles)
+cards-parted styles place d lt = at_drop_more (cards_from place) styles place d lt
 
-pub style-there : (styles : List Style) (card : ℕ) (d : Card) → card < length (cards_from 0 styles) → (get_or (cards_from 0 styles) card d).style < length styles
-style-there styles card d lt = omega (arith, All-get_or (HasStyle (0 + length styles)) (cards_from 0 styles) card d lt (styles-below 0 styles))
+-- the card is one of the style's own
+pub card-here : (styles : List Style) (place left : ℕ) (d : Style) → place < length styles → left < length (get_or styles place d).precincts → (get_or (cards_from place (drop place styles)) left no_card).style ≡ place
+card-here styles place left d lt here =
+    let own = cards_of_style place (get_or styles place d).precincts in
+    let as_many : length own ≡ length (get_or styles place d).precincts = length-map (get_or styles place d).precincts _ in
+    ap (λ (cards : List Card). (get_or cards left no_card).style) (cards-parted styles place d lt)
+    ∙ ap (λ (card : Card). card.style) (get_or_append_left own (cards_from (place + 1) (drop (place + 1) styles)) no_card left (omega (arith, as_many, here)))
+    ∙ ap (λ (card : Card). card.style) (get_or-map (λ (precinct : ℕ). let card : Card = record { style = place; precinct = precinct } in card) (get_or styles place d).precincts left 0 no_card here)
 
 abbrev HasPrecinct : ℕ → Card → Type 0
 HasPrecinct limit card = card.precinct < limit
@@ -52,7 +58,7 @@ module _ (parties districts precincts : ℕ) where
 
 pub precinct-there : (election : Election) (card : ℕ) → IsValid election → card < length (cards_of election) → (card_at election card).precinct < length election.precincts
 precinct-there election card valid there =
-    All-get_or (HasPrecinct (length election.precincts)) (cards_of election) card (record { style = 0; precinct = 0 }) there
+    All-get_or (HasPrecinct (length election.precincts)) (cards_of election) card no_card there
     (precincts-below (length election.parties) (length election.districts) (length election.precincts) 0 election.styles valid.styles.each)
 
 -- so many numbers at most, each from a first one on and below its end
@@ -79,10 +85,10 @@ from-there style place (contest ∷ contests) =
 
 pub contests-there : (election : Election) (card : ℕ) → All (λ number. number < length election.contests) (contests_of_card election card)
 contests-there election card =
-    let are = from-there (get_or election.styles (card_at election card).style no_style) 0 election.contests in
+    let are = from-there (style_of_card election.styles card) 0 election.contests in
     All-weaker (λ number. number < 0 + length election.contests) (λ number. number < length election.contests) (λ number h. omega (arith, h)) (contests_of_card election card) are.each
 
 pub few-contests : (election : Election) (card : ℕ) → IsValid election → length (contests_of_card election card) ≤ 500
 few-contests election card valid =
-    let are = from-there (get_or election.styles (card_at election card).style no_style) 0 election.contests in
+    let are = from-there (style_of_card election.styles card) 0 election.contests in
     omega (arith, are.few, valid.contests.few)

@@ -38,10 +38,18 @@ contests_from style place (contest ∷ contests) = if has_contest style contest 
 abbrev pub no_style : Style
 no_style = record { id = []; precincts = []; districts = []; party = None }
 
+-- a card where there is none
+abbrev pub no_card : Card
+no_card = record { style = 0; precinct = 0 }
+
 -- the card at a place
 abbrev pub card_at : Election → ℕ → Card
-card_at election card = slice_index_or (cards_of election) card (record { style = 0; precinct = 0 })
+card_at election card = slice_index_or (cards_of election) card no_card
+
+-- the style of the card at a place among those of the styles
+abbrev pub style_of_card : List Style → ℕ → Style
+style_of_card styles card = slice_index_or styles (slice_index_or (cards_from 0 styles) card no_card).style no_style
 
 -- the contests of a card, in the election's order
 abbrev pub contests_of_card : Election → ℕ → List ℕ
-contests_of_card election card = contests_from (slice_index_or election.styles (card_at election card).style no_style) 0 election.contests
+contests_of_card election card = contests_from (style_of_card election.styles card) 0 election.contests

@@ -13,7 +13,8 @@ pub fn cards_are_few()
 
 /// The precinct of each card of a valid election is there.
 pub fn each_card_has_its_precinct()
-    ensures { (election : Election) (card : ℕ) → IsValid election → card < length (cards_of election) →
+    ensures { (election : Election) (card : ℕ) →
+        IsValid election → card < length (cards_of election) →
         (card_at election card).precinct < length election.precincts }
 {}
 

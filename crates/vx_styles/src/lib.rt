@@ -15,6 +15,3 @@ pub use laws::{
     each_card_has_its_precinct,
 };
 pub use styles::{cards, contests_of};
-
-#[cfg(test)]
-mod tests;

@@ -1,7 +1,7 @@
 ghost use Rattle.std.specs.Prelude.{◌≡◌, ◌==◌, ◌<◌, ◌≤◌, ◌^◌, ◌+◌, ◌++◌, length, IfOk, OnOk};
 ghost use Rattle.std.specs.List.{All, list_any};
 ghost use Rattle.vx_election.specs.Valid.{IsValid};
-ghost use Rattle.vx_styles.specs.Cards.{cards_of_style, cards_from, cards_of, is_open_to, has_contest, contests_from, contests_of_card};
+ghost use Rattle.vx_styles.specs.Cards.{cards_of_style, cards_from, cards_of, is_open_to, has_contest, contests_from, style_of_card, contests_of_card};
 
 use crate::card::{Card, CardList};
 use std::alloc::Global;
@@ -10,7 +10,8 @@ use vx_election::{Contest, Election, Indexes, Style};
 
 /// Adds the cards of a style at the end.
 fn push_cards(cards: &mut Vec<Card>, style: u32, precincts: &[u32]) -> Result<(), OutOfMemory>
-    ensures { OnOk result (cards.new.items ≡ cards.old.items ++ cards_of_style style precincts.now) }
+    ensures { OnOk result
+        (cards.new.items ≡ cards.old.items ++ cards_of_style style precincts.now) }
 {
     for precinct in precincts {
         cards.push(Card {
@@ -84,6 +85,20 @@ fn contests_of_style(
     Ok(places)
 }
 
+/// The style of a card, found by the number of precincts of those before it.
+fn style_of_card(styles: &[Style], card: u32) -> &Style
+    requires { card < length (cards_from 0 styles.now) }
+    ensures { result.now ≡ style_of_card styles.now card }
+{
+    let mut place = 0usize;
+    let mut left = card as usize;
+    while styles[place].precincts.len() <= left {
+        left -= styles[place].precincts.len();
+        place += 1;
+    }
+    &styles[place]
+}
+
 /// The contests of a card, in the election's order, as their places in its list: those whose
 /// district is among the style's, and that have no party or the style's.
 pub fn contests_of(alloc: Global, election: &Election, card: u32) -> Result<Indexes, OutOfMemory>
@@ -93,9 +108,7 @@ pub fn contests_of(alloc: Global, election: &Election, card: u32) -> Result<Inde
     ensures few { IfOk result (λ places. length places ≤ 500) }
     ensures there { IfOk result (All (λ place. place < length election.now.contests)) }
 {
-    let cards = cards_of(alloc, election.styles.as_slice())?;
-    let place = cards[card as usize].style as usize;
-    let style = &election.styles.as_slice()[place];
+    let style = style_of_card(election.styles.as_slice(), card);
     let places = contests_of_style(alloc, style, election.contests.as_slice())?;
     Ok(Indexes::from_vec(places))
 }

@@ -1,0 +1,9 @@
+//! Trials over several crates, and those that need the text of an election. Nothing stands on it.
+#![tactic(auto)]
+
+#[cfg(test)]
+mod elections;
+#[cfg(test)]
+mod outside;
+#[cfg(test)]
+mod town;

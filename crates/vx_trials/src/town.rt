@@ -1,0 +1,19 @@
+//! The town's election, with one contest on one card.
+
+ghost use Rattle.std.specs.Prelude.{IfOk};
+ghost use Rattle.vx_election.specs.Valid.{IsValid};
+
+use std::alloc::Global;
+use std::test::Fail;
+use vx_election::{Election, read_election};
+
+/// The town's definition.
+pub(crate) const TOWN: &str =
+    r#"{"title":"Town","date":"2024-11-05","districts":[{"id":"d","name":"Town"}],"precincts":[{"id":"p","name":"North"}],"contests":[{"id":"mayor","type":"candidate","districtId":"d","title":"Mayor","seats":1,"candidates":[{"id":"a","name":"Ada"},{"id":"b","name":"Bo"}]}],"ballotStyles":[{"id":"s","precincts":["p"],"districts":["d"]}]}"#;
+
+/// The town's election, read.
+pub(crate) fn town(alloc: Global) -> Result<Election, Fail>
+    ensures { IfOk result (λ election. IsValid election) }
+{
+    Ok(read_election(alloc, TOWN.as_bytes())?)
+}
