@@ -10,10 +10,11 @@ use Rattle.vx_border.specs.Border.{prediction_of, IsFollowed, IsBorderOf}
 
 -- the corner alone is followed
 abbrev pub CornerIsFollowed : Type 0
-CornerIsFollowed = (page : Page) (places : List Point) → IsCorner page (point_at places 0) → IsFollowed page 1 places
+CornerIsFollowed =
+    (page : Page) (places : List Point) → IsCorner page (point_at places 0) → IsFollowed page 1 places
 
--- of a list that begins with followed places and goes on with the best place near where the next mark
--- is expected, one place more is followed
+-- of a list that begins with followed places and goes on with the best place near where the next
+-- mark is expected, one place more is followed
 abbrev pub FollowedGrows : Type 0
 FollowedGrows =
     (page : Page) (n : ℕ) (places longer : List Point) → 0 < n → IsFollowed page n places

@@ -4,8 +4,8 @@ ghost use Rattle.vx_border.specs.Laws.{CornerIsFollowed, FollowedGrows, Followed
 
 use vx_mark::{the_best_place_is_one, the_corner_is_one};
 
-/// The corner alone is followed, and a followed list grows by the best place near where its next mark
-/// is expected, whatever list it is kept in.
+/// The corner alone is followed, and a followed list grows by the best place near where its next
+/// mark is expected, whatever list it is kept in.
 pub fn a_list_is_followed()
     ensures corner { CornerIsFollowed }
     ensures grows { FollowedGrows }

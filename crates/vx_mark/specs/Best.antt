@@ -26,4 +26,5 @@ pub record IsBest (page : Page) (predicted p : Point) : Type 0 where
 
 -- there is one best place near another at most
 abbrev pub BestPlaceIsOne : Type 0
-BestPlaceIsOne = (page : Page) (predicted p q : Point) → IsBest page predicted p → IsBest page predicted q → p ≡ q
+BestPlaceIsOne =
+    (page : Page) (predicted p q : Point) → IsBest page predicted p → IsBest page predicted q → p ≡ q

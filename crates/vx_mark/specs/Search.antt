@@ -1,4 +1,5 @@
--- What a search for a mark keeps: pixels of the frame, deficits counted up to a bound, the best so far.
+-- What a search for a mark keeps: pixels of the frame, deficits counted up to a bound, the best so
+-- far.
 use Rattle.std.specs.Prelude.{◌≡◌, ◌⊎◌, ◌↔◌, ℕ, ◌+◌, ◌-◌, ◌≤◌, ◌<◌, ℤ, pos, ◌+ℤ◌, ◌-ℤ◌, ◌≤ℤ◌, ◌<ℤ◌, Option, Some, None}
 use Rattle.vx_plane.specs.Plane.{Page, dark_at}
 use Rattle.vx_plane.specs.Count.{count_in, outside_of}
@@ -71,7 +72,8 @@ pub record AreFew (width : ℕ) (columns : Span) : Type 0 where
 
 -- each place of some columns in a row has a deficit of at least a bound
 abbrev pub IsOut : Page → Span → ℕ → ℕ → Type 0
-IsOut page columns v below = (u : ℕ) → columns.first ≤ u → u < columns.past → below ≤ deficit_of page (place_in u v)
+IsOut page columns v below =
+    (u : ℕ) → columns.first ≤ u → u < columns.past → below ≤ deficit_of page (place_in u v)
 
 -- a bound that no place has to reach to be the best near a predicted one: one above the most wrong
 -- pixels of an accepted place, or above those of the predicted place where that is accepted
@@ -91,7 +93,8 @@ pub record IsFound (page : Page) (predicted : Point) (u v : ℕ) (found : Found)
 
 -- the best of the accepted places seen, or none whose deficit is below a cap
 abbrev pub IsBestSeen : Page → Point → ℕ → ℕ → ℕ → Option Found → Type 0
-IsBestSeen page predicted cap u v None = (q : Point) → IsAccepted page q → IsSeen predicted u v q → cap ≤ deficit_of page q
+IsBestSeen page predicted cap u v None =
+    (q : Point) → IsAccepted page q → IsSeen predicted u v q → cap ≤ deficit_of page q
 IsBestSeen page predicted cap u v (Some found) = IsFound page predicted u v found
 
 -- what a place's deficit has to stay below to be better than the best before it
@@ -108,7 +111,8 @@ pub record IsFirstColumn (page : Page) (columns : Span) (v u : ℕ) : Type 0 whe
 
 -- or none
 abbrev pub IsFirstOf : Page → Span → ℕ → Option ℕ → Type 0
-IsFirstOf page columns v None = (w : ℕ) → columns.first ≤ w → w < columns.past → IsAccepted page (place_in w v) → ⊥
+IsFirstOf page columns v None =
+    (w : ℕ) → columns.first ≤ w → w < columns.past → IsAccepted page (place_in w v) → ⊥
 IsFirstOf page columns v (Some u) = IsFirstColumn page columns v u
 
 -- the corner of the rows above one

@@ -80,7 +80,9 @@ fn corner_with_row(counter: &Counter, past: u32, v: u32, above: Option<Pixel>) -
 /// The corner of a scan: of the accepted places in columns 26 to 116 and rows 14 to 104, the one
 /// with the least sum of column and row, then with the least row.
 pub fn first_corner(counter: &Counter) -> Option<Point>
-    ensures { MatchOption result ((q : Point) → IsAccepted counter.now q → IsInCornerRegion q → ⊥) (λ p. IsCorner counter.now p) }
+    ensures { MatchOption result
+        ((q : Point) → IsAccepted counter.now q → IsInCornerRegion q → ⊥)
+        (λ p. IsCorner counter.now p) }
 {
     let past = past_of(116, 22, counter.width());
     let mut corner = None;

@@ -12,7 +12,8 @@ use vx_grid::{Point, Rect};
 /// The most pixels that may be wrong at an accepted place.
 pub(crate) const MOST: u32 = 20;
 
-/// The number of dark pixels of the rectangle that begins `left` columns and `top` rows off a place.
+/// The number of dark pixels of the rectangle that begins `left` columns and `top` rows off a
+/// place.
 fn dark_around(counter: &Counter, place: Point, left: i32, top: i32, width: u32, height: u32) -> u32
     requires u { IsWithin 9900 place.u }
     requires v { IsWithin 9900 place.v }
@@ -167,7 +168,8 @@ fn is_run_light(counter: &Counter, columns: Span, row: u32, below: u32) -> bool
     requires columns { AreFew counter.now.width columns }
     requires row { row < counter.now.height }
     requires below { below ≤ 21 }
-    ensures { IsTrue result → (u : ℕ) → columns.first ≤ u → u < columns.past → below ≤ row_light counter.now u row }
+    ensures { IsTrue result
+        → (u : ℕ) → columns.first ≤ u → u < columns.past → below ≤ row_light counter.now u row }
 {
     let dark = counter.run(columns.first - 17, row, columns.past - columns.first + 33);
     dark <= 34 - below
@@ -189,7 +191,8 @@ pub(crate) fn is_row_out(counter: &Counter, columns: Span, v: u32, below: u32) -
     is_run_light(counter, columns, v - 5, below) || is_run_light(counter, columns, v + 4, below)
 }
 
-/// Whether a place in a line of `size` pixels has `before` pixels before it and `after` ones after it.
+/// Whether a place in a line of `size` pixels has `before` pixels before it and `after` ones after
+/// it.
 fn has_room(at: i32, before: i32, after: i32, size: u32) -> bool
     requires at { IsWithin 9900 at }
     requires before { IsWithin 100 before }
@@ -213,7 +216,9 @@ fn in_frame(counter: &Counter, place: Point) -> bool
 pub(crate) fn accepted_deficit(counter: &Counter, place: Point) -> Option<u32>
     requires u { IsWithin 9000 place.u }
     requires v { IsWithin 9000 place.v }
-    ensures { MatchOption result (IsAccepted counter.now place → ⊥) (λ n. IsAccepted counter.now place × (n ≡ deficit_of counter.now place)) }
+    ensures { MatchOption result
+        (IsAccepted counter.now place → ⊥)
+        (λ n. IsAccepted counter.now place × (n ≡ deficit_of counter.now place)) }
 {
     if !in_frame(counter, place) {
         return None;

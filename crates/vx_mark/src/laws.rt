@@ -1,4 +1,5 @@
-//! Laws of the corner and of the best place. These functions do nothing; their contracts are the laws.
+//! Laws of the corner and of the best place. These functions do nothing; their contracts are the
+//! laws.
 
 ghost use Rattle.vx_mark.specs.Best.{BestPlaceIsOne};
 ghost use Rattle.vx_mark.specs.Corner.{CornerIsOne};

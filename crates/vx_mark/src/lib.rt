@@ -4,9 +4,9 @@
 //! wrong there is its deficit, and up to 20 it is accepted. The corner of a scan and the best place
 //! near a predicted one are the first of all accepted places of a region, in a stated order. The
 //! definitions stand in `specs/Mark.antt`, `specs/Corner.antt` and `specs/Best.antt`, as counts of
-//! `vx_plane`. A search leaves a place as soon as it can't be the answer any more, and a row of
-//! places where one row of pixels shows it of all of them; what it keeps stands in `specs/Search.antt`. No call takes
-//! memory.
+//! `vx_plane`. A search leaves a place as soon as it can't be the answer any more, and the places of
+//! a row where one row of pixels shows it of all of them; what it keeps meanwhile stands in
+//! `specs/Search.antt`. That the corner and the best place are one are laws. No call takes memory.
 #![tactic(auto)]
 
 mod corner;

@@ -124,7 +124,9 @@ fn best_with_row(
 pub fn best_near(counter: &Counter, predicted: Point) -> Option<Point>
     requires u { IsWithin 9000 predicted.u }
     requires v { IsWithin 9000 predicted.v }
-    ensures { MatchOption result ((q : Point) → IsAccepted counter.now q → IsNear predicted q → ⊥) (λ p. IsBest counter.now predicted p) }
+    ensures { MatchOption result
+        ((q : Point) → IsAccepted counter.now q → IsNear predicted q → ⊥)
+        (λ p. IsBest counter.now predicted p) }
 {
     let _width = counter.width();
     let _height = counter.height();

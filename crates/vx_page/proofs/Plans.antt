@@ -1,60 +1,28 @@
 -- The bubbles of a planned page stand on the grid, and what the plans of all cards say of a code.
 use Rattle.std.proofs.Common.{◌≡◌, ℕ, ◌≤◌, ◌<◌, ◌-◌, ◌==◌, List, length, get_or, Bool, true, false, cond, refl, sym, ap, ◌∙◌, subst, arith}
 use Rattle.std.specs.Prelude.{All, slice_get, nat_lt, Option, None, Some, Result, Ok, Err}
-use Rattle.std.specs.List.{flat_map, range_with_len}
 use Rattle.std.proofs.lemmas.Bool.Decides.{nat_tests}
-use Rattle.std.proofs.lemmas.List.Elements.{All-map, All-weaker, All-get_or}
+use Rattle.std.proofs.lemmas.List.Elements.{All-get_or}
 use Rattle.std.proofs.lemmas.Option.{slice_get_within, slice_get_read, slice_get_past, get_or_from_slice_get}
 use Rattle.vx_election.specs.declared.election.Election.{Election}
 use Rattle.vx_election.specs.Valid.{IsValid}
 use Rattle.vx_code.specs.declared.code.PageCode.{PageCode}
 use Rattle.vx_code.specs.Code.{tag_of}
-use Rattle.vx_styles.specs.Cards.{cards_of, card_at, contests_of_card}
-use Rattle.vx_layout.specs.declared.bubbles.Bubble.{Bubble}
+use Rattle.vx_styles.specs.Cards.{cards_of}
 use Rattle.vx_layout.specs.declared.pages.PagePlan.{PagePlan}
 use Rattle.vx_layout.specs.declared.plan.CardPlan.{CardPlan}
 use Rattle.vx_layout.specs.declared.fault.LayoutFault.{LayoutFault}
 use Rattle.vx_layout.specs.declared.fault.LayoutFault.TheVariants.{NoCard as NoSuchCard}
-use Rattle.vx_layout.specs.Flow.{top, blocks_from}
-use Rattle.vx_layout.specs.Plan.{bubbles_of, on_page, page_plan, page_plans, pages_of, plan_of_card, plan_of}
-use Rattle.vx_layout.proofs.Cards.{contests-there}
-use Rattle.vx_layout.proofs.Clear.{IsStood, stood-page}
-use Rattle.vx_layout.proofs.Faults.{stand-from_none}
-use Rattle.vx_layout.proofs.Laws.{parts-of_plan}
-use Rattle.vx_layout.proofs.LineSizes.{All-always}
-use Rattle.vx_layout.proofs.Placing.{All-placed}
-use Rattle.vx_layout.proofs.Sizes.{sizes-from_valid}
+use Rattle.vx_layout.specs.Pages.{IsOnGrid, PlansStandOnGrid}
+use Rattle.vx_layout.specs.Plan.{plan_of_card, plan_of}
+use Rattle.vx_layout.specs.Plans.{ArePlansOf}
 use Rattle.vx_scan_model.specs.declared.fault.PageFault.{PageFault}
 use Rattle.vx_scan_model.specs.declared.fault.PageFault.TheVariants.{OtherElection, NoCard}
-use Rattle.vx_scan_model.specs.Reading.{page_numbered, ArePlansOf}
-use Rattle.vx_page.specs.Named.{plan_unless, plan_on_card, named_plan, IsOnGrid}
+use Rattle.vx_scan_model.specs.Named.{page_numbered, plan_unless, plan_on_card, named_plan}
 
 -- all bubbles of a page stand on the grid
 abbrev AreOnGrid : PagePlan → Type 0
 AreOnGrid page = All IsOnGrid page.bubbles
-
-stood-on_grid : (bubble : Bubble) → IsStood bubble → IsOnGrid bubble
-stood-on_grid bubble is = record {
-  column = omega (arith, is.col, is.few);
-  row = omega (arith, is.high);
-}
-
--- so on every page of a plan
-on-grid : (election : Election) (number : ℕ) (plan : CardPlan) → IsValid election → plan_of election number ≡ Ok plan → All AreOnGrid plan.pages
-on-grid election number plan valid h =
-    let is = parts-of_plan election number plan h in
-    let contests = election.contests in
-    let numbers = contests_of_card election number in
-    let sizes = sizes-from_valid election valid in
-    let blocks = blocks_from contests top numbers in
-    let placed = All-placed contests top numbers (stand-from_none contests numbers sizes (contests-there election number) is.printable) in
-    let pages = pages_of contests numbers in
-    let card = card_at election number in
-    let all : All AreOnGrid (page_plans election card blocks pages) =
-    All-map AreOnGrid (page_plan election card blocks pages) (range_with_len 1 pages)
-    (All-always (λ page. AreOnGrid (page_plan election card blocks pages page)) (range_with_len 1 pages)
-    (λ page. All-weaker IsStood IsOnGrid stood-on_grid (flat_map (bubbles_of contests) (on_page page blocks)) (stood-page election blocks page placed))) in
-    subst (λ (p : CardPlan). All AreOnGrid p.pages) is.is all
 
 -- what a code names, taken apart
 record IsNamed (election : Election) (code : PageCode) (plan : PagePlan) : Type 0 where
@@ -87,10 +55,10 @@ numbered-listed P false pages number plan h all =
     subst P (get_or_from_slice_get pages number plan plan h) (All-get_or P pages number plan (slice_get_within pages number plan h) all)
 
 -- the bubbles of the page that a code names
-pub named-on_grid : (election : Election) (code : PageCode) (plan : PagePlan) → IsValid election → named_plan election code ≡ Ok plan → All IsOnGrid plan.bubbles
-named-on_grid election code plan valid h =
+pub named-on_grid : PlansStandOnGrid → (election : Election) (code : PageCode) (plan : PagePlan) → IsValid election → named_plan election code ≡ Ok plan → All IsOnGrid plan.bubbles
+named-on_grid stand election code plan valid h =
     let is = parts-of_named election code plan h in
-    numbered-listed AreOnGrid (code.page == 0) is.card.pages (code.page - 1) plan is.page_is (on-grid election code.card is.card valid is.card_is)
+    numbered-listed AreOnGrid (code.page == 0) is.card.pages (code.page - 1) plan is.page_is (stand election code.card is.card valid is.card_is).on_grid
 
 not-below : (m n : ℕ) → n ≤ m → nat_lt m n ≡ false
 not-below m n h = grind (arith, nat_tests)

@@ -1,42 +1,31 @@
--- The page that a code names, where its bubbles stand, and what its reading has.
-use Rattle.std.specs.Prelude.{◌≡◌, ◌≤◌, ℕ, ◌==◌, if◌then◌else◌, length, Option, Some, None, Result, Ok, Err}
+-- What a reading of a planned page has, and what a call that reads one may answer.
+use Rattle.std.specs.Prelude.{◌≡◌, length, Result, Ok, Err}
+use Rattle.std.specs.Borrow.{Bor}
+use Rattle.vx_base.specs.Refusals.{Unless}
+use Rattle.vx_plane.specs.Plane.{Page}
 use Rattle.vx_election.specs.declared.election.Election.{Election}
-use Rattle.vx_code.specs.declared.code.PageCode.{PageCode}
-use Rattle.vx_code.specs.Code.{tag_of}
-use Rattle.vx_layout.specs.declared.bubbles.Bubble.{Bubble}
 use Rattle.vx_layout.specs.declared.pages.PagePlan.{PagePlan}
-use Rattle.vx_layout.specs.declared.plan.CardPlan.{CardPlan}
-use Rattle.vx_layout.specs.declared.fault.LayoutFault.{LayoutFault}
-use Rattle.vx_layout.specs.Plan.{plan_of}
 use Rattle.vx_scan_model.specs.declared.reading.PageReading.{PageReading}
 use Rattle.vx_scan_model.specs.declared.fault.PageFault.{PageFault}
-use Rattle.vx_scan_model.specs.declared.fault.PageFault.TheVariants.{OtherElection, NoCard, NoPage}
-use Rattle.vx_scan_model.specs.Reading.{page_numbered}
-
--- the plan of a page with a number, if there is one
-abbrev pub plan_unless : ℕ → Option PagePlan → Result PagePlan PageFault
-plan_unless number None = Err (NoPage number)
-plan_unless number (Some plan) = Ok plan
-
--- the plan of the page that a code names on its card, if there is one
-abbrev pub plan_on_card : PageCode → Result CardPlan LayoutFault → Result PagePlan PageFault
-plan_on_card code (Err fault) = Err (NoCard code.card)
-plan_on_card code (Ok plan) = plan_unless code.page (page_numbered plan code.page)
-
--- the plan of the page that a code names, if it is of this election
-unfoldable pub named_plan : Election → PageCode → Result PagePlan PageFault
-named_plan election code =
-    if code.tag == tag_of election.digest then plan_on_card code (plan_of election code.card)
-    else Err (OtherElection code.tag)
-
--- a bubble stands at a grid point of the page
-pub record IsOnGrid (bubble : Bubble) : Type 0 where
-  pub column : bubble.col ≤ 33
-  pub row : bubble.row ≤ 40
+use Rattle.vx_scan_model.specs.Faults.{is_no_memory}
+use Rattle.vx_scan_model.specs.Reading.{reading_of, named_plan}
 
 -- a reading is of the planned page that its code names, with a score and a state for each bubble
-pub record IsOfPlan (election : Election) (reading : PageReading) : Type 0 where
-  pub plan : PagePlan
+pub record IsOfPlan (election : Election) (reading : PageReading) (plan : PagePlan) : Type 0 where
   pub named : named_plan election reading.code ≡ Ok plan
   pub scores : length reading.scores ≡ length plan.bubbles
   pub states : length reading.states ≡ length plan.bubbles
+
+-- it is of some planned page
+pub record IsOfAPlan (election : Election) (reading : PageReading) : Type 0 where
+  pub plan : PagePlan
+  pub of_plan : IsOfPlan election reading plan
+
+-- a call gives what the definition says, with the plan of its page, unless memory ran out
+abbrev pub GivesOnPlan : Election → Result PageReading PageFault → Result (PageReading × Bor PagePlan) PageFault → Type 0
+GivesOnPlan election defined (Ok given) = (defined ≡ Ok given.0) × IsOfPlan election given.0 given.1.now
+GivesOnPlan election defined (Err fault) = Unless (is_no_memory fault) (defined ≡ Err fault)
+
+-- the reading of a scan with the plan of its page, or its first fault
+abbrev pub GivesWithPlan : Election → Page → Result (PageReading × Bor PagePlan) PageFault → Type 0
+GivesWithPlan election page given = GivesOnPlan election (reading_of election page) given

@@ -1,7 +1,7 @@
 ghost use Rattle.std.specs.Prelude.{◌≡◌, All, IfOk};
 ghost use Rattle.vx_grid.specs.Places.{AreWithin};
 ghost use Rattle.vx_scan_model.specs.Reading as reading;
-ghost use Rattle.vx_page.specs.Named.{IsOnGrid};
+ghost use Rattle.vx_layout.specs.Pages.{IsOnGrid};
 
 use std::alloc::{AllocError, Global};
 use vx_count::Counter;

@@ -1,6 +1,6 @@
 ghost use Rattle.std.specs.Prelude.{◌≡◌, Ok, Err, MatchResult};
-ghost use Rattle.vx_scan_model.specs.Reading.{ArePlansOf};
-ghost use Rattle.vx_page.specs.Named.{named_plan};
+ghost use Rattle.vx_layout.specs.Plans.{ArePlansOf};
+ghost use Rattle.vx_scan_model.specs.Named.{named_plan};
 
 use vx_code::{PageCode, tag_of};
 use vx_election::Election;

@@ -1,7 +1,7 @@
 -- The marks that are found one after the other are followed.
-use Rattle.std.proofs.Common.{◌≡◌, ◌-◌, ◌<◌, ◌≤◌, ◌++◌, ◌∷◌, [], inl, inr, ℕ, zero, suc, false, List, length, Option, Some, None, Result, Ok, Err, pos, arith, refl, sym, ap, subst}
+use Rattle.std.proofs.Common.{◌≡◌, ◌+◌, ◌-◌, ◌<◌, ◌≤◌, ◌++◌, ◌∷◌, [], ℕ, zero, suc, false, List, length, Option, Some, None, Result, Ok, Err, pos, arith, add-one, refl, sym, subst}
 use Rattle.std.specs.Prelude.{◌==◌}
-use Rattle.std.proofs.lemmas.Bool.{cases_lt, ne_eqb}
+use Rattle.std.proofs.lemmas.Bool.{ne_eqb}
 use Rattle.std.proofs.lemmas.List.{length-append, get_or_append_left, get_or-append_right}
 use Rattle.vx_plane.specs.Plane.{Page}
 use Rattle.vx_grid.specs.declared.places.Point.{Point}
@@ -10,8 +10,8 @@ use Rattle.vx_mark.specs.Corner.{IsCorner}
 use Rattle.vx_mark.specs.Best.{IsBest}
 use Rattle.vx_border.specs.declared.following.BorderFault.{BorderFault}
 use Rattle.vx_border.specs.declared.following.BorderFault.TheVariants.{NoCorner, NoMark, OpenBorder}
-use Rattle.vx_border.specs.Border.{side_of, index_of, leader_of, prediction_of, expected_from, IsFollowed, LacksMark}
-use Rattle.vx_border.proofs.Follow.{leader_before, followed_one}
+use Rattle.vx_border.specs.Border.{side_of, index_of, prediction_of, IsFollowed, LacksMark}
+use Rattle.vx_border.specs.Laws.{CornerIsFollowed, FollowedGrows}
 use Rattle.vx_scan_model.specs.Border.{corner_of, best_of, with_found, with_mark, marks_of}
 use Rattle.vx_scan_model.proofs.Corners.{IsCornerOf, IsCornerOf-corner_of}
 use Rattle.vx_scan_model.proofs.Bests.{IsBestOf, IsBestOf-best_of}
@@ -25,34 +25,6 @@ point_at_own : (places : List Point) (p : Point) (n : ℕ) → length places ≡
 point_at_own places p n all =
     let none : n - n ≡ 0 = omega arith in
     rw (get_or-append_right places (p ∷ []) n n (record { u = pos 0; v = pos 0 }) all (omega arith), none) refl
-
--- where a mark is expected doesn't change
-prediction_before : (places : List Point) (p : Point) (j : ℕ) → 0 < j → j ≤ length places → prediction_of (places ++ p ∷ []) j ≡ prediction_of places j
-prediction_before places p j some most = ap (expected_from j) (point_at_before places p (leader_of j) (omega (arith, leader_before j some)))
-
--- a followed list with one place more
-followed_push : (page : Page) (n : ℕ) (places : List Point) (p : Point) → 0 < n → length places ≡ n → IsFollowed page n places → IsBest page (prediction_of places n) p → IsFollowed page (suc n) (places ++ p ∷ [])
-followed_push page n places p some all f best =
-    let Corner : Point → Type 0 = λ x. IsCorner page x in
-    let Own : Point → Type 0 = λ x. IsBest page (prediction_of places n) x in
-    let own : IsBest page (prediction_of places n) (point_at (places ++ p ∷ []) n) = subst Own (sym (point_at_own places p n all)) best in
-    record {
-      corner = subst Corner (sym (point_at_before places p 0 (omega arith))) f.corner;
-      next = λ j low high.
-          elim (cases_lt j n) [
-            | inl before ↦
-                let Here : Point → Type 0 = λ x. IsBest page (prediction_of places j) x in
-                let here : IsBest page (prediction_of places j) (point_at (places ++ p ∷ []) j) = subst Here (sym (point_at_before places p j (omega arith))) (f.next j low before) in
-                let Expected : Point → Type 0 = λ q. IsBest page q (point_at (places ++ p ∷ []) j) in
-                subst Expected (sym (prediction_before places p j low (omega arith))) here
-            | inr not_before ↦
-                let last : n ≡ j = omega arith in
-                let Expected : Point → Type 0 = λ q. IsBest page q (point_at (places ++ p ∷ []) n) in
-                let expected : IsBest page (prediction_of (places ++ p ∷ []) n) (point_at (places ++ p ∷ []) n) = subst Expected (sym (prediction_before places p n some (omega arith))) own in
-                let At : ℕ → Type 0 = λ m. IsBest page (prediction_of (places ++ p ∷ []) m) (point_at (places ++ p ∷ []) m) in
-                subst At last expected
-          ];
-    }
 
 -- the places of the first n marks
 pub record AreFollowed (page : Page) (n : ℕ) (places : List Point) : Type 0 where
@@ -70,44 +42,51 @@ abbrev pub AreMarksOf : Page → ℕ → Result (List Point) BorderFault → Typ
 AreMarksOf page n (Ok places) = AreFollowed page n places
 AreMarksOf page n (Err fault) = IsLackOf page fault
 
--- the corner comes first
-first_mark : (page : Page) (places : List Point) (found : Option Point) → length places ≡ 0 → IsCornerOf page found → AreMarksOf page 1 (with_found places NoCorner found)
-first_mark page places None all none = none
-first_mark page places (Some p) all corner =
-    let Corner : Point → Type 0 = λ x. IsCorner page x in
-    record {
-      all = omega (arith, length-append places (p ∷ []));
-      followed = λ h. followed_one page (places ++ p ∷ []) (subst Corner (sym (point_at_own places p 0 all)) corner);
-    }
+module _ (corner_is_followed : CornerIsFollowed) (followed_grows : FollowedGrows) where
+  -- a followed list with one place more
+  followed_push : (page : Page) (n : ℕ) (places : List Point) (p : Point) → 0 < n → length places ≡ n → IsFollowed page n places → IsBest page (prediction_of places n) p → IsFollowed page (n + 1) (places ++ p ∷ [])
+  followed_push page n places p some all f best =
+      let Own : Point → Type 0 = λ x. IsBest page (prediction_of places n) x in
+      followed_grows page n places (places ++ p ∷ []) some f (λ k before. point_at_before places p k (omega arith)) (subst Own (sym (point_at_own places p n all)) best)
 
--- and each other mark after those before it
-later_mark : (page : Page) (n : ℕ) (places : List Point) (found : Option Point) → 0 < n → n < 146 → AreFollowed page n places → IsBestOf page (prediction_of places n) found → AreMarksOf page (suc n) (with_found places (NoMark (side_of n) (index_of n) (prediction_of places n)) found)
-later_mark page n places None some few before none = record {
-  mark = n;
-  later = some;
-  number = few;
-  side_is = refl;
-  index_is = refl;
-  places = places;
-  followed = before.followed some;
-  predicted_is = refl;
-  none = none;
-}
-later_mark page n places (Some p) some few before best = record {
-  all = omega (arith, length-append places (p ∷ []), before.all);
-  followed = λ h. followed_push page n places p some before.all (before.followed some) best;
-}
+  -- the corner comes first
+  first_mark : (page : Page) (places : List Point) (found : Option Point) → length places ≡ 0 → IsCornerOf page found → AreMarksOf page 1 (with_found places NoCorner found)
+  first_mark page places None all none = none
+  first_mark page places (Some p) all corner =
+      let Corner : Point → Type 0 = λ x. IsCorner page x in
+      record {
+        all = omega (arith, length-append places (p ∷ []));
+        followed = λ h. corner_is_followed page (places ++ p ∷ []) (subst Corner (sym (point_at_own places p 0 all)) corner);
+      }
 
--- with one mark more
-marks_more : (page : Page) (n : ℕ) (marks : Result (List Point) BorderFault) → n < 146 → AreMarksOf page n marks → AreMarksOf page (suc n) (with_mark page n marks)
-marks_more page n (Err fault) few h = h
-marks_more page zero (Ok places) few h = first_mark page places (corner_of page) h.all (IsCornerOf-corner_of page)
-marks_more page (suc k) (Ok places) few h =
-    let later : (suc k == 0) ≡ false = ne_eqb (suc k) 0 (λ e. omega arith) in
-    rw later (later_mark page (suc k) places (best_of page (prediction_of places (suc k))) (omega arith) few h (IsBestOf-best_of page (prediction_of places (suc k))))
+  -- and each other mark after those before it
+  later_mark : (page : Page) (n : ℕ) (places : List Point) (found : Option Point) → 0 < n → n < 146 → AreFollowed page n places → IsBestOf page (prediction_of places n) found → AreMarksOf page (suc n) (with_found places (NoMark (side_of n) (index_of n) (prediction_of places n)) found)
+  later_mark page n places None some few before none = record {
+    mark = n;
+    later = some;
+    number = few;
+    side_is = refl;
+    index_is = refl;
+    places = places;
+    followed = before.followed some;
+    predicted_is = refl;
+    none = none;
+  }
+  later_mark page n places (Some p) some few before best = record {
+    all = omega (arith, length-append places (p ∷ []), before.all);
+    followed = λ h. let Followed : ℕ → Type 0 = λ m. IsFollowed page m (places ++ p ∷ []) in subst Followed (add-one n) (followed_push page n places p some before.all (before.followed some) best);
+  }
 
--- the marks that are found one after the other are followed
-pub AreMarksOf-marks_of : (page : Page) (n : ℕ) → n ≤ 146 → AreMarksOf page n (marks_of page n)
-unfolding marks_of
-AreMarksOf-marks_of page zero few = record { all = refl; followed = λ h. absurd (omega arith) }
-AreMarksOf-marks_of page (suc n) few = marks_more page n (marks_of page n) (omega arith) (AreMarksOf-marks_of page n (omega arith))
+  -- with one mark more
+  marks_more : (page : Page) (n : ℕ) (marks : Result (List Point) BorderFault) → n < 146 → AreMarksOf page n marks → AreMarksOf page (suc n) (with_mark page n marks)
+  marks_more page n (Err fault) few h = h
+  marks_more page zero (Ok places) few h = first_mark page places (corner_of page) h.all (IsCornerOf-corner_of page)
+  marks_more page (suc k) (Ok places) few h =
+      let later : (suc k == 0) ≡ false = ne_eqb (suc k) 0 (λ e. omega arith) in
+      rw later (later_mark page (suc k) places (best_of page (prediction_of places (suc k))) (omega arith) few h (IsBestOf-best_of page (prediction_of places (suc k))))
+
+  -- the marks that are found one after the other are followed
+  pub AreMarksOf-marks_of : (page : Page) (n : ℕ) → n ≤ 146 → AreMarksOf page n (marks_of page n)
+  unfolding marks_of
+  AreMarksOf-marks_of page zero few = record { all = refl; followed = λ h. absurd (omega arith) }
+  AreMarksOf-marks_of page (suc n) few = marks_more page n (marks_of page n) (omega arith) (AreMarksOf-marks_of page n (omega arith))

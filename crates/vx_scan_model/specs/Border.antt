@@ -1,6 +1,6 @@
 -- The border of a scan, as a function of its page: the corner, the best place near a predicted one
 -- and the list that is followed from mark to mark. This project's own rule.
-use Rattle.std.specs.Prelude.{ℕ, zero, suc, ◌*◌, ◌/◌, ◌%◌, ◌==◌, ◌&&◌, ◌++◌, ◌∷◌, [], Bool, nat_le, if◌then◌else◌, List, find, Option, Some, None, option_map, Result, Ok, Err, ℤ, pos, ◌+ℤ◌, ◌-ℤ◌, int_le, int_lt}
+use Rattle.std.specs.Prelude.{◌≡◌, ℕ, zero, suc, ◌*◌, ◌/◌, ◌%◌, ◌==◌, ◌&&◌, ◌++◌, ◌∷◌, [], Bool, nat_le, if◌then◌else◌, List, find, Option, Some, None, option_map, Result, Ok, Err, ℤ, pos, ◌+ℤ◌, ◌-ℤ◌, int_le, int_lt}
 use Rattle.std.specs.List.{range_with_len}
 use Rattle.vx_plane.specs.Plane.{Page}
 use Rattle.vx_grid.specs.declared.places.Point.{Point}
@@ -8,7 +8,7 @@ use Rattle.vx_grid.specs.Places.{point_at}
 use Rattle.vx_mark.specs.Mark.{deficit_of}
 use Rattle.vx_border.specs.declared.following.BorderFault.{BorderFault}
 use Rattle.vx_border.specs.declared.following.BorderFault.TheVariants.{NoCorner, NoMark, OpenBorder}
-use Rattle.vx_border.specs.Border.{side_of, index_of, prediction_of, end_of}
+use Rattle.vx_border.specs.Border.{side_of, index_of, prediction_of, end_of, IsBorderOf}
 
 -- whether a number lies between two others, both of them included
 abbrev pub is_between : ℤ → ℤ → ℤ → Bool
@@ -17,7 +17,8 @@ is_between low high z = int_le low z && int_le z high
 -- whether a place is accepted: its footprint lies in the frame and its deficit is at most 20
 abbrev pub is_accepted : Page → Point → Bool
 is_accepted page p =
-    ((int_le (pos 23) p.u && int_lt (p.u +ℤ pos 22) (pos page.width)) && (int_le (pos 11) p.v && int_lt (p.v +ℤ pos 10) (pos page.height)))
+    ((int_le (pos 23) p.u && int_lt (p.u +ℤ pos 22) (pos page.width))
+    && (int_le (pos 11) p.v && int_lt (p.v +ℤ pos 10) (pos page.height)))
     && nat_le (deficit_of page p) 20
 
 -- the places of the plane in the order of corners: by the sum of column and row, then by the row
@@ -28,7 +29,8 @@ corner_place n = record { u = pos (n / 128) -ℤ pos (n % 128); v = pos (n % 128
 -- rows 14 to 104
 abbrev pub may_be_corner : Page → ℕ → Bool
 may_be_corner page n =
-    (is_between (pos 26) (pos 116) (corner_place n).u && is_between (pos 14) (pos 104) (corner_place n).v) && is_accepted page (corner_place n)
+    (is_between (pos 26) (pos 116) (corner_place n).u && is_between (pos 14) (pos 104) (corner_place n).v)
+    && is_accepted page (corner_place n)
 
 -- the places of the region of corners have numbers below this
 unfoldable pub corner_numbers : ℕ
@@ -47,7 +49,8 @@ near_place predicted n =
 -- of its number
 abbrev pub may_be_best : Page → Point → ℕ → Bool
 may_be_best page predicted n =
-    (nat_le (n % 32) 20 && nat_le (n / 32 % 32) 12) && (is_accepted page (near_place predicted n) && deficit_of page (near_place predicted n) == n / 1024)
+    (nat_le (n % 32) 20 && nat_le (n / 32 % 32) 12)
+    && (is_accepted page (near_place predicted n) && deficit_of page (near_place predicted n) == n / 1024)
 
 -- the accepted places near a predicted one have numbers below this
 unfoldable pub near_numbers : ℕ
@@ -55,7 +58,8 @@ near_numbers = 21 * 1024
 
 -- the best place near a predicted one: the first such place
 unfoldable pub best_of : Page → Point → Option Point
-best_of page predicted = option_map (near_place predicted) (find (may_be_best page predicted) (range_with_len 0 near_numbers))
+best_of page predicted =
+    option_map (near_place predicted) (find (may_be_best page predicted) (range_with_len 0 near_numbers))
 
 -- where mark n is found, from the places of the marks before it
 abbrev pub found_of : Page → List Point → ℕ → Option Point
@@ -94,3 +98,13 @@ if_closed (Ok places) = if closes places then Ok places else Err (OpenBorder (en
 -- the border of a scan: the places of its 146 marks, or the first fault
 unfoldable pub border_of : Page → Result (List Point) BorderFault
 border_of page = if_closed (marks_of page 146)
+
+-- what is the border of a scan, or its first fault, is what the function gives: so there is one
+-- answer for each scan
+abbrev pub BorderIsGiven : Type 0
+BorderIsGiven =
+    (page : Page) (answer : Result (List Point) BorderFault) → IsBorderOf page answer → answer ≡ border_of page
+
+-- what the function gives is the border of a scan, or its first fault: so each scan has an answer
+abbrev pub EachScanHasItsBorder : Type 0
+EachScanHasItsBorder = (page : Page) → IsBorderOf page (border_of page)

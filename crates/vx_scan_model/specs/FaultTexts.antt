@@ -25,7 +25,8 @@ place_text p = signed_decimal p.u ++ 32 ∷ signed_decimal p.v
 -- a fault of the border: its number, its name and its values
 abbrev pub border_text : BorderFault → List ℕ
 border_text NoCorner = codes "2.1 NoCorner"
-border_text (NoMark side index predicted) = codes "2.2 NoMark " ++ side_name side ++ 32 ∷ decimal index ++ 32 ∷ place_text predicted
+border_text (NoMark side index predicted) =
+    codes "2.2 NoMark " ++ side_name side ++ 32 ∷ decimal index ++ 32 ∷ place_text predicted
 border_text (OpenBorder predicted found) = codes "2.3 OpenBorder " ++ place_text predicted ++ 32 ∷ place_text found
 
 -- a fault of the code: its number, its name and its values

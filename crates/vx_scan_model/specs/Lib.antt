@@ -2,3 +2,5 @@ pub mod Printed
 pub mod Border
 pub mod Reading
 pub mod FaultTexts
+pub mod Named
+pub mod Faults

@@ -3,8 +3,9 @@ use Rattle.std.specs.Prelude.{◌≡◌, ◌≤◌, ℕ, ◌-◌, Bool, Ok, Some
 use Rattle.vx_plane.specs.Plane.{Pixels, Page, page_of}
 use Rattle.vx_grid.specs.declared.kind.Kind.{Kind}
 use Rattle.vx_election.specs.declared.election.Election.{Election}
+use Rattle.vx_election.specs.Valid.{IsValid}
 use Rattle.vx_code.specs.declared.code.PageCode.{PageCode}
-use Rattle.vx_code.specs.Code.{tag_of, boxes_of}
+use Rattle.vx_code.specs.Code.{tag_of, boxes_of, IsInRange}
 use Rattle.vx_layout.specs.declared.pages.PagePlan.{PagePlan}
 use Rattle.vx_layout.specs.declared.plan.CardPlan.{CardPlan}
 use Rattle.vx_layout.specs.Plan.{plan_of}
@@ -43,3 +44,16 @@ print_of_page election plan printed = print_of plan (boxes_of (code_of election 
 -- the printed page as a bitmap: 1700 by 2200 pixels
 abbrev pub bitmap_of : Election → PagePlan → PrintedPage → Page
 bitmap_of election plan printed = page_of 1700 2200 (print_of_page election plan printed)
+
+-- a page of a card's plan is a printed page of that number, for each kind of ballot
+abbrev pub PagesArePlanned : Type 0
+PagesArePlanned =
+    (election : Election) (card : ℕ) (plan : CardPlan) (i : ℕ) (page : PagePlan) (kind : Kind) (test : Bool)
+    → IsValid election → plan_of election card ≡ Ok plan → slice_get plan.pages i ≡ Some page
+    → IsPlanned election (record { card = card; page = page.page; kind = kind; test = test }) page
+
+-- a printed page is planned with its number, and its code can be printed
+abbrev pub PrintedHaveCodes : Type 0
+PrintedHaveCodes =
+    (election : Election) (printed : PrintedPage) (plan : PagePlan) → IsValid election
+    → IsPlanned election printed plan → (plan.page ≡ printed.page) × IsInRange (code_of election printed)

@@ -1,31 +1,30 @@
 -- The reading of a scan of an election's page, or its first fault. This project's own rule.
-use Rattle.std.specs.Prelude.{◌≡◌, ◌<◌, ℕ, ◌-◌, ◌==◌, ◌&&◌, Bool, nat_le, if◌then◌else◌, List, map, length, slice_get, slice_index_or, Option, Some, None, Result, Ok, Err}
+use Rattle.std.specs.Prelude.{ℕ, ◌&&◌, Bool, nat_le, if◌then◌else◌, List, map, Result, Ok, Err}
 use Rattle.std.specs.List.{range_with_len}
 use Rattle.vx_plane.specs.Plane.{Page}
 use Rattle.vx_grid.specs.declared.places.Point.{Point}
 use Rattle.vx_grid.specs.declared.state.State.{State}
 use Rattle.vx_grid.specs.declared.state.Thresholds.{Thresholds}
 use Rattle.vx_election.specs.declared.election.Election.{Election}
-use Rattle.vx_styles.specs.Cards.{cards_of}
 use Rattle.vx_layout.specs.declared.bubbles.Bubble.{Bubble}
 use Rattle.vx_layout.specs.declared.pages.PagePlan.{PagePlan}
-use Rattle.vx_layout.specs.declared.plan.CardPlan.{CardPlan}
-use Rattle.vx_layout.specs.declared.fault.LayoutFault.{LayoutFault}
-use Rattle.vx_layout.specs.Plan.{plan_of}
 use Rattle.vx_code.specs.declared.code.PageCode.{PageCode}
 use Rattle.vx_code.specs.declared.code.CodeFault.{CodeFault}
-use Rattle.vx_code.specs.Code.{tag_of, place_of_box, code_shown_by}
+use Rattle.vx_code.specs.Code.{place_of_box, code_shown_by}
 use Rattle.vx_border.specs.declared.following.BorderFault.{BorderFault}
 use Rattle.vx_fit.specs.Fit.{place_of}
 use Rattle.vx_score.specs.Score.{score_of, code_count_of, state_of}
 use Rattle.vx_scan_model.specs.declared.reading.PageReading.{PageReading}
 use Rattle.vx_scan_model.specs.declared.fault.PageFault.{PageFault}
-use Rattle.vx_scan_model.specs.declared.fault.PageFault.TheVariants.{FrameSize, Border, Code, OtherElection, NoCard, NoPage, OutOfMemory}
+use Rattle.vx_scan_model.specs.declared.fault.PageFault.TheVariants.{FrameSize, Border, Code}
+use Rattle.vx_base.specs.Results.{◌>>=◌}
 use Rattle.vx_scan_model.specs.Border.{border_of}
+pub use Rattle.vx_scan_model.specs.Named.{named_plan}
 
 -- an allowed frame: 1600 to 2000 columns and 2100 to 2400 rows
 abbrev pub is_allowed : Page → Bool
-is_allowed page = (nat_le 1600 page.width && nat_le page.width 2000) && (nat_le 2100 page.height && nat_le page.height 2400)
+is_allowed page =
+    (nat_le 1600 page.width && nat_le page.width 2000) && (nat_le 2100 page.height && nat_le page.height 2400)
 
 -- the count of box n of the page code: the dark pixels of its window at its grid place
 abbrev pub box_count_of : Page → List Point → ℕ → ℕ
@@ -57,26 +56,11 @@ reading_on election page border code plan = record {
   states = states_of election.thresholds (scores_of page border plan.bubbles);
 }
 
--- the page of a plan with a number, from 1
-abbrev pub page_numbered : CardPlan → ℕ → Option PagePlan
-page_numbered plan number = if number == 0 then None else slice_get plan.pages (number - 1)
-
--- the reading on a page of the card, if it has the page of the code
-abbrev pub reading_unless : Election → Page → List Point → PageCode → Option PagePlan → Result PageReading PageFault
-reading_unless election page border code None = Err (NoPage code.page)
-reading_unless election page border code (Some plan) = Ok (reading_on election page border code plan)
-
--- the reading on the card of the code, if there is one
-abbrev pub reading_on_card : Election → Page → List Point → PageCode → Result CardPlan LayoutFault → Result PageReading PageFault
-reading_on_card election page border code (Err fault) = Err (NoCard code.card)
-reading_on_card election page border code (Ok plan) = reading_unless election page border code (page_numbered plan code.page)
-
--- the reading of a page with a code, if it is of this election
+-- the reading of a page with a code, if it names a page
 abbrev pub reading_of_code : Election → Page → List Point → Result PageCode CodeFault → Result PageReading PageFault
 reading_of_code election page border (Err fault) = Err (Code fault)
 reading_of_code election page border (Ok code) =
-    if code.tag == tag_of election.digest then reading_on_card election page border code (plan_of election code.card)
-    else Err (OtherElection code.tag)
+    named_plan election code >>= (λ plan. Ok (reading_on election page border code plan))
 
 -- the reading of a page with a border
 abbrev pub reading_of_border : Election → Page → Result (List Point) BorderFault → Result PageReading PageFault
@@ -88,19 +72,3 @@ reading_of_border election page (Ok border) = reading_of_code election page bord
 unfoldable pub reading_of : Election → Page → Result PageReading PageFault
 reading_of election page =
     if is_allowed page then reading_of_border election page (border_of page) else Err (FrameSize page.width page.height)
-
--- the plans of all cards of an election, in order
-pub record ArePlansOf (election : Election) (plans : List CardPlan) : Type 0 where
-  pub all : length plans ≡ length (cards_of election)
-  pub each : (card : ℕ) (d : CardPlan) → card < length plans → plan_of election card ≡ Ok (slice_index_or plans card d)
-
--- what a call returned is what the definition says, or memory ran out
-abbrev pub Answers : Result PageReading PageFault → Result PageReading PageFault → Type 0
-Answers (Ok reading) answer = answer ≡ Ok reading
-Answers (Err (FrameSize width height)) answer = answer ≡ Err (FrameSize width height)
-Answers (Err (Border fault)) answer = answer ≡ Err (Border fault)
-Answers (Err (Code fault)) answer = answer ≡ Err (Code fault)
-Answers (Err (OtherElection tag)) answer = answer ≡ Err (OtherElection tag)
-Answers (Err (NoCard card)) answer = answer ≡ Err (NoCard card)
-Answers (Err (NoPage page)) answer = answer ≡ Err (NoPage page)
-Answers (Err OutOfMemory) answer = Unit {0}

@@ -2,10 +2,10 @@
 //! that they answer.
 //!
 //! `specs/Printed.antt` says what a printed page is, `specs/Border.antt` what the border of a scan
-//! is, `specs/Reading.antt` what its reading is, or its first fault, and `specs/FaultTexts.antt` how
-//! a fault is printed. Grid places stand in `specs/Fit.antt` of `vx_fit`, scores and states in
-//! `specs/Score.antt` of `vx_score`, deficits in `specs/Mark.antt` of `vx_mark`: all of them are
-//! counts of fixed rectangles of `vx_plane`.
+//! is, `specs/Named.antt` which page a code names, `specs/Reading.antt` what a scan's reading is, or
+//! its first fault, and `specs/FaultTexts.antt` how a fault is printed. Grid places stand in
+//! `specs/Fit.antt` of `vx_fit`, scores and states in `specs/Score.antt` of `vx_score`, deficits in
+//! `specs/Mark.antt` of `vx_mark`: all of them are counts of fixed rectangles of `vx_plane`.
 //!
 //! The border is a function of the page here and a relation in `vx_border`; that both say the same
 //! are the laws `a_border_is_the_border` and `every_scan_has_its_border`.
@@ -14,11 +14,9 @@
 mod fault;
 mod laws;
 mod reading;
-mod scores;
 #[cfg(test)]
 mod tests;
 
 pub use fault::PageFault;
-pub use laws::{a_border_is_the_border, every_scan_has_its_border};
-pub use reading::PageReading;
-pub use scores::Scores;
+pub use laws::{a_border_is_the_border, every_scan_has_its_border, planned_pages_can_be_printed};
+pub use reading::{PageReading, Scores};

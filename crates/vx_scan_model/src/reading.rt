@@ -1,7 +1,10 @@
 use crate::fault::PageFault;
-use crate::scores::Scores;
+use vx_base::ListOf;
 use vx_code::PageCode;
 use vx_grid::{Border, States};
+
+/// Scores of bubbles, in their order.
+pub type Scores = ListOf<u32>;
 
 /// What a scan of a page is read as.
 #[derive(Debug, Drop)]

@@ -1,4 +1,4 @@
-use crate::{PageFault, Scores};
+use crate::PageFault;
 use std::test::Fail;
 use vx_border::BorderFault;
 use vx_code::CodeFault;
@@ -39,17 +39,5 @@ fn faults_have_their_texts(rt: HostRuntime) -> Result<(), Fail> {
     for (fault, text) in texts {
         assert_eq!(rt; fault.to_string(rt.alloc())?.as_str(), text);
     }
-    Ok(())
-}
-
-#[test]
-fn scores_stand_in_their_order(rt: HostRuntime) -> Result<(), Fail> {
-    let mut scores = Scores::new(rt.alloc());
-    for score in [624, 0, 31] {
-        scores.push(score)?;
-    }
-    let again = Scores::from_vec(scores.into_vec());
-    assert_eq!(rt; again.len(), 3);
-    assert_eq!(rt; again.as_slice(), [624, 0, 31].as_slice());
     Ok(())
 }

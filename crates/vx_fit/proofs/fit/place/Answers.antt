@@ -15,7 +15,7 @@ same_point u v x y e f =
 
 pub between-requires-clause-a : goal.between-requires-clause-a
 between-requires-clause-a c =
-    let p : IsPointWithin 9000 c.at-left.result = c.requires.border c.left_mark.result c.at-left.result c.at-left.ensures.place in
+    let p : IsPointWithin 9000 c.at-left.result = c.requires.border _ c.at-left.result c.at-left.ensures.place in
     same_within c.at-left.result.u _ (omega (arith, ints, p.u.low, p.u.high)) p.u
 
 pub between-requires-clause-b : goal.between-requires-clause-b
@@ -25,7 +25,7 @@ between-requires-clause-b c =
 
 pub between-requires-2-clause-a : goal.between-requires-2-clause-a
 between-requires-2-clause-a c =
-    let p : IsPointWithin 9000 c.at-left.result = c.requires.border c.left_mark.result c.at-left.result c.at-left.ensures.place in
+    let p : IsPointWithin 9000 c.at-left.result = c.requires.border _ c.at-left.result c.at-left.ensures.place in
     same_within c.at-left.result.v _ (omega (arith, ints, p.v.low, p.v.high)) p.v
 
 pub between-requires-2-clause-b : goal.between-requires-2-clause-b

@@ -1,7 +1,7 @@
 use Rattle.std.proofs.Common.{◌<◌, ◌≤◌, ◌-◌, List, length, get_or, ap, ◌∙◌, sym, arith}
 use Rattle.vx_layout.specs.declared.pages.PagePlan.{PagePlan}
 use Rattle.vx_layout.specs.declared.plan.CardPlan.{CardPlan}
-use Rattle.vx_page.specs.Named.{plan_unless}
+use Rattle.vx_scan_model.specs.Named.{plan_unless}
 use Rattle.vx_page.proofs.Plans.{named-other, named-no_card, named-on_card_plan, numbered-zero, numbered-past, numbered-there}
 use Rattle.vx_page.proofs.named.find_plan.Goals as goal
 

@@ -1,0 +1,8 @@
+use Rattle.vx_scan_model.proofs.Printed.{pages-planned, printed-codes}
+use Rattle.vx_scan_model.proofs.laws.planned_pages_can_be_printed.Goals as goal
+
+pub returns : goal.returns
+returns c = record {
+  planned = pages-planned c.plans_are_numbered.ensures;
+  codes = printed-codes c.plans_are_numbered.ensures c.tags_are_in_range.ensures;
+}
