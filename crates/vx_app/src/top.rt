@@ -29,8 +29,10 @@ fn obey<I: Inputs, S: Sink, K: Keeper>(
         (records : List (List ℕ)) → (uses_keeper command ≡ true → K.held _keeper.old ≡ Some records) →
         IsDone (outcome_of command files records)
         (S.taken out.old) (S.taken out.new) (K.held _keeper.old) (K.held _keeper.new) result }
-    ensures nothing_written { writes_nothing (takes_first command) result ≡ true → S.taken out.new ≡ S.taken out.old }
-    ensures inputs { LeavesInputs (I.held inputs.old) (I.held inputs.new) (I.faults inputs.old) (I.faults inputs.new) result }
+    ensures nothing_written { writes_nothing (takes_first command) result ≡ true →
+        S.taken out.new ≡ S.taken out.old }
+    ensures inputs { LeavesInputs (I.held inputs.old) (I.held inputs.new)
+        (I.faults inputs.old) (I.faults inputs.new) result }
     ensures sink { LeavesSink (S.faults out.old) (S.faults out.new) result }
     ensures keeper { LeavesKeeper (K.faults _keeper.old) (K.faults _keeper.new) result }
     ensures keeper_held { K.held _keeper.new ≡ K.held _keeper.old }
@@ -64,9 +66,11 @@ pub fn run<R: Threads + Sync, I: Inputs, S: Sink, K: Keeper>(
         (S.taken out.old) (S.taken out.new) (K.held keeper.old) (K.held keeper.new) (answer_of result) }
     // What halts the command before its first text comes before anything is written.
     ensures nothing_written { (command : CommandOf) → Spells words.now command →
-        writes_nothing (takes_first command) (answer_of result) ≡ true → S.taken out.new ≡ S.taken out.old }
+        writes_nothing (takes_first command) (answer_of result) ≡ true →
+        S.taken out.new ≡ S.taken out.old }
     ensures usage_writes_nothing { result ≡ Status.Usage → S.taken out.new ≡ S.taken out.old }
-    ensures inputs { LeavesInputs (I.held inputs.old) (I.held inputs.new) (I.faults inputs.old) (I.faults inputs.new) (answer_of result) }
+    ensures inputs { LeavesInputs (I.held inputs.old) (I.held inputs.new)
+        (I.faults inputs.old) (I.faults inputs.new) (answer_of result) }
     ensures sink { LeavesSink (S.faults out.old) (S.faults out.new) (answer_of result) }
     ensures keeper { LeavesKeeper (K.faults keeper.old) (K.faults keeper.new) (answer_of result) }
     ensures keeper_held { K.held keeper.new ≡ K.held keeper.old }

@@ -8,8 +8,8 @@ use Rattle.vx_base.specs.Refusals.{Gives}
 use Rattle.vx_io.specs.Outside.{Took, TookFront}
 use Rattle.vx_command.specs.declared.halt.Halt.{Halt}
 use Rattle.vx_command.specs.declared.halt.Halt.TheVariants.{NoInput, TooLong, Election, Layout, Pbm, ReadFault, WriteFault, KeeperFault, NoMemory}
-use Rattle.vx_command.specs.Acts.{Act, Take, ReadJournal, Write, Append, Outcome, text_of, records_of, work, writing, halted, after, goes_on, taking}
-use Rattle.vx_command.specs.Done.{Keeps, BreaksAt, BreaksOff, IsWhole, IsDone, ComesTo, WritesTo}
+use Rattle.vx_command.specs.Acts.{Act, Answer, Take, ReadJournal, Write, Append, Outcome, text_of, records_of, work, writing, halted, after, goes_on, taking}
+use Rattle.vx_command.specs.Done.{Taken, Held, BreaksAt, BreaksOff, IsWhole, IsDone, ComesTo, WritesTo}
 use Rattle.vx_command.specs.Steps.{is_no_memory, GivesTaking}
 
 -- what has grown at its end, as a sink's bytes and a keeper's records do; whether it tells doesn't change
@@ -53,7 +53,7 @@ whole_of (inl p) = p
 whole_of (inr never) = absurd never
 
 -- acts that are done, and then what is done of the rest
-pub done_then : (acts : List Act) (rest : Outcome) (taken taken_now taken_then : Option (List ℕ)) (held held_now held_then : Option (List (List ℕ))) (answer : Result (Unit {0}) Halt) → IsDone (work acts) taken taken_now held held_now (Ok tt) → IsDone rest taken_now taken_then held_now held_then answer → IsDone (after acts rest) taken taken_then held held_then answer
+pub done_then : (acts : List Act) (rest : Outcome) (taken taken_now taken_then : Taken) (held held_now held_then : Held) (answer : Answer) → IsDone (work acts) taken taken_now held held_now (Ok tt) → IsDone rest taken_now taken_then held_now held_then answer → IsDone (after acts rest) taken taken_then held held_then answer
 done_then acts rest taken taken_now taken_then held held_now held_then answer first second =
     let whole = whole_of first.ends in
     record {
@@ -81,7 +81,7 @@ broke_of cause left text records (inl whole) = let never = whole.same_answer in 
 broke_of cause left text records (inr broke) = broke
 
 -- acts that broke off break the command off
-pub broken_then : (acts : List Act) (rest : Outcome) (taken taken_now : Option (List ℕ)) (held held_now : Option (List (List ℕ))) (cause : Halt) → IsDone (work acts) taken taken_now held held_now (Err cause) → IsDone (after acts rest) taken taken_now held held_now (Err cause)
+pub broken_then : (acts : List Act) (rest : Outcome) (taken taken_now : Taken) (held held_now : Held) (cause : Halt) → IsDone (work acts) taken taken_now held held_now (Err cause) → IsDone (after acts rest) taken taken_now held held_now (Err cause)
 broken_then acts rest taken taken_now held held_now cause first = record {
   done = first.done;
   left = first.left ++ rest.acts;
@@ -94,7 +94,7 @@ broken_then acts rest taken taken_now held held_now cause first = record {
 }
 
 -- acts that leave nothing behind are done
-nothing_left : (done : List Act) (ends : Result (Unit {0}) Halt) (taken : Option (List ℕ)) (held : Option (List (List ℕ))) → flat_map text_of done ++ [] ≡ [] → flat_map records_of done ++ [] ≡ [] → IsDone (record { acts = done; ends = ends }) taken taken held held ends
+nothing_left : (done : List Act) (ends : Answer) (taken : Taken) (held : Held) → flat_map text_of done ++ [] ≡ [] → flat_map records_of done ++ [] ≡ [] → IsDone (record { acts = done; ends = ends }) taken taken held held ends
 nothing_left done ends taken held no_text no_records =
     let Took : List ℕ → Type 0 = λ s. Grew taken taken s in
     let Kept : List (List ℕ) → Type 0 = λ s. Grew held held s in
@@ -110,15 +110,15 @@ nothing_left done ends taken held no_text no_records =
     }
 
 -- a command that ends here is done
-pub ended_here : (ends : Result (Unit {0}) Halt) (taken : Option (List ℕ)) (held : Option (List (List ℕ))) → IsDone (record { acts = []; ends = ends }) taken taken held held ends
+pub ended_here : (ends : Answer) (taken : Taken) (held : Held) → IsDone (record { acts = []; ends = ends }) taken taken held held ends
 ended_here ends taken held = nothing_left [] ends taken held refl refl
 
 -- an input that is taken
-took_input : (word : ℕ) (taken : Option (List ℕ)) (held : Option (List (List ℕ))) → IsDone (work (Take word ∷ [])) taken taken held held (Ok tt)
+took_input : (word : ℕ) (taken : Taken) (held : Held) → IsDone (work (Take word ∷ [])) taken taken held held (Ok tt)
 took_input word taken held = nothing_left (Take word ∷ []) (Ok tt) taken held refl refl
 
 -- a command that broke off before its first act
-broke_here : (outcome : Outcome) (taken : Option (List ℕ)) (held : Option (List (List ℕ))) (cause : Halt) → BreaksAt cause outcome.acts [] [] → IsDone outcome taken taken held held (Err cause)
+broke_here : (outcome : Outcome) (taken : Taken) (held : Held) (cause : Halt) → BreaksAt cause outcome.acts [] [] → IsDone outcome taken taken held held (Err cause)
 broke_here outcome taken held cause broke = record {
   done = [];
   left = outcome.acts;
@@ -131,11 +131,11 @@ broke_here outcome taken held cause broke = record {
 }
 
 -- memory may run out before any act
-pub no_memory_here : (outcome : Outcome) (taken : Option (List ℕ)) (held : Option (List (List ℕ))) → IsDone outcome taken taken held held (Err NoMemory)
+pub no_memory_here : (outcome : Outcome) (taken : Taken) (held : Held) → IsDone outcome taken taken held held (Err NoMemory)
 no_memory_here outcome taken held = broke_here outcome taken held NoMemory (refl, refl)
 
 -- a text that is written whole
-pub wrote_text : (text : List ℕ) (taken taken_now : Option (List ℕ)) (held : Option (List (List ℕ))) → Took taken taken_now text → IsDone (writing text) taken taken_now held held (Ok tt)
+pub wrote_text : (text : List ℕ) (taken taken_now : Taken) (held : Held) → Took taken taken_now text → IsDone (writing text) taken taken_now held held (Ok tt)
 wrote_text text taken taken_now held took =
     let Whole : List ℕ → Type 0 = λ s. Took taken taken_now s in
     record {
@@ -150,7 +150,7 @@ wrote_text text taken taken_now held took =
     }
 
 -- one of which a front is written
-pub wrote_front : (text : List ℕ) (taken taken_now : Option (List ℕ)) (held : Option (List (List ℕ))) → TookFront taken taken_now text → IsDone (writing text) taken taken_now held held (Err WriteFault)
+pub wrote_front : (text : List ℕ) (taken taken_now : Taken) (held : Held) → TookFront taken taken_now text → IsDone (writing text) taken taken_now held held (Err WriteFault)
 wrote_front text taken taken_now held front = record {
   done = [];
   left = Write text ∷ [];
@@ -164,34 +164,34 @@ wrote_front text taken taken_now held front = record {
 
 module _ {A : Type 0} (word : ℕ) (defined : Result A Halt) (rest : A → Outcome) where
   -- a step that took its input and gives something
-  pub comes_taking : (given : A) (taken : Option (List ℕ)) → defined ≡ Ok given → WritesTo (taking word defined rest) (rest given) taken taken
+  pub comes_taking : (given : A) (taken : Taken) → defined ≡ Ok given → WritesTo (taking word defined rest) (rest given) taken taken
   comes_taking given taken is held taken_then held_then answer done =
       let Done : Result A Halt → Type 0 = λ result. IsDone (goes_on result rest) taken taken_then held held_then answer in
       done_then (Take word ∷ []) (goes_on defined rest) taken taken taken_then held held held_then answer (took_input word taken held) (subst Done (sym is) done)
 
-  halts_taking : (cause : Halt) (taken : Option (List ℕ)) (held : Option (List (List ℕ))) → (defined ≡ Err cause) ⊎ BreaksAt cause (Take word ∷ []) [] [] → IsDone (taking word defined rest) taken taken held held (Err cause)
+  halts_taking : (cause : Halt) (taken : Taken) (held : Held) → (defined ≡ Err cause) ⊎ BreaksAt cause (Take word ∷ []) [] [] → IsDone (taking word defined rest) taken taken held held (Err cause)
   halts_taking cause taken held (inl is) =
       let Done : Result A Halt → Type 0 = λ result. IsDone (goes_on result rest) taken taken held held (Err cause) in
       done_then (Take word ∷ []) (goes_on defined rest) taken taken taken held held held (Err cause) (took_input word taken held) (subst Done (sym is) (ended_here (Err cause) taken held))
   halts_taking cause taken held (inr broke) =
       broke_here (taking word defined rest) taken held cause (breaks_longer cause (Take word ∷ []) (goes_on defined rest).acts [] [] broke)
 
-  pub halted_taking : (cause : Halt) (taken : Option (List ℕ)) (held : Option (List (List ℕ))) → GivesTaking word (Err cause) defined → IsDone (taking word defined rest) taken taken held held (Err cause)
+  pub halted_taking : (cause : Halt) (taken : Taken) (held : Held) → GivesTaking word (Err cause) defined → IsDone (taking word defined rest) taken taken held held (Err cause)
   halted_taking cause taken held gives = halts_taking cause taken held gives
 
 module _ {A : Type 0} (defined : Result A Halt) (rest : A → Outcome) where
   -- a step that gives something
-  pub comes_on : (given : A) (taken : Option (List ℕ)) → defined ≡ Ok given → WritesTo (goes_on defined rest) (rest given) taken taken
+  pub comes_on : (given : A) (taken : Taken) → defined ≡ Ok given → WritesTo (goes_on defined rest) (rest given) taken taken
   comes_on given taken is held taken_then held_then answer done =
       let Done : Result A Halt → Type 0 = λ result. IsDone (goes_on result rest) taken taken_then held held_then answer in
       subst Done (sym is) done
 
-  halts_so : (cause : Halt) (taken : Option (List ℕ)) (held : Option (List (List ℕ))) → defined ≡ Err cause → IsDone (goes_on defined rest) taken taken held held (Err cause)
+  halts_so : (cause : Halt) (taken : Taken) (held : Held) → defined ≡ Err cause → IsDone (goes_on defined rest) taken taken held held (Err cause)
   halts_so cause taken held is =
       let Done : Result A Halt → Type 0 = λ result. IsDone (goes_on result rest) taken taken held held (Err cause) in
       subst Done (sym is) (ended_here (Err cause) taken held)
 
   -- a step that gives nothing
-  pub halted_here : (cause : Halt) (taken : Option (List ℕ)) (held : Option (List (List ℕ))) → Gives {A = A} is_no_memory (Err cause) defined → IsDone (goes_on defined rest) taken taken held held (Err cause)
+  pub halted_here : (cause : Halt) (taken : Taken) (held : Held) → Gives {A = A} is_no_memory (Err cause) defined → IsDone (goes_on defined rest) taken taken held held (Err cause)
   halted_here NoMemory taken held gives = no_memory_here (goes_on defined rest) taken held
   halted_here cause taken held gives = halts_so cause taken held gives

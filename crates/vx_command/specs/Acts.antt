@@ -10,10 +10,14 @@ pub data Act : Type 0 where
   Write : List ℕ → Act
   Append : List ℕ → Act
 
+-- what a command answers: that it did its work, or why it halts
+abbrev pub Answer : Type 0
+Answer = Result (Unit {0}) Halt
+
 -- the acts of a command, and how it ends behind the last of them
 pub record Outcome : Type 0 where
   pub acts : List Act
-  pub ends : Result (Unit {0}) Halt
+  pub ends : Answer
 
 -- the text that an act writes
 abbrev pub text_of : Act → List ℕ
@@ -50,10 +54,11 @@ abbrev pub goes_on : {A : Type 0} → Result A Halt → (A → Outcome) → Outc
 goes_on (Err cause) rest = halted cause
 goes_on (Ok given) rest = rest given
 
--- the bytes of the input that a word names, of at most so many bytes, or why a command that needs them halts
+-- the bytes of the input of a word, of at most so many bytes, or why a command that needs them halts
 abbrev pub input_of : ℕ → ℕ → Option (List ℕ) → Result (List ℕ) Halt
 input_of word limit None = Err (halt.NoInput word)
-input_of word limit (Some bytes) = if nat_lt limit (length bytes) then Err (halt.TooLong word (length bytes)) else Ok bytes
+input_of word limit (Some bytes) =
+    if nat_lt limit (length bytes) then Err (halt.TooLong word (length bytes)) else Ok bytes
 
 -- a command that takes the input of a word and goes on with what that gives it
 abbrev pub taking : {A : Type 0} → ℕ → Result A Halt → (A → Outcome) → Outcome

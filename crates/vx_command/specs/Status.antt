@@ -1,17 +1,17 @@
 -- The status of a command's answer, its number, and what the program says of it.
-use Rattle.std.specs.Prelude.{ℕ, List, [], ◌++◌, ◌∷◌, codes, Result}
+use Rattle.std.specs.Prelude.{ℕ, List, [], ◌++◌, ◌∷◌, codes}
 use Rattle.std.specs.Prelude as std
 use Rattle.std.specs.Fmt.{decimal}
 use Rattle.vx_election.specs.FaultTexts.{text_of}
 use Rattle.vx_layout.specs.FaultTexts.{layout_fault_text}
 use Rattle.vx_pbm.specs.FaultTexts.{pbm_fault_text}
-use Rattle.vx_command.specs.declared.halt.Halt.{Halt}
 use Rattle.vx_command.specs.declared.halt.Halt.TheVariants as halt
 use Rattle.vx_command.specs.declared.status.Status.{Status}
 use Rattle.vx_command.specs.declared.status.Status.TheVariants.{Ok, Usage, NoInput, TooLong, Election, Layout, Pbm, ReadFault, WriteFault, KeeperFault, NoMemory}
+use Rattle.vx_command.specs.Acts.{Answer}
 
 -- the status that an answer ends the program with
-abbrev pub status_of : Result (Unit {0}) Halt → Status
+abbrev pub status_of : Answer → Status
 status_of (std.Ok done) = Ok
 status_of (std.Err (halt.NoInput word)) = NoInput word
 status_of (std.Err (halt.TooLong word size)) = TooLong word size
@@ -24,7 +24,7 @@ status_of (std.Err halt.KeeperFault) = KeeperFault
 status_of (std.Err halt.NoMemory) = NoMemory
 
 -- the answer behind a status; words that are no command did nothing and met no fault
-abbrev pub answer_of : Status → Result (Unit {0}) Halt
+abbrev pub answer_of : Status → Answer
 answer_of Ok = std.Ok tt
 answer_of Usage = std.Ok tt
 answer_of (NoInput word) = std.Err (halt.NoInput word)

@@ -100,6 +100,7 @@ impl fmt::Display for Status {
 
 /// What the program writes to standard error as it ends with a status: a line, but nothing where the
 /// command did its work.
+#[derive(Clone, Copy)]
 pub struct Message<'s>(pub &'s Status);
 
 impl<'s> fmt::Display for Message<'s> {

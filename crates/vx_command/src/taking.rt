@@ -25,11 +25,13 @@ pub fn take_input<I: Inputs>(
     word: u32,
     limit: u64,
 ) -> Result<Bytes, Halt>
-    ensures told { ForSome (I.held inputs.old) (λ files. GivesTaking word result (input_of word limit (files name.now))) }
+    ensures told { ForSome (I.held inputs.old) (λ files.
+        GivesTaking word result (input_of word limit (files name.now))) }
     // The same of inputs that don't tell what they hold.
     ensures within { IfOk result (λ bytes. length bytes ≤ limit) }
     ensures halts { IfErr result (IsTakingHalt word) }
-    ensures inputs { TouchesInputs (I.held inputs.old) (I.held inputs.new) (I.faults inputs.old) (I.faults inputs.new) result }
+    ensures inputs { TouchesInputs (I.held inputs.old) (I.held inputs.new)
+        (I.faults inputs.old) (I.faults inputs.new) result }
 {
     match take(alloc, inputs, name, limit) {
         Ok(bytes) => Ok(bytes),
@@ -55,9 +57,11 @@ pub fn take_election<I: Inputs>(
     inputs: &mut I,
     name: &str,
 ) -> Result<Election, Halt>
-    ensures told { ForSome (I.held inputs.old) (λ files. GivesTaking 1 result (election_in (files name.now))) }
+    ensures told { ForSome (I.held inputs.old) (λ files.
+        GivesTaking 1 result (election_in (files name.now))) }
     ensures valid { IfOk result IsValid }
-    ensures inputs { TouchesInputs (I.held inputs.old) (I.held inputs.new) (I.faults inputs.old) (I.faults inputs.new) result }
+    ensures inputs { TouchesInputs (I.held inputs.old) (I.held inputs.new)
+        (I.faults inputs.old) (I.faults inputs.new) result }
 {
     let bytes = take_input(alloc, inputs, name, 1, INPUT_LIMIT)?;
     read_bytes(alloc, bytes.as_slice())

@@ -5,7 +5,7 @@ use Rattle.vx_election.specs.declared.election.Election.{Election}
 use Rattle.vx_layout.specs.declared.pages.PagePlan.{PagePlan}
 use Rattle.vx_command.specs.declared.halt.Halt.{Halt}
 use Rattle.vx_command.specs.Acts.{Write, Outcome, writing}
-use Rattle.vx_command.specs.Done.{IsDone, IsWritten, WritesTo}
+use Rattle.vx_command.specs.Done.{Taken, IsDone, IsWritten, WritesTo}
 use Rattle.vx_command.specs.Laws.{ActLaws}
 use Rattle.vx_command_print.specs.declared.ballot.Ballot.{Ballot}
 use Rattle.vx_command_print.specs.Outcome.{page_text, pages_outcome}
@@ -17,7 +17,7 @@ module _ (laws : ActLaws) (election : Election) (ballot : Ballot) (plans : List 
       ap (pages_outcome election ballot) (drop_more plans i plan inside ∙ ap (λ (p : PagePlan). p ∷ drop (i + 1) plans) (sym is))
 
   -- one page more is written
-  pub page_written : (plan : PagePlan) (a b c : Option (List ℕ)) → i < length plans → plan ≡ get_or plans i plan → WritesTo (pages_outcome election ballot plans) (pages_outcome election ballot (drop i plans)) a b → IsWritten (writing (page_text election ballot plan)) b c (Ok tt) → WritesTo (pages_outcome election ballot plans) (pages_outcome election ballot (drop (i + 1) plans)) a c
+  pub page_written : (plan : PagePlan) (a b c : Taken) → i < length plans → plan ≡ get_or plans i plan → WritesTo (pages_outcome election ballot plans) (pages_outcome election ballot (drop i plans)) a b → IsWritten (writing (page_text election ballot plan)) b c (Ok tt) → WritesTo (pages_outcome election ballot plans) (pages_outcome election ballot (drop (i + 1) plans)) a c
   page_written plan a b c inside is before written held taken_then held_then answer done =
       let Done : Outcome → Type 0 = λ outcome. IsDone outcome b taken_then held held_then answer in
       before held taken_then held_then answer
@@ -25,7 +25,7 @@ module _ (laws : ActLaws) (election : Election) (ballot : Ballot) (plans : List 
       (laws.done (Write (page_text election ballot plan) ∷ []) (pages_outcome election ballot (drop (i + 1) plans)) b c held held (written held) taken_then held_then answer done))
 
   -- a page isn't written whole
-  pub page_broke_off : (plan : PagePlan) (a b c : Option (List ℕ)) (cause : Halt) → i < length plans → plan ≡ get_or plans i plan → WritesTo (pages_outcome election ballot plans) (pages_outcome election ballot (drop i plans)) a b → IsWritten (writing (page_text election ballot plan)) b c (Err cause) → IsWritten (pages_outcome election ballot plans) a c (Err cause)
+  pub page_broke_off : (plan : PagePlan) (a b c : Taken) (cause : Halt) → i < length plans → plan ≡ get_or plans i plan → WritesTo (pages_outcome election ballot plans) (pages_outcome election ballot (drop i plans)) a b → IsWritten (writing (page_text election ballot plan)) b c (Err cause) → IsWritten (pages_outcome election ballot plans) a c (Err cause)
   page_broke_off plan a b c cause inside is before written held =
       let Done : Outcome → Type 0 = λ outcome. IsDone outcome b c held held (Err cause) in
       before held c held (Err cause)
@@ -33,7 +33,7 @@ module _ (laws : ActLaws) (election : Election) (ballot : Ballot) (plans : List 
       (laws.broken (Write (page_text election ballot plan) ∷ []) (pages_outcome election ballot (drop (i + 1) plans)) b c held held cause (written held)))
 
   -- all pages are written
-  pub pages_written : (a b : Option (List ℕ)) → length plans ≤ i → WritesTo (pages_outcome election ballot plans) (pages_outcome election ballot (drop i plans)) a b → IsWritten (pages_outcome election ballot plans) a b (Ok tt)
+  pub pages_written : (a b : Taken) → length plans ≤ i → WritesTo (pages_outcome election ballot plans) (pages_outcome election ballot (drop i plans)) a b → IsWritten (pages_outcome election ballot plans) a b (Ok tt)
   pages_written a b past before held =
       let Done : List PagePlan → Type 0 = λ left. IsDone (pages_outcome election ballot left) b b held held (Ok tt) in
       before held b held (Ok tt) (subst Done (sym (drop_all i plans past)) (laws.ended (Ok tt) b held))

@@ -16,7 +16,8 @@ use Rattle.vx_command_print.specs.declared.ballot.Ballot.{Ballot}
 
 -- a page of a card's plan as it is printed
 abbrev pub printed_page : Ballot → PagePlan → PrintedPage
-printed_page ballot plan = record { card = ballot.card; page = plan.page; kind = ballot.kind; test = ballot.test }
+printed_page ballot plan =
+    record { card = ballot.card; page = plan.page; kind = ballot.kind; test = ballot.test }
 
 -- the text of a printed page: its raw bitmap
 abbrev pub page_text : Election → Ballot → PagePlan → List ℕ
@@ -34,7 +35,8 @@ card_made card (Err fault) = Err (Layout card fault)
 -- `print` of a card of an election
 abbrev pub card_outcome : Election → Ballot → Outcome
 card_outcome election ballot =
-    goes_on (card_made ballot.card (plan_of election ballot.card)) (λ plan. pages_outcome election ballot plan.pages)
+    goes_on (card_made ballot.card (plan_of election ballot.card))
+    (λ plan. pages_outcome election ballot plan.pages)
 
 -- `print` of the election under a name
 abbrev pub print_outcome : List ℕ → Ballot → Files → Outcome

@@ -27,7 +27,8 @@ const PAGE_BYTES: usize = 468_613;
 fn code_for(election: &Election, ballot: Ballot, page: u32) -> PageCode
     requires card { ballot.card < 1024 }
     requires page { page < 64 }
-    ensures exact { result ≡ code_of election.now (record { card = ballot.card; page = page; kind = ballot.kind; test = ballot.test }) }
+    ensures exact { result ≡ code_of election.now
+        (record { card = ballot.card; page = page; kind = ballot.kind; test = ballot.test }) }
     ensures in_range { IsInRange result }
 {
     PageCode {
@@ -70,7 +71,8 @@ fn print_page<S: Sink>(
     requires election { IsValid election.now }
     requires card { ballot.card < 1024 }
     requires page { plan.now.page < 64 }
-    ensures done { IsWritten (writing (page_text_of election.now ballot plan.now)) (S.taken out.old) (S.taken out.new) result }
+    ensures done { IsWritten (writing (page_text_of election.now ballot plan.now))
+        (S.taken out.old) (S.taken out.new) result }
     ensures sink { TouchesSink (S.faults out.old) (S.faults out.new) result }
     ensures late { (first : Bool) → writes_nothing first result ≡ false }
 {
@@ -90,7 +92,8 @@ pub fn print_pages<S: Sink>(
     requires election { IsValid election.now }
     requires card { ballot.card < 1024 }
     requires pages { All (λ plan. plan.page < 64) plans.now }
-    ensures done { IsWritten (pages_outcome election.now ballot plans.now) (S.taken out.old) (S.taken out.new) result }
+    ensures done { IsWritten (pages_outcome election.now ballot plans.now)
+        (S.taken out.old) (S.taken out.new) result }
     ensures sink { TouchesSink (S.faults out.old) (S.faults out.new) result }
     ensures late { (first : Bool) → writes_nothing first result ≡ false }
 {

@@ -38,7 +38,8 @@ fn print_card<S: Sink>(
     out: &mut S,
 ) -> Result<(), Halt>
     requires { IsValid election.now }
-    ensures done { IsWritten (card_outcome election.now ballot) (S.taken out.old) (S.taken out.new) result }
+    ensures done { IsWritten (card_outcome election.now ballot)
+        (S.taken out.old) (S.taken out.new) result }
     ensures nothing_written { writes_nothing true result ≡ true → S.taken out.new ≡ S.taken out.old }
     ensures sink { TouchesSink (S.faults out.old) (S.faults out.new) result }
 {
@@ -56,9 +57,12 @@ pub fn print<I: Inputs, S: Sink>(
     inputs: &mut I,
     out: &mut S,
 ) -> Result<(), Halt>
-    ensures done { ForSome (I.held inputs.old) (λ files. IsWritten (print_outcome election.now ballot files) (S.taken out.old) (S.taken out.new) result) }
+    ensures done { ForSome (I.held inputs.old) (λ files.
+        IsWritten (print_outcome election.now ballot files)
+        (S.taken out.old) (S.taken out.new) result) }
     ensures nothing_written { writes_nothing true result ≡ true → S.taken out.new ≡ S.taken out.old }
-    ensures inputs { LeavesInputs (I.held inputs.old) (I.held inputs.new) (I.faults inputs.old) (I.faults inputs.new) result }
+    ensures inputs { LeavesInputs (I.held inputs.old) (I.held inputs.new)
+        (I.faults inputs.old) (I.faults inputs.new) result }
     ensures sink { LeavesSink (S.faults out.old) (S.faults out.new) result }
     ensures no_keeper_fault { is_keeper_fault result ≡ false }
 {

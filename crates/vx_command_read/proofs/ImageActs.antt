@@ -8,7 +8,7 @@ use Rattle.vx_pbm.specs.Images.{Unread, whole, Images, with_page, ended, images_
 use Rattle.vx_command.specs.declared.halt.Halt.{Halt}
 use Rattle.vx_command.specs.declared.halt.Halt.TheVariants.{Pbm, NoMemory}
 use Rattle.vx_command.specs.Acts.{Write, Outcome, writing}
-use Rattle.vx_command.specs.Done.{IsDone, IsWritten, WritesTo}
+use Rattle.vx_command.specs.Done.{Taken, IsDone, IsWritten, WritesTo}
 use Rattle.vx_command.specs.Halts.{bitmap_halt}
 use Rattle.vx_command.specs.Laws.{ActLaws}
 use Rattle.vx_command_read.specs.ReadingText.{image_text}
@@ -16,13 +16,13 @@ use Rattle.vx_command_read.specs.Outcome.{scan_outcome}
 use Rattle.vx_command_read.specs.Scans.{ReadsScan}
 
 -- images were read up to what is unread, the first of which has a number, and their texts are written
-pub record ReadUpTo (election : Election) (word first : ℕ) (bytes : List ℕ) (taken taken_now : Option (List ℕ)) (unread : Unread) (number : ℕ) : Type 0 where
+pub record ReadUpTo (election : Election) (word first : ℕ) (bytes : List ℕ) (taken taken_now : Taken) (unread : Unread) (number : ℕ) : Type 0 where
   pub comes : (rest : Outcome) → WritesTo (scan_outcome election word first (images_of bytes) rest) (scan_outcome election word number (images_left unread) rest) taken taken_now
   pub count : number + length (images_left unread).pages ≡ first + length (images_of bytes).pages
   pub room : number + length unread.text ≤ first + length bytes
 
 -- nothing was read yet
-pub none_read : (election : Election) (word first : ℕ) (bytes : List ℕ) (taken : Option (List ℕ)) → ReadUpTo election word first bytes taken taken (whole bytes) first
+pub none_read : (election : Election) (word first : ℕ) (bytes : List ℕ) (taken : Taken) → ReadUpTo election word first bytes taken taken (whole bytes) first
 unfolding images_of
 none_read election word first bytes taken = record {
   comes = λ rest held taken_then held_then answer done. done;
@@ -30,9 +30,9 @@ none_read election word first bytes taken = record {
   room = omega arith;
 }
 
-module _ (laws : ActLaws) (election : Election) (word first : ℕ) (bytes : List ℕ) (a b : Option (List ℕ)) (unread : Unread) (number : ℕ) (before : ReadUpTo election word first bytes a b unread number) where
+module _ (laws : ActLaws) (election : Election) (word first : ℕ) (bytes : List ℕ) (a b : Taken) (unread : Unread) (number : ℕ) (before : ReadUpTo election word first bytes a b unread number) where
   -- one image more was read and its text is written
-  pub one_read : (page : Page) (new : Unread) (c : Option (List ℕ)) → images_left unread ≡ with_page page (images_left new) → length new.text < length unread.text → IsWritten (writing (image_text election number page)) b c (Ok tt) → ReadUpTo election word first bytes a c new (number + 1)
+  pub one_read : (page : Page) (new : Unread) (c : Taken) → images_left unread ≡ with_page page (images_left new) → length new.text < length unread.text → IsWritten (writing (image_text election number page)) b c (Ok tt) → ReadUpTo election word first bytes a c new (number + 1)
   one_read page new c left less written = record {
     comes = λ rest held taken_then held_then answer done.
         let Done : Images → Type 0 = λ images. IsDone (scan_outcome election word number images rest) b taken_then held held_then answer in
@@ -44,7 +44,7 @@ module _ (laws : ActLaws) (election : Election) (word first : ℕ) (bytes : List
   }
 
   -- the text of the next image isn't written whole
-  pub image_halts : (page : Page) (new : Unread) (c : Option (List ℕ)) (cause : Halt) → images_left unread ≡ with_page page (images_left new) → IsWritten (writing (image_text election number page)) b c (Err cause) → (rest : Outcome) → IsWritten (scan_outcome election word first (images_of bytes) rest) a c (Err cause)
+  pub image_halts : (page : Page) (new : Unread) (c : Taken) (cause : Halt) → images_left unread ≡ with_page page (images_left new) → IsWritten (writing (image_text election number page)) b c (Err cause) → (rest : Outcome) → IsWritten (scan_outcome election word first (images_of bytes) rest) a c (Err cause)
   image_halts page new c cause left written rest held =
       let Done : Images → Type 0 = λ images. IsDone (scan_outcome election word number images rest) b c held held (Err cause) in
       before.comes rest held c held (Err cause)

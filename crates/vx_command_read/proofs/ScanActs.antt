@@ -5,7 +5,7 @@ use Rattle.vx_io.specs.Outside.{Files}
 use Rattle.vx_pbm.specs.Images.{images_of}
 use Rattle.vx_command.specs.declared.halt.Halt.{Halt}
 use Rattle.vx_command.specs.Acts.{Outcome, input_of, input_limit}
-use Rattle.vx_command.specs.Done.{IsDone}
+use Rattle.vx_command.specs.Done.{Taken, IsDone}
 use Rattle.vx_command.specs.Laws.{StepLaws}
 use Rattle.vx_command.specs.Steps.{GivesTaking}
 use Rattle.vx_command_read.specs.Outcome.{scan_outcome, scans_outcome}
@@ -16,7 +16,7 @@ abbrev scan_rest : Election → Files → ℕ → ℕ → List (List ℕ) → Li
 scan_rest election files word number names bytes =
     scan_outcome election word number (images_of bytes) (scans_outcome election files (word + 1) (number + length (images_of bytes).pages) names)
 
-module _ (laws : StepLaws (List ℕ)) (election : Election) (files : Files) (word number : ℕ) (name : List ℕ) (a b : Option (List ℕ)) where
+module _ (laws : StepLaws (List ℕ)) (election : Election) (files : Files) (word number : ℕ) (name : List ℕ) (a b : Taken) where
   -- a scan that wasn't taken
   pub scan_missing : (cause : Halt) → GivesTaking word (Err cause) (input_of word input_limit (files name)) → ReadsFirst election files word number name a a (Err cause)
   scan_missing cause gives names =

@@ -13,7 +13,8 @@ use Rattle.vx_command_read.specs.ReadingText.{image_text}
 -- the texts of images are written, the first of which has a number
 abbrev pub image_acts : Election → ℕ → List Page → List Act
 image_acts election number [] = []
-image_acts election number (page ∷ pages) = Write (image_text election number page) ∷ image_acts election (number + 1) pages
+image_acts election number (page ∷ pages) =
+    Write (image_text election number page) ∷ image_acts election (number + 1) pages
 
 -- what comes after the images of a scan, unless a fault ended them
 abbrev pub unless_faulty : ℕ → Option PbmFault → Outcome → Outcome
@@ -22,13 +23,15 @@ unless_faulty word (Some fault) next = halted (Pbm word fault)
 
 -- the images of the scan of a word, the first of which has a number, and then what comes next
 abbrev pub scan_outcome : Election → ℕ → ℕ → Images → Outcome → Outcome
-scan_outcome election word number images next = after (image_acts election number images.pages) (unless_faulty word images.fault next)
+scan_outcome election word number images next =
+    after (image_acts election number images.pages) (unless_faulty word images.fault next)
 
 -- the scans that the words from one on name, the first image of which has a number
 abbrev pub scans_outcome : Election → Files → ℕ → ℕ → List (List ℕ) → Outcome
 scans_outcome election files word number [] = finished
 scans_outcome election files word number (name ∷ names) =
-    once_taken word input_limit (files name) (λ bytes. scan_outcome election word number (images_of bytes) (scans_outcome election files (word + 1) (number + length (images_of bytes).pages) names))
+    once_taken word input_limit (files name) (λ bytes. scan_outcome election word number (images_of bytes)
+    (scans_outcome election files (word + 1) (number + length (images_of bytes).pages) names))
 
 -- `read` of scans for the election under a name; images are numbered from 1 over all of them
 abbrev pub read_outcome : List ℕ → List (List ℕ) → Files → Outcome

@@ -35,7 +35,8 @@ state_word Clear = codes "clear"
 -- the first line of a reading: `page N card C side P kind KIND`
 abbrev pub page_line : ℕ → PageCode → List ℕ
 page_line number code =
-    line_of (codes "page" ∷ decimal number ∷ codes "card" ∷ decimal code.card ∷ codes "side" ∷ decimal code.page ∷ codes "kind" ∷ kind_word code.kind code.test ∷ [])
+    line_of (codes "page" ∷ decimal number ∷ codes "card" ∷ decimal code.card ∷ codes "side" ∷ decimal code.page
+    ∷ codes "kind" ∷ kind_word code.kind code.test ∷ [])
 
 -- the places of the timing marks: `border U,V U,V ..`
 unfoldable pub border_line : List Point → List ℕ

@@ -28,7 +28,8 @@ fn read_image<S: Sink>(
 ) -> Result<(), Halt>
     requires election { IsValid election.now }
     requires plans { ArePlansOf election.now plans.now }
-    ensures done { IsWritten (writing (image_text_of election.now number image.entry)) (S.taken out.old) (S.taken out.new) result }
+    ensures done { IsWritten (writing (image_text_of election.now number image.entry))
+        (S.taken out.old) (S.taken out.new) result }
     ensures sink { TouchesSink (S.faults out.old) (S.faults out.new) result }
     ensures late { (first : Bool) → writes_nothing first result ≡ false }
 {
@@ -51,7 +52,8 @@ pub fn read_scan<S: Sink>(
     requires election { IsValid election.now }
     requires plans { ArePlansOf election.now plans.now }
     requires room { first + length bytes.now < 2 ^ 64 }
-    ensures read { ReadsScan election.now word first (images_of bytes.now) (S.taken out.old) (S.taken out.new) result }
+    ensures read { ReadsScan election.now word first (images_of bytes.now)
+        (S.taken out.old) (S.taken out.new) result }
     // An image takes a byte at least.
     ensures bound { IfOk result (λ next. next ≤ first + length bytes.now) }
     ensures sink { TouchesSink (S.faults out.old) (S.faults out.new) result }

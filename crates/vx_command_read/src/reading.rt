@@ -25,9 +25,11 @@ fn read_planned<I: Inputs, S: Sink>(
     requires election { IsValid election.now }
     requires few { length scans.now ≤ 64 }
     ensures done { ForSome (I.held inputs.old) (λ files.
-        IsWritten (once_planned election.now (scans_outcome election.now files 2 1 scans.now)) (S.taken out.old) (S.taken out.new) result) }
+        IsWritten (once_planned election.now (scans_outcome election.now files 2 1 scans.now))
+        (S.taken out.old) (S.taken out.new) result) }
     ensures nothing_written { writes_nothing false result ≡ true → S.taken out.new ≡ S.taken out.old }
-    ensures inputs { LeavesInputs (I.held inputs.old) (I.held inputs.new) (I.faults inputs.old) (I.faults inputs.new) result }
+    ensures inputs { LeavesInputs (I.held inputs.old) (I.held inputs.new)
+        (I.faults inputs.old) (I.faults inputs.new) result }
     ensures sink { LeavesSink (S.faults out.old) (S.faults out.new) result }
     ensures no_keeper_fault { is_keeper_fault result ≡ false }
 {
@@ -48,9 +50,11 @@ pub fn read<I: Inputs, S: Sink>(
 ) -> Result<(), Halt>
     requires { length scans.now ≤ 64 }
     ensures done { ForSome (I.held inputs.old) (λ files.
-        IsWritten (read_outcome election.now scans.now files) (S.taken out.old) (S.taken out.new) result) }
+        IsWritten (read_outcome election.now scans.now files)
+        (S.taken out.old) (S.taken out.new) result) }
     ensures nothing_written { writes_nothing false result ≡ true → S.taken out.new ≡ S.taken out.old }
-    ensures inputs { LeavesInputs (I.held inputs.old) (I.held inputs.new) (I.faults inputs.old) (I.faults inputs.new) result }
+    ensures inputs { LeavesInputs (I.held inputs.old) (I.held inputs.new)
+        (I.faults inputs.old) (I.faults inputs.new) result }
     ensures sink { LeavesSink (S.faults out.old) (S.faults out.new) result }
     ensures no_keeper_fault { is_keeper_fault result ≡ false }
 {

@@ -40,7 +40,8 @@ fn push_page(text: &mut String, number: u64, code: PageCode) -> Result<(), OutOf
 
 /// Adds the line of the places of the timing marks.
 fn push_border(text: &mut String, border: &Border) -> Result<(), OutOfMemory>
-    ensures { OnOk result (string_bytes text.new ≡ string_bytes text.old ++ border_line border.now) }
+    ensures { OnOk result (string_bytes text.new
+        ≡ string_bytes text.old ++ border_line border.now) }
 {
     text.push_str("border")?;
     for k in 0..MARKS {
@@ -58,7 +59,8 @@ fn push_bubble(
     score: u32,
     state: State,
 ) -> Result<(), OutOfMemory>
-    ensures { OnOk result (string_bytes text.new ≡ string_bytes text.old ++ bubble_line number bubble score state) }
+    ensures { OnOk result (string_bytes text.new
+        ≡ string_bytes text.old ++ bubble_line number bubble score state) }
 {
     let (contest, option) = (bubble.contest, bubble.option);
     let word = state_word(state);
@@ -74,7 +76,8 @@ fn push_bubbles(
 ) -> Result<(), OutOfMemory>
     requires scores { length scores.now ≡ length bubbles.now }
     requires states { length states.now ≡ length bubbles.now }
-    ensures { OnOk result (string_bytes text.new ≡ string_bytes text.old ++ bubble_lines bubbles.now scores.now states.now) }
+    ensures { OnOk result (string_bytes text.new
+        ≡ string_bytes text.old ++ bubble_lines bubbles.now scores.now states.now) }
 {
     for number in 0..bubbles.len() {
         push_bubble(
@@ -97,7 +100,8 @@ fn push_block(
 ) -> Result<(), OutOfMemory>
     requires scores { length reading.now.scores ≡ length bubbles.now }
     requires states { length reading.now.states ≡ length bubbles.now }
-    ensures { OnOk result (string_bytes text.new ≡ string_bytes text.old ++ block_text number bubbles.now reading.now) }
+    ensures { OnOk result (string_bytes text.new
+        ≡ string_bytes text.old ++ block_text number bubbles.now reading.now) }
 {
     push_page(text, number, reading.code)?;
     push_border(text, &reading.border)?;
@@ -113,7 +117,8 @@ fn push_block(
 /// Adds the line of a fault, unless it is want of memory.
 fn push_fault(text: &mut String, number: u64, fault: PageFault) -> Result<(), OutOfMemory>
     ensures known { OnOk result (is_page_no_memory fault ≡ false) }
-    ensures line { OnOk result (string_bytes text.new ≡ string_bytes text.old ++ fault_line number fault) }
+    ensures line { OnOk result (string_bytes text.new
+        ≡ string_bytes text.old ++ fault_line number fault) }
 {
     match fault {
         PageFault::OutOfMemory => Err(OutOfMemory),
@@ -132,7 +137,8 @@ fn push_image(
 ) -> Result<(), OutOfMemory>
     requires election { IsValid election.now }
     requires plans { ArePlansOf election.now plans.now }
-    ensures { OnOk result (string_bytes text.new ≡ string_bytes text.old ++ image_text_of election.now number page.now) }
+    ensures { OnOk result (string_bytes text.new
+        ≡ string_bytes text.old ++ image_text_of election.now number page.now) }
 {
     match read_planned(alloc, election, plans, page) {
         Ok((reading, plan)) => push_block(text, number, plan.bubbles.as_slice(), &reading),

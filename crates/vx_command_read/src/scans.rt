@@ -32,9 +32,12 @@ fn read_input<I: Inputs, S: Sink>(
     requires plans { ArePlansOf election.now plans.now }
     requires room { number < 2 ^ 63 }
     requires later_word { 1 < word }
-    ensures done { ForSome (I.held inputs.old) (λ files. ReadsFirst election.now files word number name.now (S.taken out.old) (S.taken out.new) result) }
+    ensures done { ForSome (I.held inputs.old) (λ files.
+        ReadsFirst election.now files word number name.now
+        (S.taken out.old) (S.taken out.new) result) }
     ensures bound { IfOk result (λ next. next ≤ number + 67108864) }
-    ensures inputs { LeavesInputs (I.held inputs.old) (I.held inputs.new) (I.faults inputs.old) (I.faults inputs.new) result }
+    ensures inputs { LeavesInputs (I.held inputs.old) (I.held inputs.new)
+        (I.faults inputs.old) (I.faults inputs.new) result }
     ensures sink { LeavesSink (S.faults out.old) (S.faults out.new) result }
     ensures no_keeper_fault { is_keeper_fault result ≡ false }
     ensures late { writes_nothing false result ≡ false }
@@ -57,8 +60,11 @@ pub fn read_scans<I: Inputs, S: Sink>(
     requires election { IsValid election.now }
     requires plans { ArePlansOf election.now plans.now }
     requires few { length scans.now ≤ 64 }
-    ensures done { ForSome (I.held inputs.old) (λ files. IsWritten (scans_outcome election.now files 2 1 scans.now) (S.taken out.old) (S.taken out.new) result) }
-    ensures inputs { LeavesInputs (I.held inputs.old) (I.held inputs.new) (I.faults inputs.old) (I.faults inputs.new) result }
+    ensures done { ForSome (I.held inputs.old) (λ files.
+        IsWritten (scans_outcome election.now files 2 1 scans.now)
+        (S.taken out.old) (S.taken out.new) result) }
+    ensures inputs { LeavesInputs (I.held inputs.old) (I.held inputs.new)
+        (I.faults inputs.old) (I.faults inputs.new) result }
     ensures sink { LeavesSink (S.faults out.old) (S.faults out.new) result }
     ensures no_keeper_fault { is_keeper_fault result ≡ false }
     ensures late { writes_nothing false result ≡ false }
