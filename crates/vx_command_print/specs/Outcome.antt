@@ -5,7 +5,7 @@ use Rattle.vx_layout.specs.declared.pages.PagePlan.{PagePlan}
 use Rattle.vx_layout.specs.declared.plan.CardPlan.{CardPlan}
 use Rattle.vx_layout.specs.declared.fault.LayoutFault.{LayoutFault}
 use Rattle.vx_layout.specs.Plan.{plan_of}
-use Rattle.vx_scan_model.specs.Printed.{PrintedPage, bitmap_of}
+use Rattle.vx_layout.specs.Printed.{PrintedPage, bitmap_of}
 use Rattle.vx_io.specs.Outside.{Files}
 use Rattle.vx_pbm.specs.Raw.{p4_of}
 use Rattle.vx_command.specs.declared.halt.Halt.{Halt}

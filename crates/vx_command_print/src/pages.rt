@@ -2,7 +2,7 @@ ghost use Rattle.std.specs.Prelude.{◌≡◌, ◌<◌, false, All, Bool, Ok};
 ghost use Rattle.vx_base.specs.Refusals.{Gives};
 ghost use Rattle.vx_code.specs.Code.{IsInRange};
 ghost use Rattle.vx_election.specs.Valid.{IsValid};
-ghost use Rattle.vx_scan_model.specs.Printed.{code_of};
+ghost use Rattle.vx_layout.specs.Printed.{code_of};
 ghost use Rattle.vx_command.specs.Acts.{writing};
 ghost use Rattle.vx_command.specs.Devices.{TouchesSink, writes_nothing};
 ghost use Rattle.vx_command.specs.Done.{IsWritten};

@@ -12,6 +12,7 @@ pub mod Paged
 pub mod Parts
 pub mod Placing
 pub mod Printable
+pub mod Printed
 pub mod Shown
 pub mod Sizes
 pub mod Standing

@@ -6,6 +6,7 @@ pub mod Pages
 pub mod Plans
 pub mod Options
 pub mod Print
+pub mod Printed
 pub mod Zones
 pub mod Faults
 pub mod FaultTexts

@@ -2,7 +2,9 @@
 
 ghost use Rattle.vx_layout.specs.Pages.{PlansAreNumbered, PlansStandOnGrid};
 ghost use Rattle.vx_layout.specs.Plans.{PlansAreThose};
+ghost use Rattle.vx_layout.specs.Printed.{PagesArePlanned, PrintedHaveCodes};
 
+use vx_code::tags_are_in_range;
 use vx_styles::cards_are_few;
 
 /// The plan of a card of a valid election has the card's number, below 1024, and 2 to 62 pages, an
@@ -24,3 +26,13 @@ pub fn plans_stand_on_the_grid()
 pub fn plans_of_are_plans()
     ensures { PlansAreThose }
 {}
+
+/// Each page of a planned card can be printed for each kind of ballot: the page has its number, and
+/// its code is in its ranges.
+pub fn planned_pages_can_be_printed()
+    ensures planned { PagesArePlanned }
+    ensures codes { PrintedHaveCodes }
+{
+    plans_are_numbered();
+    tags_are_in_range();
+}

@@ -8,7 +8,7 @@
 //! said in `specs/Pages.antt`. Every option has its one bubble (`specs/Options.antt`), and bubbles
 //! and texts keep clear of one another, of the page code and of the frame (`specs/Zones.antt`).
 //! What a planned page looks like in print, as a set of pixels, is `print_of` in
-//! `specs/Print.antt`.
+//! `specs/Print.antt`, and what a printed page is, with its code, stands in `specs/Printed.antt`.
 #![tactic(auto)]
 
 mod block;
@@ -29,7 +29,9 @@ mod typing;
 
 pub use bubbles::{Bubble, Bubbles};
 pub use fault::{CardFault, LayoutFault};
-pub use laws::{plans_are_numbered, plans_of_are_plans, plans_stand_on_the_grid};
+pub use laws::{
+    planned_pages_can_be_printed, plans_are_numbered, plans_of_are_plans, plans_stand_on_the_grid,
+};
 pub use lines::{TextLine, TextLines};
 pub use pages::{PagePlan, PagePlans};
 pub use plan::{CardPlan, CardPlans, card_plan_is_shared};

@@ -1,4 +1,3 @@
-pub mod Printed
 pub mod Border
 pub mod Reading
 pub mod FaultTexts

@@ -1,8 +1,7 @@
 //! What a reading of a scan is: the definitions that readers and checkers stand on, and the types
 //! that they answer.
 //!
-//! `specs/Printed.antt` says what a printed page is, `specs/Border.antt` what the border of a scan
-//! is, `specs/Named.antt` which page a code names, `specs/Reading.antt` what a scan's reading is, or
+//! `specs/Border.antt` says what the border of a scan is, `specs/Named.antt` which page a code names, `specs/Reading.antt` what a scan's reading is, or
 //! its first fault, and `specs/FaultTexts.antt` how a fault is printed. Grid places stand in
 //! `specs/Fit.antt` of `vx_fit`, scores and states in `specs/Score.antt` of `vx_score`, deficits in
 //! `specs/Mark.antt` of `vx_mark`: all of them are counts of fixed rectangles of `vx_plane`.
@@ -18,5 +17,5 @@ mod reading;
 mod tests;
 
 pub use fault::PageFault;
-pub use laws::{a_border_is_the_border, every_scan_has_its_border, planned_pages_can_be_printed};
+pub use laws::{a_border_is_the_border, every_scan_has_its_border};
 pub use reading::{PageReading, Scores};

@@ -4,7 +4,7 @@ use Rattle.std.specs.Prelude.{slice_get}
 use Rattle.std.proofs.lemmas.Option.{slice_get_within}
 use Rattle.vx_code.specs.Code.{TagsAreInRange}
 use Rattle.vx_layout.specs.Pages.{PlansAreNumbered}
-use Rattle.vx_scan_model.specs.Printed.{PagesArePlanned, PrintedHaveCodes}
+use Rattle.vx_layout.specs.Printed.{PagesArePlanned, PrintedHaveCodes}
 
 -- a page of a card's plan is planned, as a page of its number
 pub pages-planned : PlansAreNumbered → PagesArePlanned

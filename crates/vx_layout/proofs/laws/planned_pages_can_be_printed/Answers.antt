@@ -1,5 +1,5 @@
-use Rattle.vx_scan_model.proofs.Printed.{pages-planned, printed-codes}
-use Rattle.vx_scan_model.proofs.laws.planned_pages_can_be_printed.Goals as goal
+use Rattle.vx_layout.proofs.Printed.{pages-planned, printed-codes}
+use Rattle.vx_layout.proofs.laws.planned_pages_can_be_printed.Goals as goal
 
 pub returns : goal.returns
 returns c = record {
