@@ -2,12 +2,13 @@
 use Rattle.std.proofs.Common.{◌≡◌, ℕ, zero, suc, ◌+◌, ◌<◌, ◌≤◌, ◌⊎◌, min, false, ℤ, pos, negsuc, ◌+ℤ◌, ◌-ℤ◌, ◌≤ℤ◌, ◌<ℤ◌, nat_abs, refl, ap, sym, subst, ◌∙◌, arith, inl, inr}
 use Rattle.std.proofs.lemmas.Bool.{cases_lt}
 use Rattle.std.proofs.lemmas.Int.{ints, by_lt_z}
-use Rattle.vx_plane.specs.Plane.{Page, page_of, dark_at}
+use Rattle.vx_plane.specs.Plane.{Page, dark_at}
 use Rattle.vx_plane.specs.Count.{one_if, sum_from, count_in}
 use Rattle.vx_plane.proofs.Counts.{count_in-by_rows}
 use Rattle.vx_plane.proofs.Pages.{dark_at-out_of_frame}
 use Rattle.vx_plane.proofs.Sums.{sum_from-same, sum_from-parts, sum_from-same_number}
 use Rattle.vx_count.specs.Cut.{frame_before, IsCut}
+use Rattle.vx_count.specs.Turned.{IsWhole}
 
 -- what is known of a frame's columns before a place, by where the place lies
 before-cases : (z : ℤ) (frame : ℕ) → ((z ≤ℤ pos 0) × (frame_before z frame ≡ 0)) ⊎ ((pos frame ≤ℤ z) × (frame_before z frame ≡ frame)) ⊎ ((pos 0 ≤ℤ z) × (z ≤ℤ pos frame) × (pos (frame_before z frame) ≡ z))
@@ -88,7 +89,7 @@ sum_from-cut from size frame first (suc count) f cut outside =
     (λ l m. let in_cut = cut-inside from size frame first (suc count) cut z (omega (arith, ints)) q l m in absurd (omega (arith, ints))))
 
 -- the count of a page in a rectangle is that in the part of it that lies in the frame
-pub count_in-cut : (page : Page) (left top : ℤ) (width height first columns above rows : ℕ) → page ≡ page_of page.width page.height (dark_at page) → IsCut left width page.width first columns → IsCut top height page.height above rows → count_in left top width height (dark_at page) ≡ count_in (pos first) (pos above) columns rows (dark_at page)
+pub count_in-cut : (page : Page) (left top : ℤ) (width height first columns above rows : ℕ) → IsWhole page → IsCut left width page.width first columns → IsCut top height page.height above rows → count_in left top width height (dark_at page) ≡ count_in (pos first) (pos above) columns rows (dark_at page)
 count_in-cut page left top width height first columns above rows whole across down =
     let light : (u v : ℤ) → (u <ℤ pos 0) ⊎ (pos page.width ≤ℤ u) ⊎ (v <ℤ pos 0) ⊎ (pos page.height ≤ℤ v) → dark_at page u v ≡ false =
     λ u v out. subst (λ (p : Page). dark_at p u v ≡ false) (sym whole) (dark_at-out_of_frame page.width page.height (dark_at page) u v out) in

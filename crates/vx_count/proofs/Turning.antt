@@ -1,12 +1,12 @@
 -- Laws of pages turned by 180 degrees.
 use Rattle.std.proofs.Common.{◌≡◌, ℕ, zero, suc, ◌+◌, ◌-◌, ◌≤◌, Bool, true, false, not, ℤ, pos, ◌+ℤ◌, ◌-ℤ◌, refl, ap, ap₂, sym, subst, ◌∙◌, arith}
 use Rattle.std.proofs.lemmas.Int.{ints}
-use Rattle.vx_plane.specs.Plane.{Pixels, Page, page_of, dark_at}
+use Rattle.vx_plane.specs.Plane.{Pixels, Page, dark_at}
 use Rattle.vx_plane.specs.Count.{one_if, sum_from, count_in}
 use Rattle.vx_plane.proofs.Counts.{count_in-by_rows, count_in-same}
 use Rattle.vx_plane.proofs.Sums.{sum_from-same, sum_from-more}
 use Rattle.vx_plane.proofs.Pages.{page_of-same, page_of-dark_at, dark_at-in_frame, dark_at-inside}
-use Rattle.vx_count.specs.Turned.{turned, turned_page, shown_page}
+use Rattle.vx_count.specs.Turned.{turned, turned_page, IsWhole, shown_page}
 
 -- a sum in the other order: the whole number z stands for last - z
 pub sum_from-reversed : (low high last : ℤ) (n : ℕ) (f : ℤ → ℕ) → high +ℤ (low +ℤ pos n) ≡ last +ℤ pos 1 → sum_from low n (λ z. f (last -ℤ z)) ≡ sum_from high n f
@@ -36,7 +36,7 @@ turned-count page left top width height across down =
     ∙ count_in-reversed (pos left) (pos top) (pos (page.width - left - width)) (pos (page.height - top - height)) (pos page.width -ℤ pos 1) (pos page.height -ℤ pos 1) width height (dark_at page) (omega (arith, ints)) (omega (arith, ints))
 
 -- a page that is made of its dark places is as before when it is turned twice
-pub turned-twice : (page : Page) → page ≡ page_of page.width page.height (dark_at page) → turned_page (turned_page page) ≡ page
+pub turned-twice : (page : Page) → IsWhole page → turned_page (turned_page page) ≡ page
 turned-twice page whole =
     page_of-same page.width page.height (turned page.width page.height (dark_at (turned_page page))) (dark_at page) (λ x y l h.
     let across : (pos page.width -ℤ pos 1) -ℤ pos x ≡ pos (page.width - 1 - x) = omega (arith, ints) in
@@ -49,7 +49,7 @@ turned-twice page whole =
     ∙ sym whole
 
 -- a page that is shown the other way round is turned
-pub turned-shown : (turned : Bool) (page : Page) → page ≡ page_of page.width page.height (dark_at page) → shown_page (not turned) page ≡ turned_page (shown_page turned page)
+pub turned-shown : (turned : Bool) (page : Page) → IsWhole page → shown_page (not turned) page ≡ turned_page (shown_page turned page)
 turned-shown false page whole = refl
 turned-shown true page whole = sym (turned-twice page whole)
 
@@ -62,9 +62,9 @@ pub shown-height : (turned : Bool) (page shown : Page) → shown_page turned pag
 shown-height false page shown e = ap (λ (p : Page). p.height) e
 shown-height true page shown e = ap (λ (p : Page). p.height) e
 
-pub shown-whole : (turned : Bool) (page shown : Page) → page ≡ page_of page.width page.height (dark_at page) → shown_page turned page ≡ shown → shown ≡ page_of shown.width shown.height (dark_at shown)
-shown-whole false page shown whole e = subst (λ (p : Page). p ≡ page_of p.width p.height (dark_at p)) e whole
-shown-whole true page shown whole e = subst (λ (p : Page). p ≡ page_of p.width p.height (dark_at p)) e (sym (page_of-dark_at page.width page.height (turned page.width page.height (dark_at page))))
+pub shown-whole : (turned : Bool) (page shown : Page) → IsWhole page → shown_page turned page ≡ shown → IsWhole shown
+shown-whole false page shown whole e = subst IsWhole e whole
+shown-whole true page shown whole e = subst IsWhole e (sym (page_of-dark_at page.width page.height (turned page.width page.height (dark_at page))))
 
 -- a count in a page that is shown turned, by what the code knows
 pub shown-count : (turned : Bool) (page shown : Page) (left top width height columns rows count : ℕ) → turned ≡ true → shown_page turned page ≡ shown → columns ≡ page.width → rows ≡ page.height → left + width ≤ shown.width → top + height ≤ shown.height → count ≡ count_in (pos (columns - left - width)) (pos (rows - top - height)) width height (dark_at page) → count ≡ count_in (pos left) (pos top) width height (dark_at shown)

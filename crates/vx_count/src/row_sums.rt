@@ -15,7 +15,8 @@ const BLOCK: u32 = 1024;
 const BLOCK_WORDS: u32 = 16;
 
 /// A copy of a page, of at most 4096 columns, with sums: the dark pixels of each row before its
-/// 1024th column, before its 2048th, and so on.
+/// 1024th column, before its 2048th, and so on. It takes the memory of the page's packed rows, a
+/// 64th more at most, and eight bytes.
 #[derive(Drop)]
 pub struct RowSums {
     rows: PackedRows,
