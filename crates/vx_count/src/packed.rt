@@ -85,14 +85,14 @@ impl PackedRows {
     /// The number of dark pixels among some columns of a row that lie in eight bytes: at most 57
     /// from any column on, at most 64 from a column on that begins a byte.
     #[inline(always)]
-    pub fn in_word(&self, left: u32, row: u32, width: u32) -> u32
+    pub fn in_word(&self, left: u32, row: usize, width: u32) -> u32
         requires some { 1 ≤ width }
         requires one_word { left % 8 + width ≤ 64 }
         requires columns { left + width ≤ self.now.width }
         requires row { row < self.now.height }
         ensures { result ≡ count_in (pos left) (pos row) width 1 (dark_at self.now) }
     {
-        let at = row as usize * self.stride + (left / 8) as usize;
+        let at = row * self.stride + (left / 8) as usize;
         let word = word_at(self.bytes.as_slice(), at);
         ((word << (left % 8)) >> (64 - width)).count_ones()
     }
@@ -100,7 +100,7 @@ impl PackedRows {
     /// The number of dark pixels in so many words of 64 columns of a row, from a column on that
     /// begins a byte.
     #[inline(always)]
-    pub fn in_words(&self, left: u32, row: u32, words: u32) -> u32
+    pub fn in_words(&self, left: u32, row: usize, words: u32) -> u32
         requires byte { left % 8 ≡ 0 }
         requires columns { left + 64 * words ≤ self.now.width }
         requires row { row < self.now.height }
@@ -110,6 +110,25 @@ impl PackedRows {
         let mut dark = 0;
         for k in 0..words {
             dark += self.in_word(left + 64 * k, row, 64);
+        }
+        dark
+    }
+
+    /// The number of dark pixels in a rectangle of 1 to 57 columns and at most 4096 rows that lies
+    /// in the frame.
+    #[inline(always)]
+    pub fn in_rows(&self, left: u32, top: u32, width: u32, height: u32) -> u32
+        requires some { 1 ≤ width }
+        requires narrow { width ≤ 57 }
+        requires columns { left + width ≤ self.now.width }
+        requires rows { top + height ≤ self.now.height }
+        requires high { height ≤ 4096 }
+        ensures { result ≡ count_in (pos left) (pos top) width height (dark_at self.now) }
+    {
+        let first = top as usize;
+        let mut dark = 0;
+        for j in 0..height as usize {
+            dark += self.in_word(left, first + j, width);
         }
         dark
     }

@@ -46,7 +46,7 @@ fn write_sums(sums: &mut [u16], rows: &PackedRows, row: u32)
     let start = row as usize * blocks as usize;
     let mut dark = 0;
     for k in 0..blocks {
-        dark += rows.in_words(k * BLOCK, row, BLOCK_WORDS);
+        dark += rows.in_words(k * BLOCK, row as usize, BLOCK_WORDS);
         sums[start + k as usize] = dark as u16;
     }
 }
@@ -111,11 +111,12 @@ impl RowSums {
     {
         let block = x / BLOCK;
         let words = x % BLOCK / 64;
-        let dark = self.before_block(row, block) + self.rows.in_words(block * BLOCK, row, words);
+        let at = row as usize;
+        let dark = self.before_block(row, block) + self.rows.in_words(block * BLOCK, at, words);
         if x % 64 == 0 {
             dark
         } else {
-            dark + self.rows.in_word(x - x % 64, row, x % 64)
+            dark + self.rows.in_word(x - x % 64, at, x % 64)
         }
     }
 
@@ -128,28 +129,12 @@ impl RowSums {
         requires row { row < self.now.height }
         ensures { result ≡ count_in (pos left) (pos row) width 1 (dark_at self.now) }
     {
-        self.rows.in_word(left, row, width)
-    }
-
-    /// The number of dark pixels in a rectangle of 1 to 57 columns that lies in the frame.
-    fn in_narrow(&self, left: u32, top: u32, width: u32, height: u32) -> u32
-        requires some { 1 ≤ width }
-        requires narrow { width ≤ 57 }
-        requires columns { left + width ≤ self.now.width }
-        requires rows { top + height ≤ self.now.height }
-        requires high { height ≤ 4096 }
-        ensures { result ≡ count_in (pos left) (pos top) width height (dark_at self.now) }
-    {
-        let _height = self.height();
-        let mut dark = 0;
-        for j in 0..height {
-            dark += self.run(left, top + j, width);
-        }
-        dark
+        self.rows.in_word(left, row as usize, width)
     }
 
     /// The number of dark pixels in a rectangle that lies in the frame, row by row as the
     /// difference of two sums.
+    #[inline(never)]
     fn in_wide(&self, left: u32, top: u32, width: u32, height: u32) -> u32
         requires columns { left + width ≤ self.now.width }
         requires rows { top + height ≤ self.now.height }
@@ -165,6 +150,7 @@ impl RowSums {
     }
 
     /// The number of dark pixels in a rectangle of at most 4096 rows that lies in the frame.
+    #[inline(always)]
     pub fn dark_in_frame(&self, left: u32, top: u32, width: u32, height: u32) -> u32
         requires columns { left + width ≤ self.now.width }
         requires rows { top + height ≤ self.now.height }
@@ -172,7 +158,7 @@ impl RowSums {
         ensures { result ≡ count_in (pos left) (pos top) width height (dark_at self.now) }
     {
         if 1 <= width && width <= 57 {
-            self.in_narrow(left, top, width, height)
+            self.rows.in_rows(left, top, width, height)
         } else {
             self.in_wide(left, top, width, height)
         }

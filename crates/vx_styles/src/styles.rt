@@ -8,16 +8,20 @@ use std::alloc::Global;
 use vx_base::OutOfMemory;
 use vx_election::{Contest, Election, Indexes, Style};
 
+fn card_of(style: u32, precinct: u32) -> Card
+    ensures style { result.style ≡ style }
+    ensures precinct { result.precinct ≡ precinct }
+{
+    Card { style, precinct }
+}
+
 /// Adds the cards of a style at the end.
 fn push_cards(cards: &mut Vec<Card>, style: u32, precincts: &[u32]) -> Result<(), OutOfMemory>
     ensures { OnOk result
         (cards.new.items ≡ cards.old.items ++ cards_of_style style precincts.now) }
 {
     for precinct in precincts {
-        cards.push(Card {
-            style,
-            precinct: *precinct,
-        })?;
+        cards.push(card_of(style, *precinct))?;
     }
     Ok(())
 }

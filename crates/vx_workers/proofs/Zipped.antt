@@ -1,5 +1,5 @@
--- A relation of two lists, place by place, where the second is written or grows.
-use Rattle.std.proofs.Common.{◌≡◌, ℕ, suc, zero, ◌+◌, ◌<◌, List, [], ◌∷◌, ◌++◌, length, take, set, arith}
+-- A relation of two lists, place by place, where the second is written or grows, and what is there.
+use Rattle.std.proofs.Common.{ℕ, suc, zero, ◌+◌, ◌<◌, List, [], ◌∷◌, ◌++◌, length, take, set, arith}
 use Rattle.std.specs.Prelude.{Option, None, Some, IfSome, slice_get}
 use Rattle.std.specs.List.{AllZip}
 use Rattle.std.specs.Option.{IsSomeAnd}
@@ -25,7 +25,14 @@ module _ {A B : Type 0} (R : A → B → Type 0) where
   pub zip_more : (xs : List A) (ys : List B) (k : ℕ) (y : B) → AllZip R (take k xs) ys → IsSomeAnd (slice_get xs k) (λ x. R x y) → AllZip R (take (k + 1) xs) (ys ++ y ∷ [])
   zip_more xs ys k y each at = rw add-one (more xs ys k y each at)
 
--- what holds of everything, and what is there
+-- a relation that follows from another
+pub zip_weaker : {A B : Type 0} (R S : A → B → Type 0) → ((x : A) (y : B) → R x y → S x y) → (xs : List A) (ys : List B) → AllZip R xs ys → AllZip S xs ys
+zip_weaker R S follows [] [] each = tt
+zip_weaker R S follows [] (y ∷ ys) each = absurd each
+zip_weaker R S follows (x ∷ xs) [] each = absurd each
+zip_weaker R S follows (x ∷ xs) (y ∷ ys) each = (follows x y each.0, zip_weaker R S follows xs ys each.1)
+
+-- what holds of everything holds of what is there
 pub always : {A : Type 0} (o : Option A) (P : A → Type 0) → ((x : A) → P x) → IfSome o P
 always None P all = tt
 always (Some x) P all = all x
@@ -34,21 +41,13 @@ pub if_there : {A : Type 0} (o : Option A) (P : A → Type 0) → IsSomeAnd o P 
 if_there None P there = absurd there
 if_there (Some x) P there = there
 
--- something is there within the list
+-- something is there within the list, and only there
 pub is_there : {A : Type 0} (xs : List A) (k : ℕ) (P : A → Type 0) → k < length xs → ((x : A) → P x) → IsSomeAnd (slice_get xs k) P
 is_there [] k P within all = absurd (omega arith)
 is_there (x ∷ xs) zero P within all = all x
 is_there (x ∷ xs) (suc k) P within all = is_there xs k P (omega arith) all
 
--- and only there
 pub there_within : {A : Type 0} (xs : List A) (k : ℕ) (P : A → Type 0) → IsSomeAnd (slice_get xs k) P → k < length xs
 there_within [] k P there = absurd there
 there_within (x ∷ xs) zero P there = omega arith
 there_within (x ∷ xs) (suc k) P there = let r = there_within xs k P there in omega arith
-
--- a relation that follows from another
-pub zip_weaker : {A B : Type 0} (R S : A → B → Type 0) → ((x : A) (y : B) → R x y → S x y) → (xs : List A) (ys : List B) → AllZip R xs ys → AllZip S xs ys
-zip_weaker R S follows [] [] each = tt
-zip_weaker R S follows [] (y ∷ ys) each = absurd each
-zip_weaker R S follows (x ∷ xs) [] each = absurd each
-zip_weaker R S follows (x ∷ xs) (y ∷ ys) each = (follows x y each.0, zip_weaker R S follows xs ys each.1)

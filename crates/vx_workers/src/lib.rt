@@ -4,6 +4,7 @@
 //! of workers and whichever of them was quicker. `specs/Answers.antt` says what that is.
 #![tactic(auto)]
 
+mod answer;
 mod gate;
 mod places;
 mod tasks;

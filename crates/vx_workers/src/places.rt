@@ -1,8 +1,8 @@
 ghost use Rattle.std.specs.Prelude.{◌≡◌, ◌<◌, ◌^◌, length, All, IfOk, IfSome, Some, vec_len, slice_set};
 ghost use Rattle.vx_workers.specs.Answers.{MayTake, IsAnswerOf, IsAnswerAt, IsShare, ArePlaces, AnswersInOrder};
 
+use crate::answer::answer_at;
 use crate::gate::Gate;
-use crate::tasks::answer_at;
 use std::alloc::Global;
 use vx_base::OutOfMemory;
 

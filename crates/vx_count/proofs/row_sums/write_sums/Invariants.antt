@@ -1,4 +1,4 @@
-use Rattle.std.proofs.Common.{◌≡◌, ◌+◌, ◌*◌, length, pos}
+use Rattle.std.proofs.Common.{◌≡◌, ◌+◌, ◌*◌, pos}
 use Rattle.vx_plane.specs.Plane.{dark_at}
 use Rattle.vx_plane.specs.Count.{count_in}
 use Rattle.vx_count.specs.Sums.{BeginsWithSums, blocks_of}
