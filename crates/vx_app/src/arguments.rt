@@ -1,5 +1,5 @@
 ghost use Rattle.std.specs.Prelude.{◌≡◌, ◌≤◌, IfOk, drop, length, map, string_bytes};
-ghost use Rattle.vx_app.specs.Arguments.{IsCommandLine};
+ghost use Rattle.vx_app.specs.Arguments.{IsCommandLine, status_without};
 
 use std::alloc::{AllocError, Global};
 use std::io::ErrorKind;
@@ -37,7 +37,9 @@ pub fn command_words(alloc: Global, arguments: &[String]) -> Result<Words, Statu
 }
 
 /// The status where the arguments can't be had: Usage where they aren't all UTF-8.
-pub fn arguments_status(fault: ErrorKind) -> Status {
+pub fn arguments_status(fault: ErrorKind) -> Status
+    ensures { result ≡ status_without fault }
+{
     match fault {
         ErrorKind::InvalidData => Status::Usage,
         _ => Status::NoMemory,

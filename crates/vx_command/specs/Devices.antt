@@ -19,7 +19,7 @@ is_keeper_fault answer = false
 
 -- inputs after a command: they hold what they held, and their faults show in its answer
 pub record LeavesInputs {A : Type 0} (held held_now : Option Files) (faults faults_now : ℕ) (answer : Result A Halt)
-  : Type 0 where
+    : Type 0 where
   pub same : held_now ≡ held
   pub counts : CountsFaults (is_read_fault answer) faults faults_now
 
@@ -33,7 +33,7 @@ LeavesKeeper faults faults_now answer = CountsFaults (is_keeper_fault answer) fa
 
 -- a step that touches the inputs alone: its answer is no fault of another device
 pub record TouchesInputs {A : Type 0} (held held_now : Option Files) (faults faults_now : ℕ) (answer : Result A Halt)
-  : Type 0 where
+    : Type 0 where
   pub inputs : LeavesInputs held held_now faults faults_now answer
   pub no_write_fault : is_write_fault answer ≡ false
   pub no_keeper_fault : is_keeper_fault answer ≡ false

@@ -1,7 +1,6 @@
 -- Laws for the proofs of commands, which go from act to act.
-use Rattle.std.specs.Prelude.{◌≡◌, ℕ, Bool, false, List, [], Result, Ok, Err}
+use Rattle.std.specs.Prelude.{◌≡◌, ℕ, List, [], Result, Ok, Err}
 use Rattle.vx_base.specs.Refusals.{Gives}
-use Rattle.vx_io.specs.Outside.{CountsFaults}
 use Rattle.vx_command.specs.declared.halt.Halt.{Halt}
 use Rattle.vx_command.specs.declared.halt.Halt.TheVariants.{NoMemory}
 use Rattle.vx_command.specs.Acts.{Act, Answer, Outcome, work, after, goes_on, taking}
@@ -25,8 +24,3 @@ pub record StepLaws (A : Type 0) : Type 0 where
   -- the same of a step that takes nothing
   pub given : (defined : Result A Halt) (given : A) (rest : A → Outcome) (a : Taken) → defined ≡ Ok given → WritesTo (goes_on defined rest) (rest given) a a
   pub not_given : (defined : Result A Halt) (cause : Halt) (rest : A → Outcome) (a : Taken) → Gives is_no_memory (Err cause) defined → IsWritten (goes_on defined rest) a a (Err cause)
-
--- a device that a command touched early or not at all, by whether its answer is a fault of that device
-pub record DeviceLaws : Type 0 where
-  pub untouched : (failed : Bool) (count : ℕ) → failed ≡ false → CountsFaults failed count count
-  pub early : (failed : Bool) (count now : ℕ) → failed ≡ false → CountsFaults false count now → CountsFaults failed count now

@@ -1,7 +1,7 @@
 //! Laws for the proofs of commands. These functions do nothing; their contracts are the laws. A body
 //! that calls one has its laws among the facts of that call, and hands them to its lemmas.
 
-ghost use Rattle.vx_command.specs.Laws.{ActLaws, DeviceLaws, StepLaws};
+ghost use Rattle.vx_command.specs.Laws.{ActLaws, StepLaws};
 
 /// Acts that are done, or broken off, and then the rest of a command.
 pub fn acts_in_order()
@@ -11,9 +11,4 @@ pub fn acts_in_order()
 /// A step that gives a command something to go on with, or halts it.
 pub fn steps_in_order<T>()
     ensures { StepLaws T }
-{}
-
-/// Devices that a command touches early or not at all.
-pub fn devices_in_order()
-    ensures { DeviceLaws }
 {}

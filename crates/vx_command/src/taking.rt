@@ -52,11 +52,7 @@ fn read_bytes(alloc: Global, bytes: &[u8]) -> Result<Election, Halt>
 }
 
 /// Takes the election under its name, which is word 1, and reads it.
-pub fn take_election<I: Inputs>(
-    alloc: Global,
-    inputs: &mut I,
-    name: &str,
-) -> Result<Election, Halt>
+pub fn take_election<I: Inputs>(alloc: Global, inputs: &mut I, name: &str) -> Result<Election, Halt>
     ensures told { ForSome (I.held inputs.old) (λ files.
         GivesTaking 1 result (election_in (files name.now))) }
     ensures valid { IfOk result IsValid }

@@ -145,7 +145,10 @@ const EARLY: [(&[&str], &str); 8] = [
     (&["print", "b", "0", "precinct"], "election 3 "),
     (&["read", "b", "s"], "election 3 "),
     (&["print", "e", "1", "test-absentee"], "layout 1 4 1"),
-    (&["print", "e", "1023", "test-provisional"], "layout 1023 4 1"),
+    (
+        &["print", "e", "1023", "test-provisional"],
+        "layout 1023 4 1",
+    ),
     (&["read", "e", "u"], "no input 2"),
     (&["read", "e", "e"], "pbm 2 1 0"),
 ];
@@ -188,7 +191,10 @@ fn a_front_of_the_prints_stands(rt: HostRuntime) -> Result<(), Fail> {
         let answer = attempt(&rt, &[], PRINT, reads, writes, room)?;
         assert_eq!(rt; answer.status.as_str(), status, "{reads:?} {writes:?}");
         assert_eq!(rt; answer.text.len() as u64, size, "{reads:?} {writes:?}");
-        assert!(rt; whole.as_slice().starts_with(answer.text.as_slice()), "{reads:?} {writes:?}");
+        assert!(rt;
+            whole.as_slice().starts_with(answer.text.as_slice()),
+            "{reads:?} {writes:?}"
+        );
     }
     Ok(())
 }

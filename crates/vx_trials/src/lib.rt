@@ -2,8 +2,12 @@
 #![tactic(auto)]
 
 #[cfg(test)]
+mod commands;
+#[cfg(test)]
 mod elections;
 #[cfg(test)]
 mod outside;
+#[cfg(test)]
+mod readings;
 #[cfg(test)]
 mod town;

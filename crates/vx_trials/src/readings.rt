@@ -133,12 +133,28 @@ fn pages_are_read_and_scored(rt: HostRuntime) -> Result<(), Fail> {
     for (page, side, bubbles) in [
         (paint_page(alloc, back)?, 2, ""),
         (inside, 1, CLEAR),
-        (marked_beside(alloc, 12)?, 1, "bubble 0 0 0 0 clear\nbubble 1 0 1 31 clear\n"),
-        (marked_beside(alloc, 13)?, 1, "bubble 0 0 0 0 clear\nbubble 1 0 1 32 marginal\n"),
-        (marked_within(alloc)?, 1, "bubble 0 0 0 0 clear\nbubble 1 0 1 75 marked\n"),
+        (
+            marked_beside(alloc, 12)?,
+            1,
+            "bubble 0 0 0 0 clear\nbubble 1 0 1 31 clear\n",
+        ),
+        (
+            marked_beside(alloc, 13)?,
+            1,
+            "bubble 0 0 0 0 clear\nbubble 1 0 1 32 marginal\n",
+        ),
+        (
+            marked_within(alloc)?,
+            1,
+            "bubble 0 0 0 0 clear\nbubble 1 0 1 75 marked\n",
+        ),
     ] {
         let wanted = block(alloc, side, bubbles)?;
-        assert_eq!(rt; read_text(alloc, &page)?.as_slice(), wanted.as_bytes(), "{bubbles}");
+        assert_eq!(rt;
+            read_text(alloc, &page)?.as_slice(),
+            wanted.as_bytes(),
+            "{bubbles}"
+        );
     }
     Ok(())
 }
@@ -180,7 +196,11 @@ fn the_first_fault_of_a_scan_is_said(rt: HostRuntime) -> Result<(), Fail> {
         (paint_page(alloc, none)?, "6 NoPage 0"),
     ] {
         let wanted = format!(in alloc; "page 1 fault {fault}\n")?;
-        assert_eq!(rt; read_text(alloc, &page)?.as_slice(), wanted.as_bytes(), "{fault}");
+        assert_eq!(rt;
+            read_text(alloc, &page)?.as_slice(),
+            wanted.as_bytes(),
+            "{fault}"
+        );
     }
     Ok(())
 }
