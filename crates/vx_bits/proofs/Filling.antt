@@ -1,9 +1,9 @@
 -- Laws of packed pixels that are made dark eight at a time.
-use Rattle.std.proofs.Common.{◌≡◌, ◌≢◌, ◌⊎◌, ℕ, ◌+◌, ◌-◌, ◌*◌, ◌/◌, ◌%◌, ◌^◌, ◌<◌, ◌≤◌, ◌==◌, ◌&&◌, ◌||◌, min, max, nat_le, nat_lt, Bool, true, false, List, length, get_or, set, bit_or, ap, ap₂, sym, subst, ◌∙◌, refl, inl, inr, pos, arith, get_or-set_same, get_or-set_other, length-set, pow_mono, mul-le-mul}
+use Rattle.std.proofs.Common.{◌≡◌, ◌≢◌, ◌⊎◌, ℕ, ◌+◌, ◌-◌, ◌*◌, ◌/◌, ◌%◌, ◌^◌, ◌<◌, ◌≤◌, ◌==◌, ◌&&◌, ◌||◌, min, max, nat_le, nat_lt, Bool, true, false, List, length, get_or, set, bit_and, bit_or, ap, ap₂, sym, subst, ◌∙◌, refl, inl, inr, pos, arith, get_or-set_same, get_or-set_other, length-set, pow_mono, mul-le-mul}
 use Rattle.std.specs.Int.{bit_at}
 use Rattle.std.proofs.lemmas.Bool.{cases_eq, cases_lt}
 use Rattle.std.proofs.lemmas.Int.{ints}
-use Rattle.std.proofs.lemmas.Nat.Bits.{bit_at-lt, bit_at_or, bit_at_mask_inside, bit_at_mask_below, bit_at_mask_above}
+use Rattle.std.proofs.lemmas.Nat.Bits.{bit_at-lt, bit_at_and, bit_at_or, bit_at_mask_inside, bit_at_mask_below, bit_at_mask_above}
 use Rattle.vx_plane.specs.Plane.{Page, rectangle, painted}
 use Rattle.vx_plane.specs.Count.{one_if}
 use Rattle.vx_plane.proofs.Pages.{page_of-same, dark_at-inside}
@@ -151,9 +151,16 @@ Filled-all rows before from to k filled past start x =
 pub whole_mask : IsMask 255 0 8
 whole_mask i h = mask_bit 0 8 i (omega arith) (omega arith) h
 
+both_bits : (first last i : ℕ) → i < 8 → min (one_if (nat_le first i && nat_lt i 8)) (one_if (nat_le 0 i && nat_lt i last)) ≡ one_if (nat_le first i && nat_lt i last)
+both_bits first last i h = grind arith
+
+-- the bits that two masks share
+pub both_masks : (a b first last : ℕ) → IsMask a first 8 → IsMask b 0 last → IsMask (bit_and a b) first last
+both_masks a b first last p q i h = bit_at_and a b (7 - i) ∙ ap₂ min (p i h) (q i h) ∙ both_bits first last i h
+
 -- the first byte of a run is filled
-pub Filled-first : (before after : List ℕ) (start left right bits : ℕ) → left < right → start + left / 8 < length before → after ≡ set before (start + left / 8) (bit_or (get_or before (start + left / 8) 0) bits) → IsMask bits (left % 8) (min (right - 8 * (left / 8)) 8) → Filled after before (8 * start + left) (8 * start + right) (start + left / 8 + 1)
-Filled-first before after start left right bits order inside is mask =
+pub Filled-first : (before after : List ℕ) (start left right last bits : ℕ) → left < right → last ≡ min (right - 8 * (left / 8)) 8 → start + left / 8 < length before → after ≡ set before (start + left / 8) (bit_or (get_or before (start + left / 8) 0) bits) → IsMask bits (left % 8) last → Filled after before (8 * start + left) (8 * start + right) (start + left / 8 + 1)
+Filled-first before after start left right last bits order end inside is mask =
     let place : (8 * start + left) / 8 ≡ start + left / 8 = omega arith in
     Filled-more before before after (8 * start + left) (8 * start + right) (start + left / 8) _ _ bits (rw place at (Filled-none before (8 * start + left) (8 * start + right))) is inside (omega arith) (omega arith) (omega arith) (omega arith) mask
 

@@ -2,8 +2,8 @@ ghost use Rattle.std.specs.Prelude.{◌≡◌, ◌+◌, ◌-◌, ◌*◌, ◌<�
 ghost use Rattle.vx_bits.specs.Packed.{packed_pixel};
 ghost use Rattle.vx_bits.specs.Runs.{IsMask, IsRun};
 
-/// Columns of a packed row, from `left` on and before `right`, with the bits that they are of the
-/// first and of the last of their bytes. All bits of the bytes between are columns of the run.
+/// Columns of a packed row, from `left` on and before `right`, with the bits of their first byte from
+/// `left` on and those of their last byte before `right`.
 #[derive(Clone, Copy)]
 pub(crate) struct Run {
     pub(crate) left: u32,
@@ -36,7 +36,7 @@ impl Run {
         Run {
             left,
             right,
-            first_bits: mask(left - first, (right - first).min(8)),
+            first_bits: mask(left - first, 8),
             last_bits: mask(0, right - last),
         }
     }
@@ -59,10 +59,11 @@ pub(crate) fn darken_run(rows: &mut [u8], start: usize, run: Run)
 {
     let first = start + (run.left / 8) as usize;
     let last = start + ((run.right - 1) / 8) as usize;
-    add_bits(rows, first, run.first_bits);
     if first == last {
+        add_bits(rows, first, run.first_bits & run.last_bits);
         return;
     }
+    add_bits(rows, first, run.first_bits);
     for k in first + 1..last {
         add_bits(rows, k, 0xff);
     }
