@@ -71,10 +71,6 @@ followed_more page k places p some inside f best =
     let Own : Point → Type 0 = λ x. IsBest page (prediction_of places k) x in
     followed_grows page k places (set places k p) some f (λ j before. point_at_before places k j p before) (subst Own (sym (point_at_own places k p inside)) best)
 
--- the element at an index, whatever stands for one past the end
-pub point_at_is : (places : List Point) (i : ℕ) (p : Point) → i < length places → p ≡ get_or places i p → point_at places i ≡ p
-point_at_is places i p inside is = get_or_default places i (record { u = pos 0; v = pos 0 }) p inside ∙ sym is
-
 -- a point that lies within a bound lies within a larger one
 pub within_more : (m n : ℕ) (p : Point) → m ≤ n → IsPointWithin m p → IsPointWithin n p
 within_more m n p le w = record {

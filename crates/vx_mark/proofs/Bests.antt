@@ -158,17 +158,6 @@ row-out page predicted cap v columns best c before out =
     ])
     before
 
--- a row begins at its first column
-pub row-begin : (page : Page) (predicted : Point) (cap v : ℕ) (columns : Span) (best : Option Found) → AreColumns page predicted columns → IsBestSeen page predicted cap 0 v best → IsBestSeen page predicted cap columns.first v best
-row-begin page predicted cap v columns best c before =
-    best-kept page predicted cap 0 v columns.first v best
-    (λ q s. elim s.1 [ inl a ↦ (s.0, inl a) | inr b ↦ (s.0, inr (b.0, omega (arith, ints))) ])
-    (λ q good seen. elim seen.1 [
-      | inl a ↦ inl (seen.0, inl a)
-      | inr b ↦ absurd (omega (arith, ints, (columns-hold page predicted q columns c good seen.0).0, b.1))
-    ])
-    before
-
 -- and ends past its last one
 pub row-end : (page : Page) (predicted : Point) (cap u v : ℕ) (columns : Span) (best : Option Found) → AreColumns page predicted columns → columns.past ≤ u → IsBestSeen page predicted cap u v best → IsBestSeen page predicted cap 0 (v + 1) best
 row-end page predicted cap u v columns best c end before =
@@ -181,13 +170,6 @@ row-end page predicted cap u v columns best c end before =
       | inr b ↦ absurd (omega (arith, ints, good.in_frame.left))
     ])
     before
-
--- before the first row nothing is seen
-pub none-seen : (page : Page) (predicted : Point) (cap : ℕ) (rows : Span) → AreRows page predicted rows → IsBestSeen page predicted cap 0 rows.first None
-none-seen page predicted cap rows r = λ q good s. elim s.1 [
-  | inl a ↦ absurd (omega (arith, ints, (rows-hold page predicted q rows r good s.0).0))
-  | inr b ↦ absurd (omega (arith, ints, good.in_frame.left))
-]
 
 -- after the last row every accepted place near is seen
 all-seen : (page : Page) (predicted q : Point) (v : ℕ) (rows : Span) → AreRows page predicted rows → rows.past ≤ v → IsAccepted page q → IsNear predicted q → IsSeen predicted 0 v q

@@ -98,26 +98,6 @@ row-last page past v limit before =
     let told = (limit.holds (pos v) (omega (arith, ints))).0 (omega (arith, ints)) in
     (omega (arith, ints, told.0), omega (arith, ints, told.1))
 
--- above the first row there is none
-pub none-above : (page : Page) → IsFirstAbove page 14 None
-none-above page = λ q good region early. omega (arith, ints, region.top)
-
--- after the last row it is the corner of the scan
-all-above : (page : Page) (q : Point) (row past : ℕ) → IsPast (pos 104) 10 page.height past → past ≤ row → IsAccepted page q → IsInCornerRegion q → q.v <ℤ pos row
-all-above page q row past limit end good region =
-    let before : q.v <ℤ pos past = (limit.holds q.v (omega (arith, ints, good.in_frame.top))).1 (region.bottom, good.in_frame.bottom) in
-    omega (arith, ints)
-
-pub corner-missing : (page : Page) (row past : ℕ) → IsPast (pos 104) 10 page.height past → past ≤ row → IsFirstAbove page row None → (q : Point) → IsAccepted page q → IsInCornerRegion q → ⊥
-corner-missing page row past limit end h q good region = h q good region (all-above page q row past limit end good region)
-
-pub corner-found : (page : Page) (row past : ℕ) (pixel : Pixel) → IsPast (pos 104) 10 page.height past → past ≤ row → IsCornerAbove page row pixel → IsCorner page (place_of pixel)
-corner-found page row past pixel limit end h = record {
-  accepted = h.accepted;
-  in_region = h.in_region;
-  first = λ q good region first. h.first q good region (all-above page q row past limit end good region) first;
-}
-
 -- of two different places one is first
 either-first : (p q : Point) → (ComesBefore p q → ⊥) → (ComesBefore q p → ⊥) → p ≡ q
 either-first p q a b =

@@ -58,15 +58,8 @@ run-light page left row dark below u k m width is wide at room few =
       count_in-complement (pos u -ℤ pos 17) (pos row) 34 1 set,
     )
 
--- a part of the deficit that reaches the bound, and the whole of it
-pub part-up_to : (below part rest n : ℕ) → part + rest ≡ n → below ≤ part → IsUpTo below n part
-part-up_to below part rest n whole most = record { exact = λ less. absurd (omega arith); reached = λ more. omega arith }
-
 pub le-up_to : (below part n : ℕ) → part ≤ n → below ≤ part → IsUpTo below n part
 le-up_to below part n le most = record { exact = λ less. absurd (omega arith); reached = λ more. omega arith }
-
-pub whole-up_to : (below n counted : ℕ) → counted ≡ n → IsUpTo below n counted
-whole-up_to below n counted e = record { exact = λ less. e; reached = λ more. omega arith }
 
 -- a test that two numbers are in order
 pub le-told : (a b : ℕ) → IsTrue (nat_le a b) → a ≤ b
