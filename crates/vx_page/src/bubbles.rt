@@ -11,6 +11,15 @@ use vx_layout::Bubble;
 use vx_scan_model::Scores;
 use vx_score::{score, state};
 
+/// The score of a bubble, at its grid place.
+fn bubble_score(counter: &Counter, border: &Border, bubble: Bubble) -> u32
+    requires border { AreWithin 9000 border.now }
+    requires bubble { IsOnGrid bubble }
+    ensures { result ≡ reading.bubble_score counter.now border.now bubble }
+{
+    score(counter, place(border, bubble.col, bubble.row))
+}
+
 /// The scores of a page's bubbles, in their order.
 pub(crate) fn scores_of(
     alloc: Global,
@@ -24,7 +33,7 @@ pub(crate) fn scores_of(
 {
     let mut scores = Vec::with_capacity(alloc, bubbles.len())?;
     for bubble in bubbles {
-        scores.push(score(counter, place(border, bubble.col, bubble.row)))?;
+        scores.push(bubble_score(counter, border, *bubble))?;
     }
     Ok(Scores::from_vec(scores))
 }

@@ -1,4 +1,4 @@
-ghost use Rattle.std.specs.Prelude.{◌≡◌, map};
+ghost use Rattle.std.specs.Prelude.{◌≡◌, ◌<◌, map};
 ghost use Rattle.std.specs.List.{range_with_len};
 ghost use Rattle.vx_grid.specs.Places.{AreWithin};
 ghost use Rattle.vx_scan_model.specs.Reading.{box_count_of, code_read};
@@ -9,6 +9,16 @@ use vx_fit::place;
 use vx_grid::Border;
 use vx_score::code_count;
 
+/// The dark pixels of the window of a code box, at its grid place.
+fn box_count(counter: &Counter, border: &Border, n: u32) -> u32
+    requires border { AreWithin 9000 border.now }
+    requires n { n < 84 }
+    ensures { result ≡ box_count_of counter.now border.now n }
+{
+    let (column, row) = place_of_box(n);
+    code_count(counter, place(border, column, row))
+}
+
 /// The dark pixels of the windows of the 84 code boxes, the left box of a pair first.
 fn box_counts(counter: &Counter, border: &Border) -> [u32; 84]
     requires { AreWithin 9000 border.now }
@@ -16,8 +26,7 @@ fn box_counts(counter: &Counter, border: &Border) -> [u32; 84]
 {
     let mut counts = [0; 84];
     for n in 0..84 {
-        let (column, row) = place_of_box(n as u32);
-        counts[n] = code_count(counter, place(border, column, row));
+        counts[n] = box_count(counter, border, n as u32);
     }
     counts
 }
