@@ -140,7 +140,7 @@ Gave old (page ∷ pages) new = (between : Unread) × Steps old (Ok (Some page))
 pub record EndsWalk (bytes : List ℕ) (pages : List Page) (unread : Unread) : Type 0 where
   pub at_end : Steps unread (Ok None) unread → images_of bytes ≡ record { pages = pages; fault = None }
   pub at_fault : (fault : PbmFault) → is_no_memory fault ≡ false → Steps unread (Err fault) unread →
-    images_of bytes ≡ record { pages = pages; fault = Some fault }
+      images_of bytes ≡ record { pages = pages; fault = Some fault }
 
 -- a whole walk gives the images of the bytes
 abbrev pub WalksAllImages : Type 0

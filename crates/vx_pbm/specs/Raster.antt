@@ -59,8 +59,11 @@ listed width pixels u v = false
 unfoldable pub plain_raster : Header → List ℕ → Result (Page × ℕ) PbmFault
 plain_raster header text = do
   end ← raster_end (header.height * header.width) 0 header.size (drop header.size text)
-  Ok (page_of header.width header.height
-      (listed header.width (pixels_in (take (end - header.size) (drop header.size text)))), end)
+  Ok (
+    page_of header.width header.height
+        (listed header.width (pixels_in (take (end - header.size) (drop header.size text)))),
+    end,
+  )
 
 -- a plain image, which stands at the first byte, its magic left out of account
 unfoldable pub plain_image : List ℕ → Result (Page × ℕ) PbmFault
