@@ -4,6 +4,8 @@
 #[cfg(test)]
 mod elections;
 #[cfg(test)]
+mod layouts;
+#[cfg(test)]
 mod outside;
 #[cfg(test)]
 mod town;
