@@ -23,8 +23,6 @@ mod pages;
 mod paging;
 mod plan;
 mod planning;
-#[cfg(test)]
-mod tests;
 mod typing;
 
 pub use bubbles::{Bubble, Bubbles};

@@ -6,6 +6,8 @@ mod commands;
 #[cfg(test)]
 mod elections;
 #[cfg(test)]
+mod layouts;
+#[cfg(test)]
 mod outside;
 #[cfg(test)]
 mod readings;
