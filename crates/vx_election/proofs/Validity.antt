@@ -1,6 +1,6 @@
 -- An election that was read is valid, part by part.
-use Rattle.std.proofs.Common.{◌≡◌, ℕ, suc, ◌<◌, ◌≤◌, Bool, true, false, cond, List, [], ◌∷◌, ◌++◌, length, map, Option, Some, None, Result, Ok, Err, refl, arith, ◌⊎◌, inl, inr, lit≤}
-use Rattle.std.specs.Prelude.{bytes_eq, nat_eq, nat_le, chars, codes, is_some, option_map, IfSome}
+use Rattle.std.proofs.Common.{◌≡◌, ℕ, ◌<◌, ◌≤◌, Bool, true, false, cond, List, [], ◌∷◌, ◌++◌, length, map, Option, None, Result, Ok, Err, refl, arith, ◌⊎◌, inl, inr, lit≤}
+use Rattle.std.specs.Prelude.{bytes_eq, nat_eq, nat_le, chars, codes, is_some, IfSome}
 use Rattle.std.specs.Str.{chars as characters}
 use Rattle.std.specs.List.{All, IsDistinct, list_any}
 use Rattle.std.proofs.lemmas.Bool.Decides.{nat_tests}
