@@ -13,7 +13,8 @@ bytes_eq-sym xs ys =
     let turned : Decides (bytes_eq ys xs) (xs ≡ ys) = (λ e. sym (back.0 e), λ e. back.1 (sym e)) in
     same_from_decides _ _ (bytes_eq-Decides xs ys) turned
 
-none-parts : (b : Bool) (o : Option ℕ) → cond b (Some 0) (option_map (λ k. suc k) o) ≡ None → (b ≡ false) × (o ≡ None)
+-- an id that isn't in a list is neither the first nor among the others
+pub none-parts : (b : Bool) (o : Option ℕ) → cond b (Some 0) (option_map (λ k. suc k) o) ≡ None → (b ≡ false) × (o ≡ None)
 none-parts true o e = absurd cc
 none-parts false None e = (refl, refl)
 none-parts false (Some k) e = absurd cc

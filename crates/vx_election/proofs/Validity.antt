@@ -1,6 +1,6 @@
 -- An election that was read is valid, part by part.
-use Rattle.std.proofs.Common.{◌≡◌, ℕ, suc, ◌<◌, ◌≤◌, Bool, true, false, cond, List, [], ◌∷◌, ◌++◌, length, map, Option, Some, None, Result, Ok, Err, refl, arith, ◌⊎◌, inl, inr, lit≤}
-use Rattle.std.specs.Prelude.{bytes_eq, nat_eq, nat_le, chars, codes, is_some, option_map, IfSome}
+use Rattle.std.proofs.Common.{◌≡◌, ℕ, ◌<◌, ◌≤◌, Bool, true, false, cond, List, [], ◌∷◌, ◌++◌, length, map, Option, None, Result, Ok, Err, refl, arith, ◌⊎◌, inl, inr, lit≤}
+use Rattle.std.specs.Prelude.{bytes_eq, nat_eq, nat_le, chars, codes, is_some, IfSome}
 use Rattle.std.specs.Str.{chars as characters}
 use Rattle.std.specs.List.{All, IsDistinct, list_any}
 use Rattle.std.proofs.lemmas.Bool.Decides.{nat_tests}
@@ -38,17 +38,13 @@ use Rattle.vx_election.specs.Settings.{pixels_of, are_in_order, default_threshol
 use Rattle.vx_election.specs.Reasons.{has_reason}
 use Rattle.vx_election.specs.Reading.{date_member, parties_in, named_member, contests_member, styles_member, election_in}
 use Rattle.vx_election.specs.Valid.{IsText, AreDistinct, IsNamed, AreNamed, IsCandidate, IsContest, ArePlaces, IsStyle, AreThresholds, AreContests, AreStyles, IsValid}
+use Rattle.vx_election.proofs.Places.{none-parts}
 use Rattle.vx_election.proofs.Readings.{optional_holds, text_member_holds, optional_text_holds, whole_member_holds, id_member_holds, reference_member_holds, optional_reference_holds, new_reference_in_holds, list_member_holds, optional_list_holds, each_holds}
-
-some_apart : (b : Bool) (o : Option ℕ) → cond b (Some 0) (option_map (λ k. suc k) o) ≡ None → (b ≡ false) × (o ≡ None)
-some_apart true o e = absurd cc
-some_apart false None e = (refl, refl)
-some_apart false (Some k) e = absurd cc
 
 apart_from_none : (new : List ℕ) (ids : List (List ℕ)) → place_in new ids ≡ None → list_any (bytes_eq new) ids ≡ false
 apart_from_none new [] e = refl
 apart_from_none new (first ∷ ids) e =
-    let parts = some_apart (bytes_eq new first) (place_in new ids) e in
+    let parts = none-parts (bytes_eq new first) (place_in new ids) e in
     rw (parts.0, apart_from_none new ids parts.1) refl
 
 none_distinct : {K : Type 0} (eq : K → K → Bool) → IsDistinct eq []
