@@ -99,6 +99,7 @@ impl BitPage {
         requires rows { bottom ≤ self.old.height }
         ensures { self.new ≡ painted self.old (rectangle (pos left) (pos top) (right - left) (bottom - top)) }
     {
+        // For the proof alone: what this call's clause says of the page.
         let _rows = self.height();
         let run = Run::new(left, right);
         for y in top..bottom {

@@ -113,6 +113,7 @@ fn follow(counter: &Counter, places: &mut [Point]) -> Result<(), BorderFault>
     ensures found { OnOk result (IsFollowed counter.now 146 places.new) }
     ensures lacks { IfErr result (IsLack counter.now) }
 {
+    // For the proof alone: what this call's clause says of the page.
     let _width = counter.width();
     let _height = counter.height();
     for k in 1..146 {
@@ -132,6 +133,7 @@ pub fn trace(counter: &Counter) -> Result<Border, BorderFault>
     ensures border { IsBorderOf counter.now result }
     ensures within { IfOk result (λ border. AreWithin 9000 border) }
 {
+    // For the proof alone: what this call's clause says of the page.
     let _width = counter.width();
     let _height = counter.height();
     let Some(corner) = first_corner(counter) else {

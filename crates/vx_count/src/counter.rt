@@ -37,6 +37,7 @@ impl Counter {
         requires height { page.now.height ≤ 4096 }
         ensures { IfOk result (λ counter. counter ≡ page.now) }
     {
+        // For the proof alone: what this call's clause says of the page.
         let _width = page.width();
         Ok(Counter {
             sums: RowSums::new(alloc, page)?,

@@ -106,6 +106,7 @@ impl PackedRows {
         requires row { row < self.now.height }
         ensures { result ≡ count_in (pos left) (pos row) (64 * words) 1 (dark_at self.now) }
     {
+        // For the proof alone: what this call's clause says of the page.
         let _width = self.width();
         let mut dark = 0;
         for k in 0..words {

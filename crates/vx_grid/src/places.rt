@@ -24,7 +24,8 @@ impl Rect {
         requires v { IsWithin 10000 place.v }
         requires left { IsWithin 100 left }
         requires top { IsWithin 100 top }
-        ensures { result ≡ record { left = place.u +ℤ left; top = place.v +ℤ top; width = width; height = height } }
+        ensures { result
+            ≡ record { left = place.u +ℤ left; top = place.v +ℤ top; width = width; height = height } }
     {
         Rect {
             left: place.u + left,

@@ -72,7 +72,8 @@ impl Sink for MemSink {
         ensures cause { CountsFaults (is_err result) self.old.tally.faults self.new.tally.faults }
         ensures failed { is_err result
             ≡ (is_listed self.old.fails self.old.tally || length self.old.taken == self.old.room) }
-        ensures count { IfOk result (λ count. count ≡ min (length piece.now) (self.old.room - length self.old.taken)) }
+        ensures count { IfOk result (λ count.
+            count ≡ min (length piece.now) (self.old.room - length self.old.taken)) }
         ensures nothing { OnErr result (self.new.taken ≡ self.old.taken) }
         ensures counted { self.new ≡ record self.old
             { taken = self.new.taken; tally = counted self.old.tally (is_err result) } }

@@ -83,6 +83,7 @@ fn light_up_to(counter: &Counter, u: u32, v: u32, below: u32, first: u32) -> u32
     ensures value { IsUpTo below (core_light counter.now (place_in u v)) result }
     ensures bound { result < 21 + 34 }
 {
+    // For the proof alone: what this call's clause says of the page.
     let _height = counter.height();
     let mut light = first;
     for j in 1..10 {
@@ -115,6 +116,7 @@ fn with_flanks(counter: &Counter, u: u32, v: u32, below: u32, core: u32) -> u32
     requires less { core < below }
     ensures { IsUpTo below (deficit_of counter.now (place_in u v)) result }
 {
+    // For the proof alone: what this call's clause says of the page.
     let _width = counter.width();
     let _height = counter.height();
     let upper = core + dark_in_flank(counter, u - 17, v - 11, 34, 4);
@@ -184,6 +186,7 @@ pub(crate) fn is_row_out(counter: &Counter, columns: Span, v: u32, below: u32) -
     requires below { below ≤ 21 }
     ensures { IsTrue result → IsOut counter.now columns v below }
 {
+    // For the proof alone: what this call's clause says of the page.
     let _height = counter.height();
     if columns.first >= columns.past {
         return true;

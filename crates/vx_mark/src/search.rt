@@ -128,6 +128,7 @@ pub fn best_near(counter: &Counter, predicted: Point) -> Option<Point>
         ((q : Point) → IsAccepted counter.now q → IsNear predicted q → ⊥)
         (λ p. IsBest counter.now predicted p) }
 {
+    // For the proof alone: what this call's clause says of the page.
     let _width = counter.width();
     let _height = counter.height();
     let columns = columns_near(counter, predicted);

@@ -73,7 +73,8 @@ fn number_of(digits: &[u8]) -> u32
 fn gap_at(text: &[u8], at: usize) -> Result<usize, usize>
     requires { at ≤ length text.now }
     ensures exact { result ≡ gap_at text.now at }
-    ensures within { MatchResult result (λ behind. behind ≤ length text.now) (λ offset. offset ≤ length text.now) }
+    ensures within { MatchResult result
+        (λ behind. behind ≤ length text.now) (λ offset. offset ≤ length text.now) }
 {
     let size = gap_size(&text[at..]);
     if size == 0 {
@@ -108,7 +109,8 @@ fn number_at(text: &[u8], at: usize) -> Result<(u32, usize), usize>
 fn space_at(text: &[u8], at: usize) -> Result<usize, usize>
     requires { at ≤ length text.now }
     ensures exact { result ≡ space_at text.now at }
-    ensures within { MatchResult result (λ behind. behind ≤ length text.now) (λ offset. offset ≤ length text.now) }
+    ensures within { MatchResult result
+        (λ behind. behind ≤ length text.now) (λ offset. offset ≤ length text.now) }
 {
     if at < text.len() && is_space(text[at]) {
         return Ok(at + 1);

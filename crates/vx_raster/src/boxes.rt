@@ -28,6 +28,7 @@ fn paint_box(page: &mut BitPage, n: u32)
 pub(crate) fn paint_boxes(page: &mut BitPage, printed: &[bool; 84])
     ensures { page.new ≡ painted page.old (code_pixels printed.now) }
 {
+    // For the proof alone: what this call's clause says of the page.
     let _columns = page.width();
     for n in 0..84 {
         if printed[n as usize] {

@@ -27,6 +27,7 @@ fn paint_mark(page: &mut BitPage, k: u32)
 pub(crate) fn paint_marks(page: &mut BitPage)
     ensures { page.new ≡ painted page.old timing_marks }
 {
+    // For the proof alone: what this call's clause says of the page.
     let _columns = page.width();
     for k in 0..MARKS {
         paint_mark(page, k);

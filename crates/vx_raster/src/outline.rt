@@ -64,6 +64,7 @@ fn paint_bubble(page: &mut BitPage, bubble: &Bubble)
 pub(crate) fn paint_bubbles(page: &mut BitPage, bubbles: &[Bubble])
     ensures { page.new ≡ painted page.old (any_of bubbles.now bubble_pixels) }
 {
+    // For the proof alone: what this call's clause says of the page.
     let _columns = page.width();
     for bubble in bubbles {
         paint_bubble(page, bubble);

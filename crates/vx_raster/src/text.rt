@@ -27,6 +27,7 @@ fn paint_column(page: &mut BitPage, x: u64, y: u64, bits: u8)
     requires seven { bits < 2 ^ 7 }
     ensures { page.new ≡ painted page.old (in_any 7 (bit_pixels bits x y)) }
 {
+    // For the proof alone: what this call's clause says of the page.
     let _columns = page.width();
     let mut rest = u32::from(bits);
     let mut top = 0;
@@ -50,6 +51,7 @@ fn paint_glyph(page: &mut BitPage, c: char, x: u64, y: u64)
     requires y { y < 2 ^ 33 }
     ensures { page.new ≡ painted page.old (glyph_pixels c x y) }
 {
+    // For the proof alone: what this call's clause says of the page.
     let _columns = page.width();
     let columns = dots(c);
     for column in 0..5 {
@@ -77,6 +79,7 @@ fn paint_line(page: &mut BitPage, line: &TextLine)
 pub(crate) fn paint_texts(page: &mut BitPage, texts: &[TextLine])
     ensures { page.new ≡ painted page.old (any_of texts.now line_pixels) }
 {
+    // For the proof alone: what this call's clause says of the page.
     let _columns = page.width();
     for line in texts {
         paint_line(page, line);
