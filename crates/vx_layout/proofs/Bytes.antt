@@ -1,9 +1,13 @@
--- How many characters the bytes of characters spell, whatever the characters are.
-use Rattle.std.proofs.Common.{◌≡◌, ℕ, suc, ◌+◌, ◌<◌, ◌/◌, ◌%◌, List, [], ◌∷◌, ◌++◌, length, cond, Bool, true, false, ltb, refl, ap, ◌∙◌, arith}
-use Rattle.std.specs.Str.{chars, chars_after, continuation_len, lead_bits}
-use Rattle.std.proofs.lemmas.Str.{chars-nil}
+-- How many characters the bytes of characters spell, whatever the characters are, and how many bytes characters take.
+use Rattle.std.proofs.Common.{◌≡◌, ℕ, zero, suc, take, drop, ◌+◌, ◌*◌, ◌<◌, ◌≤◌, ◌/◌, ◌%◌, List, [], ◌∷◌, ◌++◌, length, cond, Bool, true, false, ltb, refl, ap, sym, ◌∙◌, arith}
+use Rattle.std.specs.Str.{IsUtf8, IsCharBoundary, chars, chars_after, continuation_len, lead_bits}
+use Rattle.std.specs.List.{sum_by}
+use Rattle.std.proofs.lemmas.List.{length-append, take-append-drop}
+use Rattle.std.proofs.lemmas.List.Recursion.{is_sum_by}
+use Rattle.std.proofs.lemmas.Str.{chars-nil, length-encode, len_utf8_bounds, encodes-append, encodes-chars, scalars-chars, IsCharBoundary-at_seam}
+use Rattle.std.proofs.lemmas.Bool.{and_parts}
 use Rattle.std.proofs.lemmas.Bool.Decides.{nat_tests}
-use lib.Utf8.{encode, encodes}
+use lib.Utf8.{encode, encodes, scalar, scalars}
 
 -- after the last byte of a character the next begins
 whole : (c : ℕ) (bs : List ℕ) → length (chars_after 0 c bs) ≡ suc (length (chars bs))
@@ -60,3 +64,30 @@ first-character c bs = by_tests (ltb c 128) (ltb c 2048) (ltb c 65536) c bs refl
 pub length-chars_encodes : (cs : List ℕ) → length (chars (encodes cs)) ≡ length cs
 length-chars_encodes [] = ap length chars-nil
 length-chars_encodes (c ∷ cs) = first-character c (encodes cs) ∙ ap suc (length-chars_encodes cs)
+
+-- the bytes of characters, counted one character after another
+pub length-encodes : (cs : List ℕ) → length (encodes cs) ≡ sum_by (λ c. length (encode c)) cs
+length-encodes = is_sum_by (λ cs. length (encodes cs)) (λ c. length (encode c)) refl (λ c cs. length-append (encode c) (encodes cs))
+
+-- a character takes four bytes at most
+pub encodes-at_most : (cs : List ℕ) → length (encodes cs) ≤ 4 * length cs
+encodes-at_most [] = omega arith
+encodes-at_most (c ∷ cs) =
+    omega (arith, length-append (encode c) (encodes cs), length-encode c, (len_utf8_bounds c).1, encodes-at_most cs)
+
+-- characters that stand behind others are characters too
+pub scalars-drop : (n : ℕ) (cs : List ℕ) → scalars cs ≡ true → scalars (drop n cs) ≡ true
+scalars-drop zero cs all = all
+scalars-drop (suc n) [] all = all
+scalars-drop (suc n) (c ∷ cs) all = scalars-drop n cs (and_parts (scalar c) (scalars cs) all).1
+
+-- a text is the bytes of its first characters, then those of the others
+pub cut : (n : ℕ) (bs : List ℕ) → IsUtf8 bs → bs ≡ encodes (take n (chars bs)) ++ encodes (drop n (chars bs))
+cut n bs u =
+    sym (encodes-chars bs u) ∙ ap encodes (sym (take-append-drop n (chars bs))) ∙ encodes-append (take n (chars bs)) (drop n (chars bs))
+
+-- and may be cut there
+pub IsCharBoundary-cut : (n : ℕ) (bs : List ℕ) → IsUtf8 bs → IsCharBoundary bs (length (encodes (take n (chars bs))))
+IsCharBoundary-cut n bs u =
+    let back = drop n (chars bs) in
+    IsCharBoundary-at_seam bs (encodes (take n (chars bs))) (encodes back) (cut n bs u) (back, (scalars-drop n (chars bs) (scalars-chars bs u), refl))

@@ -1,4 +1,4 @@
-ghost use Rattle.std.specs.Prelude.{◌≡◌, ◌++◌, ◌∷◌, ◌≤◌, ◌<◌, ◌+◌, ◌-◌, ◌*◌, ◌/◌, ◌%◌, ◌^◌, [], chars, take, encode_utf8_all, IfOk, OnOk};
+ghost use Rattle.std.specs.Prelude.{◌≡◌, ◌++◌, ◌∷◌, ◌≤◌, ◌<◌, ◌+◌, ◌-◌, ◌*◌, ◌/◌, ◌%◌, ◌^◌, [], length, chars, take, drop, encode_utf8_all, IfOk, OnOk};
 ghost use Rattle.vx_layout.specs.Lines as text_lines;
 ghost use Rattle.vx_grid.specs.Grid as grid;
 ghost use Rattle.vx_layout.specs.Lines.{size_of, lines_at};
@@ -53,18 +53,19 @@ fn put_line(
     })
 }
 
-/// The characters of a text.
-fn characters_in(alloc: Global, text: &str) -> Result<Vec<char>, OutOfMemory>
-    ensures { IfOk result (λ characters. characters.items ≡ chars text.now) }
+/// How many bytes the next line of a text has.
+fn line_bytes(text: &str) -> usize
+    ensures { result ≡ length (encode_utf8_all (take 29 (chars text.now))) }
 {
-    Ok(text.chars().collect(alloc)?)
+    text.chars().take(LINE).map(|c| c.len_utf8()).sum()
 }
 
-/// The next line of the characters that are left.
-fn line_of(alloc: Global, rest: &[char]) -> Result<Text, OutOfMemory>
-    ensures { IfOk result (λ line. line ≡ encode_utf8_all (take 29 rest.now)) }
+/// The next line of a text, and what follows it.
+fn cut_line(text: &str) -> (&str, &str)
+    ensures line { result.0.now ≡ encode_utf8_all (take 29 (chars text.now)) }
+    ensures rest { result.1.now ≡ encode_utf8_all (drop 29 (chars text.now)) }
 {
-    Ok(Text::from_string(rest.iter().copied().take(LINE).collect(alloc)?))
+    text.split_at(line_bytes(text))
 }
 
 /// Lays a text in rows of the grid from `row` on, right of the bubbles of grid column `col`.
@@ -79,12 +80,12 @@ pub(crate) fn lay_text(
     requires rows { row + text_lines.rows_of text.now ≤ 40 }
     ensures { OnOk result (texts.new ≡ texts.old ++ lines_at col row text.now) }
 {
-    let all = characters_in(alloc, text)?;
-    let characters = all.as_slice();
-    let count = ((characters.len() + LINE - 1) / LINE) as u32;
+    let count = ((characters_of(text) + LINE - 1) / LINE) as u32;
+    let mut rest = text;
     for k in 0..count {
-        let line = line_of(alloc, &characters[k as usize * LINE..])?;
-        put_line(texts, col, row, k, line)?;
+        let (line, after) = cut_line(rest);
+        put_line(texts, col, row, k, Text::from_str(alloc, line)?)?;
+        rest = after;
     }
     Ok(())
 }
