@@ -1,3 +1,7 @@
+pub mod Paper
 pub mod Grid
+pub mod Sizes
 pub mod Marks
+pub mod Regions
 pub mod Places
+pub mod Borders

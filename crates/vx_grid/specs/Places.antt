@@ -1,7 +1,9 @@
 -- Places of a scan, and the windows where what was printed is looked for.
-use Rattle.std.specs.Prelude.{◌≡◌, ℕ, ℤ, pos, ◌+ℤ◌, ◌-ℤ◌, ◌≤ℤ◌, List, Some, slice_get, slice_index_or}
+use Rattle.std.specs.Prelude.{◌≡◌, ℕ, ◌+◌, ℤ, pos, ◌+ℤ◌, ◌-ℤ◌, ◌≤ℤ◌, List, Some, slice_get, slice_index_or}
 use Rattle.vx_grid.specs.declared.places.Point.{Point}
 use Rattle.vx_grid.specs.declared.places.Rect.{Rect}
+use Rattle.vx_grid.specs.declared.sizes.HalfSides.{HalfSides}
+use Rattle.vx_grid.specs.Sizes.{bubble, code_box, window_of}
 
 -- the point of a column and a row; every point is that of its own two
 abbrev pub point_of : ℤ → ℤ → Point
@@ -12,13 +14,22 @@ pub record IsWithin (n : ℕ) (z : ℤ) : Type 0 where
   pub low : pos 0 ≤ℤ (z +ℤ pos n)
   pub high : z ≤ℤ pos n
 
--- the box of a bubble, at offsets -20 to 19 and -13 to 12, grown by 8 columns and 6 rows
-abbrev pub bubble_window_of : Point → Rect
-bubble_window_of p = record { left = p.u -ℤ pos 28; top = p.v -ℤ pos 19; width = 56; height = 38 }
+-- the rectangle of such a size round a place
+abbrev pub rect_round : HalfSides → Point → Rect
+rect_round half p = record {
+  left = p.u -ℤ pos half.across;
+  top = p.v -ℤ pos half.down;
+  width = half.across + half.across;
+  height = half.down + half.down;
+}
 
--- the box of the page code, at offsets -14 to 13 and -10 to 9, grown by 8 columns and 6 rows
+-- where a bubble that was printed round a place is looked for
+abbrev pub bubble_window_of : Point → Rect
+bubble_window_of p = rect_round (window_of bubble) p
+
+-- where a box of the page code that was printed round a place is looked for
 abbrev pub code_window_of : Point → Rect
-code_window_of p = record { left = p.u -ℤ pos 22; top = p.v -ℤ pos 16; width = 44; height = 32 }
+code_window_of p = rect_round (window_of code_box) p
 
 -- a point within n of the origin in both coordinates
 pub record IsPointWithin (n : ℕ) (p : Point) : Type 0 where

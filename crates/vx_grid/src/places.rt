@@ -1,5 +1,7 @@
-ghost use Rattle.std.specs.Prelude.{◌≡◌, ◌<◌, ◌+ℤ◌, ◌-ℤ◌, pos, Some, length, slice_get};
-ghost use Rattle.vx_grid.specs.Places.{IsWithin, bubble_window_of, code_window_of};
+ghost use Rattle.std.specs.Prelude.{◌≡◌, ◌≤◌, ◌+ℤ◌, ◌-ℤ◌, pos};
+ghost use Rattle.vx_grid.specs.Places.{IsWithin, bubble_window_of, code_window_of, rect_round};
+
+use crate::sizes::{BUBBLE_WINDOW, CODE_WINDOW, HalfSides};
 
 /// A pixel of a scan or of the plane round it: column `u` to the right, row `v` downwards.
 #[derive(Clone, Copy, Debug, PartialEq, Eq)]
@@ -34,24 +36,38 @@ impl Rect {
             height,
         }
     }
+
+    /// The rectangle that has so many columns and rows on each side of a place.
+    pub fn round(place: Point, half: HalfSides) -> Rect
+        requires u { IsWithin 10000 place.u }
+        requires v { IsWithin 10000 place.v }
+        requires across { half.across ≤ 100 }
+        requires down { half.down ≤ 100 }
+        ensures { result ≡ rect_round half place }
+    {
+        Rect {
+            left: place.u - half.across as i32,
+            top: place.v - half.down as i32,
+            width: half.across + half.across,
+            height: half.down + half.down,
+        }
+    }
 }
 
-/// Where a bubble that was printed round `place` is looked for: its box grown by 8 columns and 6
-/// rows.
+/// Where a bubble that was printed round `place` is looked for.
 pub fn bubble_window(place: Point) -> Rect
     requires u { IsWithin 10000 place.u }
     requires v { IsWithin 10000 place.v }
     ensures { result ≡ bubble_window_of place }
 {
-    Rect::around(place, -28, -19, 56, 38)
+    Rect::round(place, BUBBLE_WINDOW)
 }
 
-/// Where a code box that was printed round `place` is looked for: the box grown by 8 columns and 6
-/// rows.
+/// Where a box of the page code that was printed round `place` is looked for.
 pub fn code_window(place: Point) -> Rect
     requires u { IsWithin 10000 place.u }
     requires v { IsWithin 10000 place.v }
     ensures { result ≡ code_window_of place }
 {
-    Rect::around(place, -22, -16, 44, 32)
+    Rect::round(place, CODE_WINDOW)
 }
