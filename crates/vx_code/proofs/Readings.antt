@@ -2,29 +2,32 @@
 use Rattle.std.proofs.Common.{◌≡◌, ◌≢◌, ℕ, ◌+◌, ◌*◌, ◌<◌, ◌==◌, ◌↔◌, ◌∙◌, sym, ap, subst, List, Bool, true, false, if◌then◌else◌, Option, Some, None, IsSome, is_none, Result, Ok, Err, map, position, length, slice_index, slice_index_or, refl, arith}
 use Rattle.std.proofs.lemmas.List.Quantifiers.{position-Some}
 use Rattle.std.proofs.lemmas.Bool.Decides.{nat_tests}
+use Rattle.vx_grid.specs.declared.paper.Paper.{Paper}
 use Rattle.vx_code.specs.declared.code.PageCode.{PageCode}
 use Rattle.vx_code.specs.declared.code.CodeFault.{CodeFault}
 use Rattle.vx_code.specs.declared.code.CodeFault.TheVariants.{BadPair, BadVersion}
-use Rattle.vx_code.specs.Code.{IsInRange, Shows, bits_of, boxes_of, shown_by, bit_of, bits_unless, IsFirstBad, bits_shown_by, code_of_bits, code_of_shown, code_shown_by}
+use Rattle.vx_code.specs.Code.{IsInRange, Shows, bits_of, boxes_of, shown_by, bit_of, bits_unless, IsFirstBad, bits_shown_by, code_of_bits, version_of, code_of_shown, code_shown_by}
 use Rattle.vx_code.proofs.Fields.{length-bits_of, code_of_bits-bits_of, bits_of-code_of_bits}
 use Rattle.vx_code.proofs.Pairs.{shown_by-boxes, boxes-shown_by, bits_shown_by-all, first_none_at, first_position, get-shown_by, length-shown_by}
 
--- bits that are shown, of version 1
-pub code_shown_by-good : (counts : List ℕ) (bits : List Bool) → shown_by counts ≡ map Some bits → (code_of_bits bits).version ≡ 1 → code_shown_by counts ≡ Ok (code_of_bits bits)
+-- bits that are shown, of the paper's version
+pub code_shown_by-good : (paper : Paper) (counts : List ℕ) (bits : List Bool) → shown_by counts ≡ map Some bits → (code_of_bits bits).version ≡ version_of paper → code_shown_by paper counts ≡ Ok (code_of_bits bits)
 unfolding code_shown_by
-code_shown_by-good counts bits shown one = ap code_of_shown (bits_shown_by-all counts bits shown) ∙ rw one refl
+code_shown_by-good paper counts bits shown one =
+    let test : ((code_of_bits bits).version == version_of paper) ≡ true = grind (arith, nat_tests) in
+    ap (code_of_shown paper) (bits_shown_by-all counts bits shown) ∙ rw test refl
 
 -- bits that are shown, of another version
-pub code_shown_by-version : (counts : List ℕ) (bits : List Bool) → shown_by counts ≡ map Some bits → (code_of_bits bits).version ≢ 1 → code_shown_by counts ≡ Err (BadVersion (code_of_bits bits).version)
+pub code_shown_by-version : (paper : Paper) (counts : List ℕ) (bits : List Bool) → shown_by counts ≡ map Some bits → (code_of_bits bits).version ≢ version_of paper → code_shown_by paper counts ≡ Err (BadVersion (code_of_bits bits).version)
 unfolding code_shown_by
-code_shown_by-version counts bits shown other =
-    let test : ((code_of_bits bits).version == 1) ≡ false = grind (arith, nat_tests) in
-    ap code_of_shown (bits_shown_by-all counts bits shown) ∙ rw test refl
+code_shown_by-version paper counts bits shown other =
+    let test : ((code_of_bits bits).version == version_of paper) ≡ false = grind (arith, nat_tests) in
+    ap (code_of_shown paper) (bits_shown_by-all counts bits shown) ∙ rw test refl
 
 -- a pair that is no bit
-pub code_shown_by-bad : (counts : List ℕ) (fault : CodeFault) → bits_shown_by counts ≡ Err fault → code_shown_by counts ≡ Err fault
+pub code_shown_by-bad : (paper : Paper) (counts : List ℕ) (fault : CodeFault) → bits_shown_by counts ≡ Err fault → code_shown_by paper counts ≡ Err fault
 unfolding code_shown_by
-code_shown_by-bad counts fault bad = ap code_of_shown bad
+code_shown_by-bad paper counts fault bad = ap (code_of_shown paper) bad
 
 -- counts that show the boxes of a code show its bits
 shown_by-boxes_of : (counts : List ℕ) (code : PageCode) → length counts ≡ 84 → Shows counts (boxes_of code) → shown_by counts ≡ map Some (bits_of code)
@@ -34,16 +37,16 @@ shown_by-boxes_of counts code size shows =
     shown_by-boxes (bits_of code) counts (omega arith) (λ box h. shows.each box (omega arith))
 
 -- the boxes of a code give it back
-pub code_shown_by-boxes_of : (counts : List ℕ) (code : PageCode) → length counts ≡ 84 → IsInRange code → code.version ≡ 1 → Shows counts (boxes_of code) → code_shown_by counts ≡ Ok code
-code_shown_by-boxes_of counts code size fits one shows =
+pub code_shown_by-boxes_of : (paper : Paper) (counts : List ℕ) (code : PageCode) → length counts ≡ 84 → IsInRange code → code.version ≡ version_of paper → Shows counts (boxes_of code) → code_shown_by paper counts ≡ Ok code
+code_shown_by-boxes_of paper counts code size fits one shows =
     let back : code_of_bits (bits_of code) ≡ code = code_of_bits-bits_of code fits in
-    code_shown_by-good counts (bits_of code) (shown_by-boxes_of counts code size shows) (rw back one) ∙ ap Ok back
+    code_shown_by-good paper counts (bits_of code) (shown_by-boxes_of counts code size shows) (rw back one) ∙ ap Ok back
 
 -- the boxes of a code of another version are refused with it
-pub code_shown_by-other : (counts : List ℕ) (code : PageCode) → length counts ≡ 84 → IsInRange code → code.version ≢ 1 → Shows counts (boxes_of code) → code_shown_by counts ≡ Err (BadVersion code.version)
-code_shown_by-other counts code size fits other shows =
+pub code_shown_by-other : (paper : Paper) (counts : List ℕ) (code : PageCode) → length counts ≡ 84 → IsInRange code → code.version ≢ version_of paper → Shows counts (boxes_of code) → code_shown_by paper counts ≡ Err (BadVersion code.version)
+code_shown_by-other paper counts code size fits other shows =
     let back : code_of_bits (bits_of code) ≡ code = code_of_bits-bits_of code fits in
-    code_shown_by-version counts (bits_of code) (shown_by-boxes_of counts code size shows) (rw back other)
+    code_shown_by-version paper counts (bits_of code) (shown_by-boxes_of counts code size shows) (rw back other)
     ∙ ap (λ (x : PageCode). Err (BadVersion x.version)) back
 
 -- counts show the boxes of the code that they give
@@ -83,10 +86,10 @@ first_bad_at counts n left right size at left_is right_is =
       earlier = λ m h. subst (λ bit. IsSome bit) (get-shown_by counts m (omega arith)) (is_none-false _ (here.2 m h));
     }
 
-first_bad_from : (counts : List ℕ) (place : Option ℕ) (n left right : ℕ) → length counts ≡ 84 → position is_none (shown_by counts) ≡ place
-    → code_of_shown (bits_unless counts place) ≡ Err (BadPair n left right) → IsFirstBad counts n left right
-first_bad_from counts None n left right size at e = absurd (no_pair _ _ _ _ _ _ e)
-first_bad_from counts (Some place) n left right size at e =
+first_bad_from : (paper : Paper) (counts : List ℕ) (place : Option ℕ) (n left right : ℕ) → length counts ≡ 84 → position is_none (shown_by counts) ≡ place
+    → code_of_shown paper (bits_unless counts place) ≡ Err (BadPair n left right) → IsFirstBad counts n left right
+first_bad_from paper counts None n left right size at e = absurd (no_pair _ _ _ _ _ _ e)
+first_bad_from paper counts (Some place) n left right size at e =
     let same : place ≡ n = cc in
     let first : slice_index counts (2 * place) ≡ left = cc in
     let second : slice_index counts (2 * place + 1) ≡ right = cc in
@@ -94,8 +97,8 @@ first_bad_from counts (Some place) n left right size at e =
     (sym first ∙ ap (λ k. slice_index counts (2 * k)) same)
     (sym second ∙ ap (λ k. slice_index counts (2 * k + 1)) same)
 
-first_bad_to : (counts : List ℕ) (n left right : ℕ) → length counts ≡ 84 → IsFirstBad counts n left right → code_of_shown (bits_unless counts (position is_none (shown_by counts))) ≡ Err (BadPair n left right)
-first_bad_to counts n left right size bad =
+first_bad_to : (paper : Paper) (counts : List ℕ) (n left right : ℕ) → length counts ≡ 84 → IsFirstBad counts n left right → code_of_shown paper (bits_unless counts (position is_none (shown_by counts))) ≡ Err (BadPair n left right)
+first_bad_to paper counts n left right size bad =
     let many : length (shown_by counts) ≡ 42 = length-shown_by counts 42 (omega arith) in
     let stands : n < 42 = bad.stands in
     let none : slice_index_or (shown_by counts) n (Some false) ≡ None =
@@ -104,15 +107,15 @@ first_bad_to counts n left right size bad =
     λ m h. subst (λ bit. IsSome bit) (sym (get-shown_by counts m (omega arith))) (bad.earlier m h) in
     let at : position is_none (shown_by counts) ≡ Some n =
     first_position (shown_by counts) n (first_none_at (shown_by counts) n (omega arith) none earlier) (omega arith) in
-    ap (λ place. code_of_shown (bits_unless counts place)) at
+    ap (λ place. code_of_shown paper (bits_unless counts place)) at
     ∙ ap (λ l. Err (BadPair n l (slice_index counts (2 * n + 1)))) (sym bad.left_count)
     ∙ ap (λ r. Err (BadPair n left r)) (sym bad.right_count)
 
 -- the first pair that is no bit is what is refused, and nothing else is refused so
-pub code_shown_by-BadPair : (counts : List ℕ) (result : Result PageCode CodeFault) → length counts ≡ 84 → result ≡ code_shown_by counts
+pub code_shown_by-BadPair : (paper : Paper) (counts : List ℕ) (result : Result PageCode CodeFault) → length counts ≡ 84 → result ≡ code_shown_by paper counts
     → (n left right : ℕ) → (result ≡ Err (BadPair n left right)) ↔ IsFirstBad counts n left right
 unfolding code_shown_by bits_shown_by
-code_shown_by-BadPair counts result size is n left right = (
-  λ e. first_bad_from counts (position is_none (shown_by counts)) n left right size refl (sym is ∙ e),
-  λ bad. is ∙ first_bad_to counts n left right size bad,
+code_shown_by-BadPair paper counts result size is n left right = (
+  λ e. first_bad_from paper counts (position is_none (shown_by counts)) n left right size refl (sym is ∙ e),
+  λ bad. is ∙ first_bad_to paper counts n left right size bad,
 )

@@ -2,6 +2,9 @@
 use Rattle.std.specs.Prelude.{◌≡◌, ℕ, ◌+◌, ◌*◌, ◌/◌, ◌%◌, ◌^◌, ◌<◌, ◌≤◌, ◌==◌, ◌&&◌, List, [], ◌∷◌, Bool, true, false, not, Option, Some, None, Result, Ok, Err, is_none, IsSome, unwrap_or, map, position, take, slice_index, slice_index_or, nat_le, if◌then◌else◌}
 use Rattle.std.specs.Int.{from_bool}
 use Rattle.std.specs.List.{flat_map, zip}
+use Rattle.vx_grid.specs.declared.paper.Paper.{Paper}
+use Rattle.vx_grid.specs.declared.paper.Paper.TheVariants.{Letter, Legal}
+use Rattle.vx_grid.specs.Grid.{first_code_row, first_reserved_row}
 use Rattle.vx_grid.specs.declared.kind.Kind.{Kind}
 use Rattle.vx_grid.specs.declared.kind.Kind.TheVariants.{Precinct, Absentee, Provisional, Other}
 use Rattle.vx_code.specs.declared.code.PageCode.{PageCode}
@@ -90,18 +93,23 @@ bits_unless counts (Some n) = Err (BadPair n (slice_index counts (2 * n)) (slice
 unfoldable pub bits_shown_by : List ℕ → Result (List Bool) CodeFault
 bits_shown_by counts = bits_unless counts (position is_none (shown_by counts))
 
--- the code, where its version is the one that is printed
-abbrev pub of_version_one : PageCode → Result PageCode CodeFault
-of_version_one code = if code.version == 1 then Ok code else Err (BadVersion code.version)
+-- the version that is printed on each paper
+abbrev pub version_of : Paper → ℕ
+version_of Letter = 1
+version_of Legal = 2
+
+-- the code, where its version is that of the paper
+abbrev pub of_version : Paper → PageCode → Result PageCode CodeFault
+of_version paper code = if code.version == version_of paper then Ok code else Err (BadVersion code.version)
 
 -- the code of bits that are shown
-abbrev pub code_of_shown : Result (List Bool) CodeFault → Result PageCode CodeFault
-code_of_shown (Ok bits) = of_version_one (code_of_bits bits)
-code_of_shown (Err fault) = Err fault
+abbrev pub code_of_shown : Paper → Result (List Bool) CodeFault → Result PageCode CodeFault
+code_of_shown paper (Ok bits) = of_version paper (code_of_bits bits)
+code_of_shown paper (Err fault) = Err fault
 
--- the code that 84 counts show, or the first fault
-unfoldable pub code_shown_by : List ℕ → Result PageCode CodeFault
-code_shown_by counts = code_of_shown (bits_shown_by counts)
+-- the code that 84 counts show on a page of a paper, or the first fault
+unfoldable pub code_shown_by : Paper → List ℕ → Result PageCode CodeFault
+code_shown_by paper counts = code_of_shown paper (bits_shown_by counts)
 
 -- a pair is the first that is no bit, with its two counts
 pub record IsFirstBad (counts : List ℕ) (n left right : ℕ) : Type 0 where
@@ -128,6 +136,15 @@ tag_of digest = number_of_bits (take 20 (flat_map (bits_of_number 8) digest))
 abbrev pub TagsAreInRange : Type 0
 TagsAreInRange = (digest : List ℕ) → tag_of digest < 2 ^ 20
 
--- the grid column and row of a box: 14 pairs a row from row 35 and column 3 on
-abbrev pub place_of_box : ℕ → ℕ × ℕ
-place_of_box box = let pair = box / 2 in (3 + 2 * (pair % 14) + box % 2, 35 + pair / 14)
+-- the grid column and row of a box, 14 pairs a row from column 3 on, where row 0 of the boxes is this
+-- grid row
+abbrev pub place_from : ℕ → ℕ → ℕ × ℕ
+place_from first box = let pair = box / 2 in (3 + 2 * (pair % 14) + box % 2, first + pair / 14)
+
+-- where a box is printed
+abbrev pub place_of_box : Paper → ℕ → ℕ × ℕ
+place_of_box paper box = place_from (first_code_row paper) box
+
+-- where it is seen on a page that is turned by 180 degrees, but for its order: the reserved rows
+abbrev pub reserved_place : ℕ → ℕ × ℕ
+reserved_place box = place_from first_reserved_row box

@@ -2,12 +2,12 @@ ghost use Rattle.std.specs.Prelude.{◌<◌, ◌≡◌, ◌^◌};
 ghost use Rattle.vx_code.specs.Code as page_code;
 ghost use Rattle.vx_code.specs.Code.{IsInRange};
 
-use vx_grid::Kind;
+use vx_grid::{Kind, Paper};
 
 /// What a page says of itself in its code boxes.
 #[derive(Clone, Copy, Debug, PartialEq, Eq)]
 pub struct PageCode {
-    /// 1 on every page that is printed today, below 8.
+    /// That of the paper: 1 on letter paper, 2 on legal. Below 8.
     pub version: u32,
     /// Whether it is a test ballot.
     pub test: bool,
@@ -25,8 +25,19 @@ pub struct PageCode {
 pub enum CodeFault {
     /// The first pair that is no bit, 0 to 41, with the counts of its left and its right box.
     BadPair(u32, u32, u32),
-    /// A version other than 1.
+    /// A version other than that of the paper.
     BadVersion(u32),
+}
+
+/// The version of the page code on each paper, so that no page of one is read as a page of the other.
+pub fn version_of(paper: Paper) -> u32
+    ensures exact { result ≡ page_code.version_of paper }
+    ensures in_range { result < 8 }
+{
+    match paper {
+        Paper::Letter => 1,
+        Paper::Legal => 2,
+    }
 }
 
 /// The first 20 bits of a SHA-256 digest.

@@ -14,6 +14,6 @@ mod reading;
 mod tests;
 
 pub use boxes::{boxes_of, place_of_box};
-pub use code::{CodeFault, PageCode, number_of, tag_of};
+pub use code::{CodeFault, PageCode, number_of, tag_of, version_of};
 pub use laws::tags_are_in_range;
 pub use reading::read_boxes;

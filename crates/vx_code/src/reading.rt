@@ -4,8 +4,8 @@ ghost use Rattle.vx_code.specs.Code as page_code;
 ghost use Rattle.vx_code.specs.Code.{IsFirstBad, IsInRange, Shows};
 ghost use Rattle.vx_code.specs.declared.code.PageCode.{PageCode};
 
-use crate::code::{CodeFault, PageCode};
-use vx_grid::Kind;
+use crate::code::{CodeFault, PageCode, version_of};
+use vx_grid::{Kind, Paper};
 
 /// The least count of dark pixels of a dark box.
 const DARK_FROM: u32 = 400;
@@ -75,28 +75,29 @@ fn code_of_number(number: u64) -> PageCode
     }
 }
 
-/// The code that the counts of dark pixels of the 84 boxes show, the left box of a pair first.
+/// The code that the counts of dark pixels of the 84 boxes show on a page of this paper, the left box
+/// of a pair first.
 ///
 /// A box is dark from 400 pixels on and blank up to 160. Refuses with the first pair of which not
-/// exactly one box is dark and the other blank, then with a version other than 1.
-pub fn read_boxes(counts: &[u32; 84]) -> Result<PageCode, CodeFault>
-    ensures exact { result ≡ page_code.code_shown_by counts.now }
+/// exactly one box is dark and the other blank, then with a version other than the paper's.
+pub fn read_boxes(counts: &[u32; 84], paper: Paper) -> Result<PageCode, CodeFault>
+    ensures exact { result ≡ page_code.code_shown_by paper counts.now }
     // The first pair that is no bit comes before all else.
     ensures bad_pair { (n left right : ℕ) → (result ≡ Err (CodeFault.BadPair n left right))
         ↔ IsFirstBad counts.now n left right }
     // The boxes of a code give it back.
-    ensures given_back { (code : PageCode) → IsInRange code → code.version ≡ 1
+    ensures given_back { (code : PageCode) → IsInRange code → code.version ≡ page_code.version_of paper
         → Shows counts.now (page_code.boxes_of code) → result ≡ Ok code }
     // A code of another version is refused with that version.
-    ensures other_version { (code : PageCode) → IsInRange code → code.version ≢ 1
+    ensures other_version { (code : PageCode) → IsInRange code → code.version ≢ page_code.version_of paper
         → Shows counts.now (page_code.boxes_of code)
         → result ≡ Err (CodeFault.BadVersion code.version) }
     // What is read is in range, and the counts show its boxes.
-    ensures shown { IfOk result (λ code. IsInRange code × (code.version ≡ 1)
+    ensures shown { IfOk result (λ code. IsInRange code × (code.version ≡ page_code.version_of paper)
         × Shows counts.now (page_code.boxes_of code)) }
 {
     let code = code_of_number(read_number(counts)?);
-    if code.version != 1 {
+    if code.version != version_of(paper) {
         return Err(CodeFault::BadVersion(code.version));
     }
     Ok(code)
