@@ -18,7 +18,7 @@ use Rattle.vx_layout.specs.Plan.{foot_y, plan_of}
 use Rattle.vx_layout.specs.Print.{line_pixels}
 use Rattle.vx_layout.specs.Zones.{bubble_zone_of, code_zones, reserved_zones, Apart, IsClear, IsClearPlan}
 use Rattle.vx_layout.proofs.Extents.{apart-lies, apart-frame, lies-zone, lies-code, lies-reserved}
-use Rattle.vx_layout.proofs.Papers.{last-row_low, first-y_low}
+use Rattle.vx_layout.proofs.Papers.{last-row_low}
 use Rattle.vx_layout.proofs.Parts.{blocks_of, count_of, page_at, parts-of_plan, All-pages}
 use Rattle.vx_layout.proofs.Sizes.{sizes-from_valid}
 use Rattle.vx_layout.proofs.Standing.{IsLaid, grid-page, names-page, laid-page}

@@ -58,7 +58,7 @@ pub record AreApart (page : PagePlan) : Type 0 where
   pub each :
       (i j : ℕ) (d : Bubble) → i < length page.bubbles → j < length page.bubbles → i ≢ j
       → Apart (bubble_zone_of page.paper (slice_index_or page.bubbles i d))
-        (bubble_box_of page.paper (slice_index_or page.bubbles j d))
+      (bubble_box_of page.paper (slice_index_or page.bubbles j d))
 
 -- so on every page of a plan
 abbrev pub AreApartInPlan : CardPlan → Type 0
