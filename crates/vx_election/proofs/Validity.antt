@@ -15,6 +15,7 @@ use Rattle.vx_base.proofs.Lists.{map-push}
 use Rattle.vx_base.proofs.Numbers.{at_most-from_yes}
 use Rattle.vx_base.proofs.Results.{Holds, given, weaker, then, after, where_true}
 use Rattle.vx_json.specs.Paths.{member_path, element_path}
+use Rattle.vx_grid.specs.Sizes.{inner_pixels}
 use Rattle.vx_json.specs.Reading.{need_in, string_in}
 use Rattle.vx_election.specs.declared.fault.ElectionFault.{ElectionFault}
 use Rattle.vx_election.specs.declared.fault.ElectionFault.TheVariants.{WrongKind}
@@ -36,6 +37,7 @@ use Rattle.vx_election.specs.Contests.{with_parties, label_limit, label_of, choi
 use Rattle.vx_election.specs.Styles.{style_ids, style_places_in, style_at, style_in, styles_in, card_count}
 use Rattle.vx_election.specs.Settings.{pixels_of, are_in_order, default_thresholds, stated_thresholds_in, thresholds_in, default_reasons, reason_list_in, stated_reasons_in, reasons_in}
 use Rattle.vx_election.specs.Reasons.{has_reason}
+use Rattle.vx_election.specs.Papers.{paper_in}
 use Rattle.vx_election.specs.Reading.{date_member, parties_in, named_member, contests_member, styles_member, election_in}
 use Rattle.vx_election.specs.Valid.{IsText, AreDistinct, IsNamed, AreNamed, IsCandidate, IsContest, ArePlaces, IsStyle, AreThresholds, AreContests, AreStyles, IsValid}
 use Rattle.vx_election.proofs.Places.{none-parts}
@@ -272,7 +274,7 @@ style_valid parties districts precincts path ids value =
 in_order : (marg def : ℕ) → are_in_order marg def ≡ true → (13 ≤ marg) × (marg < def)
 in_order marg def e = (grind (arith, nat_tests), grind (arith, nat_tests))
 
-pixels_at_most : (thousandths : ℕ) → thousandths ≤ 1000 → pixels_of thousandths ≤ 624
+pixels_at_most : (thousandths : ℕ) → thousandths ≤ 1000 → pixels_of thousandths ≤ inner_pixels
 pixels_at_most thousandths h = omega (arith, h)
 
 stated_thresholds_valid : (value : Data) (path : List ℕ) → Holds AreThresholds (stated_thresholds_in value path)
@@ -344,5 +346,5 @@ election_valid digest value =
     then (contests_valid parties districts value) (λ contests are_contests.
     then (styles_valid parties districts precincts value) (λ styles are_styles.
     then (thresholds_valid value) (λ thresholds are_thresholds.
-    then (reasons_valid value) (λ reasons are_reasons.
-    given (record { title = is_title; date = is_day; parties = are_parties; districts = are_districts; precincts = are_precincts; contests = are_contests; styles = are_styles; thresholds = are_thresholds; reasons = are_reasons })))))))))))
+    then (reasons_valid value) (λ reasons are_reasons. after (paper_in value) (λ paper.
+    given (record { title = is_title; date = is_day; parties = are_parties; districts = are_districts; precincts = are_precincts; contests = are_contests; styles = are_styles; thresholds = are_thresholds; reasons = are_reasons }))))))))))))

@@ -9,6 +9,7 @@ pub mod Parts
 pub mod Contests
 pub mod Styles
 pub mod Settings
+pub mod Papers
 pub mod Reading
 pub mod FaultTexts
 pub mod Valid

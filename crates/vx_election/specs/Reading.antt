@@ -20,6 +20,7 @@ use Rattle.vx_election.specs.Parts.{named_list_in}
 use Rattle.vx_election.specs.Contests.{contests_in}
 use Rattle.vx_election.specs.Styles.{styles_in, card_count}
 use Rattle.vx_election.specs.Settings.{thresholds_in, reasons_in}
+use Rattle.vx_election.specs.Papers.{paper_in}
 
 -- the date of the election
 unfoldable pub date_member : Data → Result (List ℕ) ElectionFault
@@ -65,7 +66,8 @@ election_in digest value = do
   styles ← styles_member parties districts precincts value
   thresholds ← thresholds_in value
   reasons ← reasons_in value
-  Ok (record { title = title; date = date; parties = parties; districts = districts; precincts = precincts; contests = contests; styles = styles; thresholds = thresholds; reasons = reasons; digest = digest })
+  paper ← paper_in value
+  Ok (record { title = title; date = date; parties = parties; districts = districts; precincts = precincts; contests = contests; styles = styles; thresholds = thresholds; reasons = reasons; paper = paper; digest = digest })
 
 -- the value that the bytes are, where they are JSON in UTF-8
 unfoldable pub value_of : List ℕ → Result Data ElectionFault

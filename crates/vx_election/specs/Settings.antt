@@ -4,6 +4,7 @@ use Rattle.std.specs.List.{list_any}
 use Rattle.serde_json.specs.Data.{Data}
 use Rattle.serde_json.specs.Find.{get}
 use Rattle.vx_grid.specs.declared.state.Thresholds.{Thresholds}
+use Rattle.vx_grid.specs.Sizes.{inner_pixels}
 use Rattle.vx_json.specs.Paths.{element_path}
 use Rattle.vx_base.specs.Results.{◌>>=◌}
 use Rattle.vx_json.specs.Reading.{string_in}
@@ -17,9 +18,9 @@ use Rattle.vx_election.specs.Faults.{of_json}
 use Rattle.vx_election.specs.Members.{optional, whole_member, list_up_to, each_of}
 use Rattle.vx_election.specs.Reasons.{reason_place}
 
--- thousandths of the 624 pixels inside a bubble's outline, rounded up
+-- thousandths of the pixels inside a bubble's outline, rounded up
 abbrev pub pixels_of : ℕ → ℕ
-pixels_of thousandths = (624 * thousandths + 999) / 1000
+pixels_of thousandths = (inner_pixels * thousandths + 999) / 1000
 
 -- 13 <= MARG < DEF
 abbrev pub are_in_order : ℕ → ℕ → Bool

@@ -2,6 +2,7 @@
 use Rattle.std.specs.Prelude.{◌≡◌, ℕ, ◌<◌, ◌≤◌, ◌⊎◌, Bool, true, false, List, [], ◌∷◌, length, nat_eq, bytes_eq, chars, IfSome, None, codes}
 use Rattle.std.specs.List.{All, IsDistinct}
 use Rattle.vx_grid.specs.declared.state.Thresholds.{Thresholds}
+use Rattle.vx_grid.specs.Sizes.{inner_pixels}
 use Rattle.vx_election.specs.declared.named.Named.{Named}
 use Rattle.vx_election.specs.declared.choice.Choice.{Choice}
 use Rattle.vx_election.specs.declared.contest.Contest.{Contest}
@@ -82,11 +83,11 @@ pub record IsStyle (party_count district_count precinct_count : ℕ) (style : St
   pub districts : ArePlaces district_count style.districts
   pub party : IfSome style.party (λ place. place < party_count)
 
--- 13 <= MARG < DEF <= 624
+-- 13 <= MARG < DEF, and DEF at most all the pixels inside a bubble's outline
 pub record AreThresholds (thresholds : Thresholds) : Type 0 where
   pub low : 13 ≤ thresholds.marg
   pub order : thresholds.marg < thresholds.def
-  pub high : thresholds.def ≤ 624
+  pub high : thresholds.def ≤ inner_pixels
 
 -- the contests of an election
 pub record AreContests (parties districts : ℕ) (contests : List Contest) : Type 0 where

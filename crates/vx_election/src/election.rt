@@ -2,7 +2,7 @@ use crate::contest::Contests;
 use crate::named::NamedList;
 use crate::reason::ReasonSet;
 use crate::style::Styles;
-use vx_grid::Thresholds;
+use vx_grid::{Paper, Thresholds};
 use vx_json::Text;
 
 /// An election as its definition gives it.
@@ -20,6 +20,8 @@ pub struct Election {
     pub thresholds: Thresholds,
     /// For which reasons a contest waits for a person.
     pub reasons: ReasonSet,
+    /// The paper that its ballots are printed on.
+    pub paper: Paper,
     /// The SHA-256 of the bytes of the definition.
     pub digest: [u8; 32],
 }

@@ -19,6 +19,7 @@ mod indexes;
 mod members;
 mod named;
 mod names;
+mod paper;
 mod reading;
 mod reason;
 mod references;

@@ -16,6 +16,7 @@ use crate::election::Election;
 use crate::fault::ElectionFault;
 use crate::members::{list_member, optional_list, optional_text, text_member};
 use crate::names;
+use crate::paper::paper_of;
 use crate::settings::{reasons_of, thresholds_of};
 use crate::style::Styles;
 use crate::styles::{card_count, styles_of};
@@ -113,6 +114,7 @@ fn election_in(alloc: Global, digest: [u8; 32], value: &Value) -> Result<Electio
     let styles = styles_member(alloc, &parties, &districts, &precincts, value)?;
     let thresholds = thresholds_of(alloc, value)?;
     let reasons = reasons_of(alloc, value)?;
+    let paper = paper_of(alloc, value)?;
     Ok(Election {
         title,
         date,
@@ -123,6 +125,7 @@ fn election_in(alloc: Global, digest: [u8; 32], value: &Value) -> Result<Electio
         styles,
         thresholds,
         reasons,
+        paper,
         digest,
     })
 }

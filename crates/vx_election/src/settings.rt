@@ -13,15 +13,15 @@ use crate::names;
 use crate::reason::{Reason, ReasonSet};
 use serde_json::Value;
 use std::alloc::Global;
-use vx_grid::Thresholds;
+use vx_grid::{INNER_PIXELS, Thresholds};
 use vx_json::{Path, string_of};
 
-/// Thousandths of the 624 pixels inside a bubble's outline, rounded up.
+/// Thousandths of the pixels inside a bubble's outline, rounded up.
 fn pixels_of(thousandths: u32) -> u32
     requires { thousandths ≤ 1000 }
     ensures { result ≡ pixels_of thousandths }
 {
-    (624 * thousandths).div_ceil(1000)
+    (INNER_PIXELS * thousandths).div_ceil(1000)
 }
 
 fn are_in_order(marg: u32, def: u32) -> bool
