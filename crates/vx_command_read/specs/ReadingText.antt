@@ -1,5 +1,5 @@
 -- What `read` writes of an image: a block of lines with its reading, or a line with its fault.
-use Rattle.std.specs.Prelude.{ℕ, List, [], ◌∷◌, ◌++◌, map, length, codes, slice_index, slice_index_or, Result, Ok, Err}
+use Rattle.std.specs.Prelude.{ℕ, Bool, true, false, List, [], ◌∷◌, ◌++◌, map, length, codes, slice_index, slice_index_or, Result, Ok, Err}
 use Rattle.std.specs.List.{flat_map, range_with_len}
 use Rattle.std.specs.Fmt.{decimal, signed_decimal}
 use Rattle.vx_plane.specs.Plane.{Page}
@@ -32,11 +32,17 @@ state_word Marked = codes "marked"
 state_word Marginal = codes "marginal"
 state_word Clear = codes "clear"
 
--- the first line of a reading: `page N card C side P kind KIND`
-abbrev pub page_line : ℕ → PageCode → List ℕ
-page_line number code =
+-- the word of a reading of the turned scan
+abbrev pub turned_words : Bool → List (List ℕ)
+turned_words true = codes "turned" ∷ []
+turned_words false = []
+
+-- the first line of a reading: `page N card C side P kind KIND`, and `turned` where it is one of the
+-- turned scan
+abbrev pub page_line : ℕ → PageCode → Bool → List ℕ
+page_line number code turned =
     line_of (codes "page" ∷ decimal number ∷ codes "card" ∷ decimal code.card ∷ codes "side" ∷ decimal code.page
-    ∷ codes "kind" ∷ kind_word code.kind code.test ∷ [])
+    ∷ codes "kind" ∷ kind_word code.kind code.test ∷ turned_words turned)
 
 -- the places of the timing marks: `border U,V U,V ..`
 unfoldable pub border_line : List Point → List ℕ
@@ -63,7 +69,8 @@ bubble_lines bubbles scores states = flat_map (line_at bubbles scores states) (r
 -- the block of a reading, by its image's number and the bubbles of its page
 abbrev pub block_text : ℕ → List Bubble → PageReading → List ℕ
 block_text number bubbles reading =
-    page_line number reading.code ++ border_line reading.border ++ bubble_lines bubbles reading.scores reading.states ++ line_of (codes "end" ∷ [])
+    page_line number reading.code reading.turned ++ border_line reading.border.places
+    ++ bubble_lines bubbles reading.scores reading.states ++ line_of (codes "end" ∷ [])
 
 -- the line of a fault: `page N fault FAULT`
 abbrev pub fault_line : ℕ → PageFault → List ℕ

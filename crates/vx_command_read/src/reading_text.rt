@@ -13,7 +13,7 @@ use vx_bits::BitView;
 use vx_code::PageCode;
 use vx_command::{Halt, kind_word};
 use vx_election::Election;
-use vx_grid::{Border, MARKS, State};
+use vx_grid::{Border, State, marks};
 use vx_layout::{Bubble, CardPlans};
 use vx_page::read_planned;
 use vx_scan_model::{PageFault, PageReading};
@@ -30,21 +30,31 @@ fn state_word(state: State) -> &'static str
 }
 
 /// Adds the first line of a reading.
-fn push_page(text: &mut String, number: u64, code: PageCode) -> Result<(), OutOfMemory>
-    ensures { OnOk result (string_bytes text.new ≡ string_bytes text.old ++ page_line number code) }
+fn push_page(
+    text: &mut String,
+    number: u64,
+    code: PageCode,
+    turned: bool,
+) -> Result<(), OutOfMemory>
+    ensures { OnOk result (string_bytes text.new
+        ≡ string_bytes text.old ++ page_line number code turned) }
 {
     let (card, page) = (code.card, code.page);
     let kind = kind_word(code.kind, code.test);
-    write!(text, "page {number} card {card} side {page} kind {kind}\n")
+    if turned {
+        write!(text, "page {number} card {card} side {page} kind {kind} turned\n")
+    } else {
+        write!(text, "page {number} card {card} side {page} kind {kind}\n")
+    }
 }
 
 /// Adds the line of the places of the timing marks.
 fn push_border(text: &mut String, border: &Border) -> Result<(), OutOfMemory>
     ensures { OnOk result (string_bytes text.new
-        ≡ string_bytes text.old ++ border_line border.now) }
+        ≡ string_bytes text.old ++ border_line border.now.places) }
 {
     text.push_str("border")?;
-    for k in 0..MARKS {
+    for k in 0..marks(border.paper()) {
         let place = border.at(k);
         write!(text, " {},{}", place.u, place.v)?;
     }
@@ -103,7 +113,7 @@ fn push_block(
     ensures { OnOk result (string_bytes text.new
         ≡ string_bytes text.old ++ block_text number bubbles.now reading.now) }
 {
-    push_page(text, number, reading.code)?;
+    push_page(text, number, reading.code, reading.turned)?;
     push_border(text, &reading.border)?;
     push_bubbles(
         text,

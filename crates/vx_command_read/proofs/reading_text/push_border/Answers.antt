@@ -1,14 +1,20 @@
-use Rattle.std.proofs.Common.{◌≤◌, ◌++◌, ◌∷◌, [], ℕ, List, length, take, string_bytes, sym, ap, ◌∙◌, append_assoc, arith}
+use Rattle.std.proofs.Common.{◌≡◌, ◌<◌, ◌≤◌, ◌++◌, ◌∷◌, [], ℕ, List, length, take, string_bytes, sym, ap, ◌∙◌, append_assoc, arith}
 use Rattle.std.proofs.lemmas.List.{take_all}
+use Rattle.vx_grid.specs.Marks.{marks}
 use Rattle.vx_command_read.specs.ReadingText.{place_word, border_line}
 use Rattle.vx_base.proofs.Lists.{flat_map-take_more}
 use Rattle.vx_base.proofs.Results.{OnOk-pushed}
 use Rattle.vx_command_read.proofs.ReadingTexts.{laid_places, border_line-laid}
 use Rattle.vx_command_read.proofs.reading_text.push_border.Goals as goal
 
+pub at-place-requires : goal.at-place-requires
+at-place-requires c =
+    let count : c.marks-k-end.result ≡ marks c.args.border.now.paper = c.marks-k-end.ensures.exact ∙ ap marks c.paper.ensures in
+    omega (arith, count)
+
 pub loop-k-preserved : goal.loop-k-preserved
 loop-k-preserved c =
-    let border = c.args.border.now in
+    let border = c.args.border.now.places in
     let begun = string_bytes c.push_str.new.self in
     let place = c.at-place.result in
     let so_far = laid_places (take c.loop-k.k border) in
@@ -23,8 +29,10 @@ loop-k-preserved c =
 
 pub returns : goal.returns
 returns c =
-    let border = c.args.border.now in
-    let many : length border ≤ c.loop-k.k = omega (arith, c.loop-k.invariant.all (omega arith)) in
+    let border = c.args.border.now.places in
+    let count : c.marks-k-end.result ≡ marks c.args.border.now.paper = c.marks-k-end.ensures.exact ∙ ap marks c.paper.ensures in
+    let some : 0 < c.loop-k.k = omega (arith, c.marks-k-end.ensures.bound.0) in
+    let many : length border ≤ c.loop-k.k = omega (arith, c.loop-k.invariant.all some, count) in
     OnOk-pushed c.push_str-2.result (string_bytes c.loop-k.text) (10 ∷ []) (string_bytes c.push_str-2.new.self) (string_bytes c.args.text.now ++ border_line border)
     c.push_str-2.ensures.bytes
     (border_line-laid (string_bytes c.args.text.now) (string_bytes c.push_str.new.self) (string_bytes c.loop-k.text) border c.loop-k.k
