@@ -13,10 +13,5 @@ pub(crate) fn paint_round(page: &mut BitPage, half: HalfSides, x: u64, y: u64)
 {
     let left = x - u64::from(half.across);
     let top = y - u64::from(half.down);
-    page.darken(
-        left,
-        top,
-        half.across + half.across,
-        half.down + half.down,
-    );
+    page.darken(left, top, half.across + half.across, half.down + half.down);
 }

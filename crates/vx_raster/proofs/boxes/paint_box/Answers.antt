@@ -1,4 +1,3 @@
-use Rattle.std.proofs.Common.{◌∙◌}
 use Rattle.vx_layout.specs.Print.{box_pixels}
 use Rattle.vx_raster.proofs.boxes.paint_box.Goals as goal
 
