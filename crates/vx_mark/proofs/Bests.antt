@@ -15,7 +15,7 @@ use Rattle.vx_mark.proofs.Places.{same_place, natural}
 pub column-low : (page : Page) (predicted : Point) (columns : Span) (u : ℕ) → AreColumns page predicted columns → columns.first ≤ u → ((predicted.u -ℤ pos 10) ≤ℤ pos u) × (pos 23 ≤ℤ pos u)
 column-low page predicted columns u c from = (c.first.holds (pos u)).0 (omega (arith, ints))
 
-pub column-high : (page : Page) (predicted : Point) (columns : Span) (u : ℕ) → AreColumns page predicted columns → u < columns.past → (pos u ≤ℤ (predicted.u +ℤ pos 10)) × ((pos u +ℤ pos 22) <ℤ pos page.width)
+pub column-high : (page : Page) (predicted : Point) (columns : Span) (u : ℕ) → AreColumns page predicted columns → u < columns.past → (pos u ≤ℤ (predicted.u +ℤ pos 10)) × (pos u ≤ℤ (pos page.width -ℤ pos 23))
 column-high page predicted columns u c before = (c.past.holds (pos u) (omega (arith, ints))).0 (omega (arith, ints))
 
 pub row-near : (page : Page) (predicted : Point) (columns : Span) (u v : ℕ) → AreColumns page predicted columns → IsRow page predicted v → columns.first ≤ u → u < columns.past → IsNear predicted (place_in u v)
@@ -29,7 +29,7 @@ row-near page predicted columns u v c r from before = record {
 pub row-footprint : (page : Page) (predicted : Point) (columns : Span) (u v : ℕ) → AreColumns page predicted columns → IsRow page predicted v → columns.first ≤ u → u < columns.past → HasFootprint page u v
 row-footprint page predicted columns u v c r from before =
     let low : pos 23 ≤ℤ pos u = (column-low page predicted columns u c from).1 in
-    let high : (pos u +ℤ pos 22) <ℤ pos page.width = (column-high page predicted columns u c before).1 in
+    let high : pos u ≤ℤ (pos page.width -ℤ pos 23) = (column-high page predicted columns u c before).1 in
     record { left = omega (arith, ints); right = omega (arith, ints); top = r.top; bottom = r.bottom }
 
 pub columns-few : (page : Page) (predicted : Point) (columns : Span) → AreColumns page predicted columns → AreFew page.width columns
@@ -38,10 +38,10 @@ columns-few page predicted columns c = record { few = few; left = left; right = 
     left : columns.first < columns.past → 23 ≤ columns.first
     left some = let low : pos 23 ≤ℤ pos columns.first = (column-low page predicted columns columns.first c (omega arith)).1 in omega (arith, ints)
 
-    right : columns.first < columns.past → columns.past + 22 ≤ page.width
+    right : columns.first < columns.past → columns.past + 23 ≤ page.width + 1
     right some =
         let last = columns.past - 1 in
-        let high : (pos last +ℤ pos 22) <ℤ pos page.width = (column-high page predicted columns last c (omega arith)).1 in
+        let high : pos last ≤ℤ (pos page.width -ℤ pos 23) = (column-high page predicted columns last c (omega arith)).1 in
         omega (arith, ints)
 
     few : columns.past ≤ columns.first + 24
@@ -58,7 +58,7 @@ columns-few page predicted columns c = record { few = few; left = left; right = 
 pub row-is : (page : Page) (predicted : Point) (rows : Span) (v : ℕ) → AreRows page predicted rows → rows.first ≤ v → v < rows.past → IsRow page predicted v
 row-is page predicted rows v r from before =
     let low : ((predicted.v -ℤ pos 6) ≤ℤ pos v) × (pos 11 ≤ℤ pos v) = (r.first.holds (pos v)).0 (omega (arith, ints)) in
-    let high : (pos v ≤ℤ (predicted.v +ℤ pos 6)) × ((pos v +ℤ pos 10) <ℤ pos page.height) = (r.past.holds (pos v) (omega (arith, ints))).0 (omega (arith, ints)) in
+    let high : (pos v ≤ℤ (predicted.v +ℤ pos 6)) × (pos v ≤ℤ (pos page.height -ℤ pos 11)) = (r.past.holds (pos v) (omega (arith, ints))).0 (omega (arith, ints)) in
     record { near_top = low.0; near_bottom = high.0; top = omega (arith, ints, low.1); bottom = omega (arith, ints, high.1) }
 
 -- an accepted place near the predicted one stands in a column and a row of the search

@@ -22,7 +22,7 @@ pub record IsInColumn (past v : ℕ) (q : Point) : Type 0 where
   pub left : 26 ≤ u
   pub right : u < past
 
-in-column : (page : Page) (past v : ℕ) (q : Point) → IsPast (pos 116) 22 page.width past → IsAccepted page q → IsInCornerRegion q → q.v ≡ pos v → IsInColumn past v q
+in-column : (page : Page) (past v : ℕ) (q : Point) → IsPast (pos 116) 23 page.width past → IsAccepted page q → IsInCornerRegion q → q.v ≡ pos v → IsInColumn past v q
 in-column page past v q end good region row =
     let column = natural q.u (omega (arith, ints, good.in_frame.left)) in
     let before : q.u <ℤ pos past = (end.holds q.u (omega (arith, ints, good.in_frame.left))).1 (region.right, good.in_frame.right) in
@@ -34,7 +34,7 @@ in-column page past v q end good region row =
     }
 
 -- a place that is found in a row is the corner of the rows up to it
-pub corner-some : (page : Page) (above : Option Pixel) (past v end u : ℕ) → IsPast (pos 116) 22 page.width past → 14 ≤ v → v ≤ 104 → IsEnd above past v end → IsFirstAbove page v above → IsFirstColumn page (record { first = 26; past = end }) v u → IsCornerAbove page (v + 1) (record { u = u; v = v })
+pub corner-some : (page : Page) (above : Option Pixel) (past v end u : ℕ) → IsPast (pos 116) 23 page.width past → 14 ≤ v → v ≤ 104 → IsEnd above past v end → IsFirstAbove page v above → IsFirstColumn page (record { first = 26; past = end }) v u → IsCornerAbove page (v + 1) (record { u = u; v = v })
 corner-some page above past v end u limit top bottom is before h =
     let here = (is.before u).0 h.before in
     let right = ((limit.holds (pos u) (omega (arith, ints))).0 (omega (arith, ints, here.0))).0 in
@@ -51,14 +51,14 @@ corner-some page above past v end u limit top bottom is before h =
     none-above page None v u q less before good region l first = before q good region l
     none-above page (Some pixel) v u q less before good region l first = before.first q good region l (inl (elim first [ inl a ↦ omega (arith, ints) | inr b ↦ omega (arith, ints) ]))
 
-    none-beside : (page : Page) (past v u end : ℕ) (q : Point) → IsPast (pos 116) 22 page.width past → IsFirstColumn page (record { first = 26; past = end }) v u → IsAccepted page q → IsInCornerRegion q → q.v ≡ pos v → ComesBefore q (place_in u v) → ⊥
+    none-beside : (page : Page) (past v u end : ℕ) (q : Point) → IsPast (pos 116) 23 page.width past → IsFirstColumn page (record { first = 26; past = end }) v u → IsAccepted page q → IsInCornerRegion q → q.v ≡ pos v → ComesBefore q (place_in u v) → ⊥
     none-beside page past v u end q limit h good region row first =
         let at = in-column page past v q limit good region row in
         let column : q.u ≡ pos at.u = ap (λ (p : Point). p.u) at.is in
         h.first at.u at.left (elim first [ inl a ↦ omega (arith, ints) | inr b ↦ absurd (omega (arith, ints)) ]) (accepted_there page q (place_in at.u v) at.is good)
 
 -- where none is found, the corner of the rows above stays
-pub corner-none : (page : Page) (above : Option Pixel) (past v end : ℕ) → IsPast (pos 116) 22 page.width past → IsEnd above past v end → IsFirstAbove page v above → IsFirstOf page (record { first = 26; past = end }) v None → IsFirstAbove page (v + 1) above
+pub corner-none : (page : Page) (above : Option Pixel) (past v end : ℕ) → IsPast (pos 116) 23 page.width past → IsEnd above past v end → IsFirstAbove page v above → IsFirstOf page (record { first = 26; past = end }) v None → IsFirstAbove page (v + 1) above
 corner-none page None past v end limit is before none = λ q good region early. by_lt_z q.v (pos v) (before q good region)
     (λ m.
     let at = in-column page past v q limit good region (omega (arith, ints)) in
@@ -80,23 +80,41 @@ corner-none page (Some pixel) past v end limit is before none = record {
 }
 
 -- the columns of the search
-pub end-most : (page : Page) (past end : ℕ) → IsPast (pos 116) 22 page.width past → end ≤ past → end ≤ 117
+pub end-most : (page : Page) (past end : ℕ) → IsPast (pos 116) 23 page.width past → end ≤ past → end ≤ 117
 end-most page past end limit le =
     elim (cases_lt 117 end) [
       | inl more ↦ omega (arith, ints, ((limit.holds (pos 117) (omega (arith, ints))).0 (omega (arith, ints))).0)
       | inr few ↦ few
     ]
 
-pub end-right : (page : Page) (past end : ℕ) → IsPast (pos 116) 22 page.width past → end ≤ past → 0 < end → end + 22 ≤ page.width
+pub end-right : (page : Page) (past end : ℕ) → IsPast (pos 116) 23 page.width past → end ≤ past → 0 < end → end + 23 ≤ page.width + 1
 end-right page past end limit le some =
     let last = end - 1 in
     omega (arith, ints, ((limit.holds (pos last) (omega (arith, ints))).0 (omega (arith, ints))).1)
 
 -- a row of the search
-pub row-last : (page : Page) (past v : ℕ) → IsPast (pos 104) 10 page.height past → v < past → (v ≤ 104) × (v + 10 < page.height)
+pub row-last : (page : Page) (past v : ℕ) → IsPast (pos 104) 11 page.height past → v < past → (v ≤ 104) × (v + 11 ≤ page.height)
 row-last page past v limit before =
     let told = (limit.holds (pos v) (omega (arith, ints))).0 (omega (arith, ints)) in
     (omega (arith, ints, told.0), omega (arith, ints, told.1))
+
+-- a place of the region stands above the rows that follow the search
+row-above : (page : Page) (past v : ℕ) (q : Point) → IsPast (pos 104) 11 page.height past → past ≤ v → IsAccepted page q → IsInCornerRegion q → q.v <ℤ pos v
+row-above page past v q limit end good region =
+    let before : q.v <ℤ pos past = (limit.holds q.v (omega (arith, ints, region.top))).1 (region.bottom, good.in_frame.bottom) in
+    omega (arith, ints, before, end)
+
+-- the corner of all rows of the search is the corner
+pub corner-all : (page : Page) (past v : ℕ) (pixel : Pixel) → IsPast (pos 104) 11 page.height past → past ≤ v → IsCornerAbove page v pixel → IsCorner page (place_of pixel)
+corner-all page past v pixel limit end above = record {
+  accepted = above.accepted;
+  in_region = above.in_region;
+  first = λ q good region before. above.first q good region (row-above page past v q limit end good region) before;
+}
+
+-- where there is none in them, there is none
+pub none-all : (page : Page) (past v : ℕ) → IsPast (pos 104) 11 page.height past → past ≤ v → IsFirstAbove page v None → (q : Point) → IsAccepted page q → IsInCornerRegion q → ⊥
+none-all page past v limit end none q good region = none q good region (row-above page past v q limit end good region)
 
 -- of two different places one is first
 either-first : (p q : Point) → (ComesBefore p q → ⊥) → (ComesBefore q p → ⊥) → p ≡ q

@@ -1,6 +1,6 @@
 -- A place by its column and its row.
-use Rattle.std.proofs.Common.{◌≡◌, ◌≤◌, ◌<◌, ℕ, ℤ, ap, ap₂, subst, refl, pos, negsuc, ◌≤ℤ◌, ◌<ℤ◌, IsTrue, true, arith}
-use Rattle.std.specs.Int.Signed.{lt_z, le_z}
+use Rattle.std.proofs.Common.{◌≡◌, ◌≤◌, ◌<◌, ℕ, ℤ, ap, ap₂, subst, refl, pos, negsuc, ◌≤ℤ◌, IsTrue, true, arith}
+use Rattle.std.specs.Int.Signed.{le_z}
 use Rattle.std.proofs.lemmas.Int.{ints}
 use Rattle.vx_plane.specs.Plane.{Page}
 use Rattle.vx_grid.specs.declared.places.Point.{Point}
@@ -23,15 +23,12 @@ accepted_there page p q e h = subst (IsAccepted page) e h
 le_z_yes : (a b : ℤ) → le_z a b ≡ true → a ≤ℤ b
 le_z_yes a b h = grind (arith, ints)
 
-lt_z_yes : (a b : ℤ) → lt_z a b ≡ true → a <ℤ b
-lt_z_yes a b h = grind (arith, ints)
-
-lt_z_true : (a b : ℤ) → a <ℤ b → lt_z a b ≡ true
-lt_z_true a b h = grind (arith, ints)
+le_z_true : (a b : ℤ) → a ≤ℤ b → le_z a b ≡ true
+le_z_true a b h = grind (arith, ints)
 
 -- what the tests of a place in a line tell
-pub room-tests : (before at last : ℤ) (size : ℕ) → le_z before at ≡ true → (IsTrue (lt_z last (pos size)) → (before ≤ℤ at) × (last <ℤ pos size)) × ((before ≤ℤ at) × (last <ℤ pos size) → IsTrue (lt_z last (pos size)))
-room-tests before at last size h = (λ t. (le_z_yes before at h, lt_z_yes last (pos size) t), λ t. lt_z_true last (pos size) t.1)
+pub room-tests : (first at last : ℤ) → le_z first at ≡ true → (IsTrue (le_z at last) → (first ≤ℤ at) × (at ≤ℤ last)) × ((first ≤ℤ at) × (at ≤ℤ last) → IsTrue (le_z at last))
+room-tests first at last h = (λ t. (le_z_yes first at h, le_z_yes at last t), λ t. le_z_true at last t.1)
 
 -- a place in the frame whose deficit up to 21 is at most 20
 pub accepted-up_to : (page : Page) (p : Point) (u v wrong : ℕ) → p ≡ place_in u v → IsInFrame page p → IsUpTo 21 (deficit_of page (place_in u v)) wrong → wrong ≤ 20 → IsAccepted page p × (wrong ≡ deficit_of page p)

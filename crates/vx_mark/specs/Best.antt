@@ -1,15 +1,22 @@
 -- The best place for a timing mark near a predicted one.
-use Rattle.std.specs.Prelude.{◌≡◌, ◌<◌, ◌⊎◌, pos, ◌+ℤ◌, ◌-ℤ◌, ◌≤ℤ◌, ◌<ℤ◌}
+use Rattle.std.specs.Prelude.{◌≡◌, ◌<◌, ◌⊎◌, ◌<ℤ◌}
 use Rattle.vx_plane.specs.Plane.{Page}
 use Rattle.vx_grid.specs.declared.places.Point.{Point}
+use Rattle.vx_grid.specs.declared.sizes.HalfSides.{HalfSides}
+use Rattle.vx_mark.specs.Region.{Region, IsIn, within}
 use Rattle.vx_mark.specs.Mark.{deficit_of, IsAccepted}
 
--- a place within 10 columns and 6 rows of another
-pub record IsNear (predicted p : Point) : Type 0 where
-  pub left : (predicted.u -ℤ pos 10) ≤ℤ p.u
-  pub right : p.u ≤ℤ (predicted.u +ℤ pos 10)
-  pub top : (predicted.v -ℤ pos 6) ≤ℤ p.v
-  pub bottom : p.v ≤ℤ (predicted.v +ℤ pos 6)
+-- how far a mark may lie from where it is expected: 10 columns and 6 rows
+abbrev pub nearness : HalfSides
+nearness = record { across = 10; down = 6 }
+
+-- the places near a predicted one
+abbrev pub near : Point → Region
+near predicted = within nearness predicted
+
+-- a place near a predicted one
+abbrev pub IsNear : Point → Point → Type 0
+IsNear predicted p = IsIn (near predicted) p
 
 -- the order of places: the least deficit first, then the least row, then the least column
 abbrev pub IsBetter : Page → Point → Point → Type 0

@@ -1,15 +1,17 @@
 -- The corner of a scan: where its first timing mark is.
-use Rattle.std.specs.Prelude.{◌≡◌, ◌⊎◌, pos, ◌+ℤ◌, ◌≤ℤ◌, ◌<ℤ◌}
+use Rattle.std.specs.Prelude.{◌≡◌, ◌⊎◌, pos, ◌+ℤ◌, ◌<ℤ◌}
 use Rattle.vx_plane.specs.Plane.{Page}
 use Rattle.vx_grid.specs.declared.places.Point.{Point}
+use Rattle.vx_mark.specs.Region.{Region, IsIn}
 use Rattle.vx_mark.specs.Mark.{IsAccepted}
 
 -- where a corner may be: columns 26 to 116, rows 14 to 104
-pub record IsInCornerRegion (p : Point) : Type 0 where
-  pub left : pos 26 ≤ℤ p.u
-  pub right : p.u ≤ℤ pos 116
-  pub top : pos 14 ≤ℤ p.v
-  pub bottom : p.v ≤ℤ pos 104
+abbrev pub corner_region : Region
+corner_region = record { left = pos 26; right = pos 116; top = pos 14; bottom = pos 104 }
+
+-- a place where a corner may be
+abbrev pub IsInCornerRegion : Point → Type 0
+IsInCornerRegion p = IsIn corner_region p
 
 -- the order of corners: the least sum of column and row first, then the least row
 abbrev pub ComesBefore : Point → Point → Type 0

@@ -1,3 +1,4 @@
+pub mod Region
 pub mod Mark
 pub mod Corner
 pub mod Best

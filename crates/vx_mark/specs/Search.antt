@@ -7,8 +7,8 @@ use Rattle.vx_grid.specs.declared.places.Point.{Point}
 use Rattle.vx_mark.specs.declared.pixels.Pixel.{Pixel}
 use Rattle.vx_mark.specs.declared.pixels.Span.{Span}
 use Rattle.vx_mark.specs.declared.search.Found.{Found}
-use Rattle.vx_mark.specs.Mark.{deficit_of, IsAccepted}
-use Rattle.vx_mark.specs.Best.{IsNear, IsBetter}
+use Rattle.vx_mark.specs.Mark.{footprint, deficit_of, most_wrong, IsAccepted}
+use Rattle.vx_mark.specs.Best.{near, IsNear, IsBetter}
 use Rattle.vx_mark.specs.Corner.{IsInCornerRegion, ComesBefore}
 
 -- the place in a column and a row
@@ -21,10 +21,10 @@ place_of pixel = place_in pixel.u pixel.v
 
 -- the footprint of a pixel lies in the frame
 pub record HasFootprint (page : Page) (u v : ℕ) : Type 0 where
-  pub left : 23 ≤ u
-  pub right : u + 22 < page.width
-  pub top : 11 ≤ v
-  pub bottom : v + 10 < page.height
+  pub left : footprint.across ≤ u
+  pub right : u + footprint.across ≤ page.width
+  pub top : footprint.down ≤ v
+  pub bottom : v + footprint.down ≤ page.height
 
 -- the light pixels of a row of pixels where cores in column u have 34
 abbrev pub row_light : Page → ℕ → ℕ → ℕ
@@ -43,32 +43,32 @@ pub record IsUpTo (below n counted : ℕ) : Type 0 where
 pub record IsFirst (low : ℤ) (before first : ℕ) : Type 0 where
   pub holds : (z : ℤ) → (pos first ≤ℤ z) ↔ ((low ≤ℤ z) × (pos before ≤ℤ z))
 
--- before this number are those that are at most `high` and have `after` pixels of `size` after them
+-- before this number are those that are at most `high` and have `after` pixels of `size` from them on
 pub record IsPast (high : ℤ) (after size past : ℕ) : Type 0 where
-  pub holds : (z : ℤ) → pos 0 ≤ℤ z → (z <ℤ pos past) ↔ ((z ≤ℤ high) × ((z +ℤ pos after) <ℤ pos size))
+  pub holds : (z : ℤ) → pos 0 ≤ℤ z → (z <ℤ pos past) ↔ ((z ≤ℤ high) × (z ≤ℤ (pos size -ℤ pos after)))
 
 -- the columns near a predicted place at which a footprint lies between the frame's sides
 pub record AreColumns (page : Page) (predicted : Point) (columns : Span) : Type 0 where
-  pub first : IsFirst (predicted.u -ℤ pos 10) 23 columns.first
-  pub past : IsPast (predicted.u +ℤ pos 10) 22 page.width columns.past
+  pub first : IsFirst (near predicted).left footprint.across columns.first
+  pub past : IsPast (near predicted).right footprint.across page.width columns.past
 
 -- the rows near a predicted place at which a footprint lies between the frame's top and bottom
 pub record AreRows (page : Page) (predicted : Point) (rows : Span) : Type 0 where
-  pub first : IsFirst (predicted.v -ℤ pos 6) 11 rows.first
-  pub past : IsPast (predicted.v +ℤ pos 6) 10 page.height rows.past
+  pub first : IsFirst (near predicted).top footprint.down rows.first
+  pub past : IsPast (near predicted).bottom footprint.down page.height rows.past
 
 -- a row near a predicted place at which a footprint lies between the frame's top and bottom
 pub record IsRow (page : Page) (predicted : Point) (v : ℕ) : Type 0 where
-  pub near_top : (predicted.v -ℤ pos 6) ≤ℤ pos v
-  pub near_bottom : pos v ≤ℤ (predicted.v +ℤ pos 6)
-  pub top : 11 ≤ v
-  pub bottom : v + 10 < page.height
+  pub near_top : (near predicted).top ≤ℤ pos v
+  pub near_bottom : pos v ≤ℤ (near predicted).bottom
+  pub top : footprint.down ≤ v
+  pub bottom : v + footprint.down ≤ page.height
 
 -- at most 24 columns at which a footprint lies between the frame's sides
 pub record AreFew (width : ℕ) (columns : Span) : Type 0 where
   pub few : columns.past ≤ columns.first + 24
-  pub left : columns.first < columns.past → 23 ≤ columns.first
-  pub right : columns.first < columns.past → columns.past + 22 ≤ width
+  pub left : columns.first < columns.past → footprint.across ≤ columns.first
+  pub right : columns.first < columns.past → columns.past + footprint.across ≤ width + 1
 
 -- each place of some columns in a row has a deficit of at least a bound
 abbrev pub IsOut : Page → Span → ℕ → ℕ → Type 0
@@ -78,7 +78,7 @@ IsOut page columns v below =
 -- a bound that no place has to reach to be the best near a predicted one: one above the most wrong
 -- pixels of an accepted place, or above those of the predicted place where that is accepted
 abbrev pub IsCap : Page → Point → ℕ → Type 0
-IsCap page predicted cap = (cap ≡ 21) ⊎ (IsAccepted page predicted × (cap ≡ deficit_of page predicted + 1))
+IsCap page predicted cap = (cap ≡ most_wrong + 1) ⊎ (IsAccepted page predicted × (cap ≡ deficit_of page predicted + 1))
 
 -- a place near a predicted one that a search row by row has seen before column u of row v
 abbrev pub IsSeen : Point → ℕ → ℕ → Point → Type 0

@@ -1,10 +1,10 @@
-ghost use Rattle.std.specs.Prelude.{◌≡◌, ◌≤◌, ◌<◌, ◌+◌, ◌↔◌, ℕ, pos, MatchOption};
+ghost use Rattle.std.specs.Prelude.{◌≡◌, ◌≤◌, ◌<◌, ◌+◌, ◌↔◌, ℕ, MatchOption};
 ghost use Rattle.vx_grid.specs.declared.places.Point.{Point};
-ghost use Rattle.vx_mark.specs.Mark.{IsAccepted};
-ghost use Rattle.vx_mark.specs.Corner.{IsInCornerRegion, IsCorner};
+ghost use Rattle.vx_mark.specs.Mark.{footprint, IsAccepted};
+ghost use Rattle.vx_mark.specs.Corner.{corner_region, IsInCornerRegion, IsCorner};
 ghost use Rattle.vx_mark.specs.Search.{AreFew, IsFirstOf, IsFirstAbove, IsPast, comes_first};
 
-use crate::judge::{MOST, deficit_up_to, is_row_out};
+use crate::judge::{FOOTPRINT, MOST, deficit_up_to, is_row_out};
 use crate::pixels::{Pixel, Span, past_of, point};
 use vx_count::Counter;
 use vx_grid::Point;
@@ -12,8 +12,8 @@ use vx_grid::Point;
 /// The first of at most 24 columns whose place in a row is accepted.
 fn first_in_group(counter: &Counter, columns: Span, v: u32) -> Option<u32>
     requires columns { AreFew counter.now.width columns }
-    requires top { 11 ≤ v }
-    requires bottom { v + 10 < counter.now.height }
+    requires top { footprint.down ≤ v }
+    requires bottom { v + footprint.down ≤ counter.now.height }
     ensures { IsFirstOf counter.now columns v result }
 {
     if is_row_out(counter, columns, v, MOST + 1) {
@@ -30,9 +30,9 @@ fn first_in_group(counter: &Counter, columns: Span, v: u32) -> Option<u32>
 /// The first of the columns from 26 on and before `past` whose place in a row is accepted.
 fn first_in_row(counter: &Counter, past: u32, v: u32) -> Option<u32>
     requires most { past ≤ 117 }
-    requires right { 0 < past → past + 22 ≤ counter.now.width }
-    requires top { 11 ≤ v }
-    requires bottom { v + 10 < counter.now.height }
+    requires right { 0 < past → past + footprint.across ≤ counter.now.width + 1 }
+    requires top { footprint.down ≤ v }
+    requires bottom { v + footprint.down ≤ counter.now.height }
     ensures { IsFirstOf counter.now (record { first = 26; past = past }) v result }
 {
     for group in 0..4 {
@@ -64,10 +64,10 @@ fn past_before(above: Option<Pixel>, past: u32, v: u32) -> u32
 
 /// The corner of the rows up to row `v`, from that of the rows above it.
 fn corner_with_row(counter: &Counter, past: u32, v: u32, above: Option<Pixel>) -> Option<Pixel>
-    requires past { IsPast (pos 116) 22 counter.now.width past }
+    requires past { IsPast corner_region.right footprint.across counter.now.width past }
     requires first { 14 ≤ v }
     requires last { v ≤ 104 }
-    requires bottom { v + 10 < counter.now.height }
+    requires bottom { v + footprint.down ≤ counter.now.height }
     requires above { IsFirstAbove counter.now v above }
     ensures { IsFirstAbove counter.now (v + 1) result }
 {
@@ -84,9 +84,9 @@ pub fn first_corner(counter: &Counter) -> Option<Point>
         ((q : Point) → IsAccepted counter.now q → IsInCornerRegion q → ⊥)
         (λ p. IsCorner counter.now p) }
 {
-    let past = past_of(116, 22, counter.width());
+    let past = past_of(116, FOOTPRINT.across, counter.width());
     let mut corner = None;
-    for v in 14..past_of(104, 10, counter.height()) {
+    for v in 14..past_of(104, FOOTPRINT.down, counter.height()) {
         corner = corner_with_row(counter, past, v, corner);
     }
     match corner {

@@ -1,13 +1,19 @@
-ghost use Rattle.std.specs.Prelude.{◌≡◌, ◌≤◌, ◌<◌, ℕ, ◌*◌, ◌+◌, ◌-◌, ◌↔◌, ◌+ℤ◌, ◌≤ℤ◌, ◌<ℤ◌, pos, IsTrue, MatchOption};
+ghost use Rattle.std.specs.Prelude.{◌≡◌, ◌≤◌, ◌<◌, ℕ, ◌*◌, ◌+◌, ◌-◌, ◌↔◌, ◌+ℤ◌, ◌-ℤ◌, ◌≤ℤ◌, pos, IsTrue, MatchOption};
 ghost use Rattle.vx_plane.specs.Plane.{dark_at};
 ghost use Rattle.vx_plane.specs.Count.{count_in};
 ghost use Rattle.vx_grid.specs.Places.{IsWithin};
-ghost use Rattle.vx_mark.specs.Mark.{core_light, flanks_dark, deficit_of, IsInFrame, IsAccepted};
+ghost use Rattle.vx_mark.specs.Mark.{footprint, core_light, flanks_dark, deficit_of, IsInFrame, IsAccepted};
 ghost use Rattle.vx_mark.specs.Search.{place_in, row_light, HasFootprint, IsUpTo, AreFew, IsOut};
 
 use crate::pixels::{Span, unsigned};
 use vx_count::Counter;
-use vx_grid::{Point, Rect};
+use vx_grid::{HalfSides, Point, Rect};
+
+/// The footprint of a place.
+pub(crate) const FOOTPRINT: HalfSides = HalfSides {
+    across: 23,
+    down: 11,
+};
 
 /// The most pixels that may be wrong at an accepted place.
 pub(crate) const MOST: u32 = 20;
@@ -64,8 +70,8 @@ pub fn deficit(counter: &Counter, place: Point) -> u32
 /// The number of light pixels of a row of a core round column `u`.
 #[inline(always)]
 fn light_in_row(counter: &Counter, u: u32, row: u32) -> u32
-    requires left { 23 ≤ u }
-    requires right { u + 22 < counter.now.width }
+    requires left { footprint.across ≤ u }
+    requires right { u + footprint.across ≤ counter.now.width }
     requires row { row < counter.now.height }
     ensures value { result ≡ row_light counter.now u row }
     ensures bound { result ≤ 34 }
@@ -181,8 +187,8 @@ fn is_run_light(counter: &Counter, columns: Span, row: u32, below: u32) -> bool
 /// none of their deficits is below a bound.
 pub(crate) fn is_row_out(counter: &Counter, columns: Span, v: u32, below: u32) -> bool
     requires columns { AreFew counter.now.width columns }
-    requires top { 11 ≤ v }
-    requires bottom { v + 10 < counter.now.height }
+    requires top { footprint.down ≤ v }
+    requires bottom { v + footprint.down ≤ counter.now.height }
     requires below { below ≤ 21 }
     ensures { IsTrue result → IsOut counter.now columns v below }
 {
@@ -194,16 +200,14 @@ pub(crate) fn is_row_out(counter: &Counter, columns: Span, v: u32, below: u32) -
     is_run_light(counter, columns, v - 5, below) || is_run_light(counter, columns, v + 4, below)
 }
 
-/// Whether a place in a line of `size` pixels has `before` pixels before it and `after` ones after
-/// it.
-fn has_room(at: i32, before: i32, after: i32, size: u32) -> bool
+/// Whether a place in a line of `size` pixels has `reach` pixels before it and as many from it on.
+fn has_room(at: i32, reach: i32, size: u32) -> bool
     requires at { IsWithin 9900 at }
-    requires before { IsWithin 100 before }
-    requires after { IsWithin 100 after }
+    requires reach { IsWithin 100 reach }
     requires size { size ≤ 4096 }
-    ensures { IsTrue result ↔ ((before ≤ℤ at) × ((at +ℤ after) <ℤ pos size)) }
+    ensures { IsTrue result ↔ ((reach ≤ℤ at) × (at ≤ℤ (pos size -ℤ reach))) }
 {
-    before <= at && at + after < size as i32
+    reach <= at && at <= size as i32 - reach
 }
 
 /// Whether the footprint of a place lies in the frame.
@@ -212,7 +216,8 @@ fn in_frame(counter: &Counter, place: Point) -> bool
     requires v { IsWithin 9900 place.v }
     ensures { IsTrue result ↔ IsInFrame counter.now place }
 {
-    has_room(place.u, 23, 22, counter.width()) && has_room(place.v, 11, 10, counter.height())
+    has_room(place.u, FOOTPRINT.across as i32, counter.width())
+        && has_room(place.v, FOOTPRINT.down as i32, counter.height())
 }
 
 /// The deficit of a place that is accepted.

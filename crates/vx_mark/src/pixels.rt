@@ -51,8 +51,8 @@ pub(crate) fn first_of(low: i32, before: u32) -> u32
     }
 }
 
-/// The column or row past the last one that is at most `high` and has `after` pixels after it in a
-/// line of `size`.
+/// The column or row past the last one that is at most `high` and has `after` pixels from it on
+/// in a line of `size`.
 pub(crate) fn past_of(high: i32, after: u32, size: u32) -> u32
     requires high { IsWithin 9900 high }
     requires after { after ≤ 100 }
@@ -62,6 +62,6 @@ pub(crate) fn past_of(high: i32, after: u32, size: u32) -> u32
     if high < 0 {
         0
     } else {
-        (unsigned(high) + 1).min(size.saturating_sub(after))
+        (unsigned(high) + 1).min((size + 1).saturating_sub(after))
     }
 }

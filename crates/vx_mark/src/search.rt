@@ -5,7 +5,7 @@ ghost use Rattle.vx_mark.specs.Mark.{IsAccepted};
 ghost use Rattle.vx_mark.specs.Best.{IsNear, IsBest};
 ghost use Rattle.vx_mark.specs.Search.{place_in, HasFootprint, AreColumns, AreRows, IsRow, IsCap, IsBestSeen, bound_of};
 
-use crate::judge::{MOST, accepted_deficit, deficit_up_to, is_row_out};
+use crate::judge::{FOOTPRINT, MOST, accepted_deficit, deficit_up_to, is_row_out};
 use crate::pixels::{Pixel, Span, first_of, past_of, point};
 use vx_count::Counter;
 use vx_grid::Point;
@@ -23,8 +23,8 @@ fn columns_near(counter: &Counter, predicted: Point) -> Span
     ensures { AreColumns counter.now predicted result }
 {
     Span {
-        first: first_of(predicted.u - 10, 23),
-        past: past_of(predicted.u + 10, 22, counter.width()),
+        first: first_of(predicted.u - 10, FOOTPRINT.across),
+        past: past_of(predicted.u + 10, FOOTPRINT.across, counter.width()),
     }
 }
 
@@ -34,8 +34,8 @@ fn rows_near(counter: &Counter, predicted: Point) -> Span
     ensures { AreRows counter.now predicted result }
 {
     Span {
-        first: first_of(predicted.v - 6, 11),
-        past: past_of(predicted.v + 6, 10, counter.height()),
+        first: first_of(predicted.v - 6, FOOTPRINT.down),
+        past: past_of(predicted.v + 6, FOOTPRINT.down, counter.height()),
     }
 }
 

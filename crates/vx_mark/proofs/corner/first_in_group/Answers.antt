@@ -6,7 +6,7 @@ use Rattle.vx_mark.proofs.corner.first_in_group.Goals as goal
 
 pub returns-then-deficit_up_to-le-MOST : goal.returns-then-deficit_up_to-le-MOST
 returns-then-deficit_up_to-le-MOST c =
-    let here : HasFootprint c.args.counter.now c.loop-u.u c.args.v = record { left = omega arith; right = omega arith; top = omega arith; bottom = omega arith } in
+    let here : HasFootprint c.args.counter.now c.loop-u.u c.args.v = record { left = omega arith; right = omega (arith, c.requires.columns.right (omega arith)); top = omega arith; bottom = omega arith } in
     record {
       from = omega arith;
       before = omega arith;
