@@ -1,0 +1,4 @@
+pub mod Parts
+pub mod Deficits
+pub mod Found
+pub mod Images

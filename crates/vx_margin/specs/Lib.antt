@@ -1,0 +1,4 @@
+pub mod Marks
+pub mod Flips
+pub mod Shown
+pub mod Deficits
