@@ -34,55 +34,56 @@ from_column c x = x -ℤ pos (x_of c)
 abbrev pub from_row : Paper → ℕ → ℤ → ℤ
 from_row paper r y = y -ℤ pos (y_of paper r)
 
+-- near the image of a centre, a place of the scan shows a place of the paper that is as far from the centre,
+-- one pixel more or less
+pub alike : (s : Slant) → IsSlant s → (paper : Paper) (c r : ℕ) (u v : ℤ) → IsWithin 63 (u -ℤ (image_of s paper c r).u) → IsWithin 64 (v -ℤ (image_of s paper c r).v)
+    → IsWithin 1 (from_column c (paper_column s u v) -ℤ (u -ℤ (image_of s paper c r).u)) × IsWithin 1 (from_row paper r (paper_row s u v) -ℤ (v -ℤ (image_of s paper c r).v))
+alike s slant paper c r u v a b =
+    let q : Point = image_of s paper c r in
+    let near = (is-rigid s slant).paper u v q.u q.v a b in
+    let column : paper_column s q.u q.v ≡ pos (x_of c) = paper_column-scan s (pos (x_of c)) (pos (y_of paper r)) in
+    let row : paper_row s q.u q.v ≡ pos (y_of paper r) = paper_row-scan s (pos (x_of c)) (pos (y_of paper r)) in
+    (
+      record { low = omega (arith, ints, near.across.low, column); high = omega (arith, ints, near.across.high, column) },
+      record { low = omega (arith, ints, near.down.low, row); high = omega (arith, ints, near.down.high, row) },
+    )
+
 module _ (s : Slant) (slant : IsSlant s) (paper : Paper) (marks : Pixels) (are : AreMarks paper marks) (c r : ℕ) (point : IsBorderPoint paper c r) where
   abbrev q : Point
   q = image_of s paper c r
 
-  -- near the image of a centre, a place of the scan shows a place of the paper that is as far from the centre,
-  -- one pixel more or less
-  pub alike : (u v : ℤ) → IsWithin 63 (u -ℤ q.u) → IsWithin 64 (v -ℤ q.v)
-      → IsWithin 1 (from_column c (paper_column s u v) -ℤ (u -ℤ q.u)) × IsWithin 1 (from_row paper r (paper_row s u v) -ℤ (v -ℤ q.v))
-  alike u v a b =
-      let near = (is-rigid s slant).paper u v q.u q.v a b in
-      let column : paper_column s q.u q.v ≡ pos (x_of c) = paper_column-scan s (pos (x_of c)) (pos (y_of paper r)) in
-      let row : paper_row s q.u q.v ≡ pos (y_of paper r) = paper_row-scan s (pos (x_of c)) (pos (y_of paper r)) in
-      (
-        record { low = omega (arith, ints, near.across.low, column); high = omega (arith, ints, near.across.high, column) },
-        record { low = omega (arith, ints, near.down.low, row); high = omega (arith, ints, near.down.high, row) },
-      )
-
   -- no mark has a column from 18 to 29 right of the centre of a mark
   pub light-right : (u v : ℤ) → (pos 19 ≤ℤ (u -ℤ q.u)) → ((u -ℤ q.u) ≤ℤ pos 28) → IsWithin 64 (v -ℤ q.v) → seen s marks u v ≡ true → ⊥
   light-right u v a b h dark =
-      let at = alike u v (record { low = omega (arith, ints, a); high = omega (arith, ints, b) }) h in
+      let at = alike s slant paper c r u v (record { low = omega (arith, ints, a); high = omega (arith, ints, b) }) h in
       let m = are.some _ _ dark in
       omega (arith, ints, a, b, at.0.low, at.0.high, m.3.left, m.3.right)
 
   -- nor one from 18 to 29 left of it
   pub light-left : (u v : ℤ) → ((u -ℤ q.u) +ℤ pos 20) ≤ℤ pos 0 → pos 0 ≤ℤ ((u -ℤ q.u) +ℤ pos 29) → IsWithin 64 (v -ℤ q.v) → seen s marks u v ≡ true → ⊥
   light-left u v a b h dark =
-      let at = alike u v (record { low = omega (arith, ints, b); high = omega (arith, ints, a) }) h in
+      let at = alike s slant paper c r u v (record { low = omega (arith, ints, b); high = omega (arith, ints, a) }) h in
       let m = are.some _ _ dark in
       omega (arith, ints, a, b, at.0.low, at.0.high, m.3.left, m.3.right)
 
   -- no mark has a row from 6 to 45 below it
   pub light-below : (u v : ℤ) → IsWithin 63 (u -ℤ q.u) → pos 7 ≤ℤ (v -ℤ q.v) → (v -ℤ q.v) ≤ℤ pos 44 → seen s marks u v ≡ true → ⊥
   light-below u v h a b dark =
-      let at = alike u v h (record { low = omega (arith, ints, a); high = omega (arith, ints, b) }) in
+      let at = alike s slant paper c r u v h (record { low = omega (arith, ints, a); high = omega (arith, ints, b) }) in
       let m = are.some _ _ dark in
       omega (arith, ints, a, b, at.1.low, at.1.high, m.3.top, m.3.bottom)
 
   -- nor one from 7 to 46 above it
   pub light-over : (u v : ℤ) → IsWithin 63 (u -ℤ q.u) → ((v -ℤ q.v) +ℤ pos 8) ≤ℤ pos 0 → pos 0 ≤ℤ ((v -ℤ q.v) +ℤ pos 45) → seen s marks u v ≡ true → ⊥
   light-over u v h a b dark =
-      let at = alike u v h (record { low = omega (arith, ints, b); high = omega (arith, ints, a) }) in
+      let at = alike s slant paper c r u v h (record { low = omega (arith, ints, b); high = omega (arith, ints, a) }) in
       let m = are.some _ _ dark in
       omega (arith, ints, a, b, at.1.low, at.1.high, m.3.top, m.3.bottom)
 
   -- within 17 columns to the left and 16 to the right, and within 5 rows above and 4 below, all is dark
   pub dark-near : (u v : ℤ) → pos 0 ≤ℤ ((u -ℤ q.u) +ℤ pos 17) → (u -ℤ q.u) ≤ℤ pos 16 → pos 0 ≤ℤ ((v -ℤ q.v) +ℤ pos 5) → (v -ℤ q.v) ≤ℤ pos 4 → seen s marks u v ≡ true
   dark-near u v a b d e =
-      let at = alike u v (record { low = omega (arith, ints, a); high = omega (arith, ints, b) }) (record { low = omega (arith, ints, d); high = omega (arith, ints, e) }) in
+      let at = alike s slant paper c r u v (record { low = omega (arith, ints, a); high = omega (arith, ints, b) }) (record { low = omega (arith, ints, d); high = omega (arith, ints, e) }) in
       are.dark c r (paper_column s u v) (paper_row s u v) point (record {
         left = omega (arith, ints, a, at.0.low);
         right = omega (arith, ints, b, at.0.high);
@@ -182,10 +183,10 @@ module _ (s : Slant) (slant : IsSlant s) (paper : Paper) (marks : Pixels) (are :
             };
           }
 
-sum-within : (n m : ℕ) (z w : ℤ) → IsWithin n (z -ℤ w) → IsWithin m w → IsWithin (n + m) z
+pub sum-within : (n m : ℕ) (z w : ℤ) → IsWithin n (z -ℤ w) → IsWithin m w → IsWithin (n + m) z
 sum-within n m z w a b = record { low = omega (arith, ints, a.low, b.low); high = omega (arith, ints, a.high, b.high) }
 
-wider : (n m : ℕ) (z : ℤ) → n ≤ m → IsWithin n z → IsWithin m z
+pub wider : (n m : ℕ) (z : ℤ) → n ≤ m → IsWithin n z → IsWithin m z
 wider n m z more h = record { low = omega (arith, ints, more, h.low); high = omega (arith, ints, more, h.high) }
 
 mark-within : (paper : Paper) (c r : ℕ) (x y : ℤ) → IsInMark paper c r x y → IsWithin 18 (x -ℤ pos (x_of c)) × IsWithin 6 (y -ℤ pos (y_of paper r))
