@@ -21,17 +21,17 @@ accepted_within page p w h a = record {
 }
 
 -- each place of a followed list lies in the frame
-pub followed_within : (page : Page) (n k : ℕ) (places : List Point) → page.width ≤ 4096 → page.height ≤ 4096 → IsFollowed page n places → k < n → IsPointWithin 4096 (point_at places k)
-followed_within page n zero places w h f l = accepted_within page _ w h f.corner.accepted
-followed_within page n (suc k) places w h f l = accepted_within page _ w h (f.next (suc k) (omega arith) l).accepted
+pub followed_within : (page : Page) (last n k : ℕ) (places : List Point) → page.width ≤ 4096 → page.height ≤ 4096 → IsFollowed page last n places → k < n → IsPointWithin 4096 (point_at places k)
+followed_within page last n zero places w h f l = accepted_within page _ w h f.corner.accepted
+followed_within page last n (suc k) places w h f l = accepted_within page _ w h (f.next (suc k) (omega arith) l).accepted
 
 -- the mark that leads to another comes before it
-pub leader_before : (k : ℕ) → 0 < k → leader_of k < k
-leader_before k h = grind (arith, nat_tests)
+pub leader_before : (last k : ℕ) → 0 < k → leader_of last k < k
+leader_before last k h = grind (arith, nat_tests)
 
 -- the corner alone is followed
-pub followed_one : (page : Page) (places : List Point) → IsCorner page (point_at places 0) → IsFollowed page 1 places
-followed_one page places corner = record { corner = corner; next = λ k l h. absurd (omega arith) }
+pub followed_one : (page : Page) (last : ℕ) (places : List Point) → IsCorner page (point_at places 0) → IsFollowed page last 1 places
+followed_one page last places corner = record { corner = corner; next = λ k l h. absurd (omega arith) }
 
 -- a place that is written leaves the places before it
 point_at_before : (places : List Point) (k j : ℕ) (p : Point) → j < k → point_at (set places k p) j ≡ point_at places j
@@ -42,34 +42,46 @@ point_at_own : (places : List Point) (k : ℕ) (p : Point) → k < length places
 point_at_own places k p inside = get_or-set_same places k p (record { u = pos 0; v = pos 0 }) inside
 
 -- where a mark is expected is told by the places before it
-prediction_same : (n : ℕ) (places longer : List Point) → ((k : ℕ) → k < n → point_at longer k ≡ point_at places k) → (j : ℕ) → 0 < j → j ≤ n → prediction_of longer j ≡ prediction_of places j
-prediction_same n places longer same j some most = ap (expected_from j) (same (leader_of j) (omega (arith, leader_before j some)))
+prediction_same : (last n : ℕ) (places longer : List Point) → ((k : ℕ) → k < n → point_at longer k ≡ point_at places k) → (j : ℕ) → 0 < j → j ≤ n → prediction_of last longer j ≡ prediction_of last places j
+prediction_same last n places longer same j some most = ap (expected_from last j) (same (leader_of last j) (omega (arith, leader_before last j some)))
 
 -- a list that begins with followed places, with one place more
-pub followed_grows : (page : Page) (n : ℕ) (places longer : List Point) → 0 < n → IsFollowed page n places → ((k : ℕ) → k < n → point_at longer k ≡ point_at places k) → IsBest page (prediction_of places n) (point_at longer n) → IsFollowed page (n + 1) longer
-followed_grows page n places longer some f same best =
+pub followed_grows : (page : Page) (last n : ℕ) (places longer : List Point) → 0 < n → IsFollowed page last n places → ((k : ℕ) → k < n → point_at longer k ≡ point_at places k) → IsBest page (prediction_of last places n) (point_at longer n) → IsFollowed page last (n + 1) longer
+followed_grows page last n places longer some f same best =
     let Corner : Point → Type 0 = λ x. IsCorner page x in
-    let expected : (j : ℕ) → 0 < j → j ≤ n → IsBest page (prediction_of places j) (point_at longer j) → IsBest page (prediction_of longer j) (point_at longer j) =
-    λ j low high here. let Expected : Point → Type 0 = λ q. IsBest page q (point_at longer j) in subst Expected (sym (prediction_same n places longer same j low high)) here in
+    let expected : (j : ℕ) → 0 < j → j ≤ n → IsBest page (prediction_of last places j) (point_at longer j) → IsBest page (prediction_of last longer j) (point_at longer j) =
+    λ j low high here. let Expected : Point → Type 0 = λ q. IsBest page q (point_at longer j) in subst Expected (sym (prediction_same last n places longer same j low high)) here in
     record {
       corner = subst Corner (sym (same 0 some)) f.corner;
       next = λ j low high.
           elim (cases_lt j n) [
             | inl before ↦
-                let Here : Point → Type 0 = λ x. IsBest page (prediction_of places j) x in
+                let Here : Point → Type 0 = λ x. IsBest page (prediction_of last places j) x in
                 expected j low (omega arith) (subst Here (sym (same j before)) (f.next j low before))
             | inr not_before ↦
-                let last : n ≡ j = omega arith in
-                let At : ℕ → Type 0 = λ m. IsBest page (prediction_of longer m) (point_at longer m) in
-                subst At last (expected n some (omega arith) best)
+                let final : n ≡ j = omega arith in
+                let At : ℕ → Type 0 = λ m. IsBest page (prediction_of last longer m) (point_at longer m) in
+                subst At final (expected n some (omega arith) best)
           ];
     }
 
+-- a list that begins with followed places is followed so far
+pub followed_same : (page : Page) (last n : ℕ) (places others : List Point) → 0 < n → ((k : ℕ) → k < n → point_at others k ≡ point_at places k) → IsFollowed page last n places → IsFollowed page last n others
+followed_same page last n places others some same f =
+    let Corner : Point → Type 0 = λ x. IsCorner page x in
+    record {
+      corner = subst Corner (sym (same 0 some)) f.corner;
+      next = λ j low before.
+          let Expected : Point → Type 0 = λ q. IsBest page q (point_at others j) in
+          let Here : Point → Type 0 = λ x. IsBest page (prediction_of last places j) x in
+          subst Expected (sym (prediction_same last n places others same j low (omega arith))) (subst Here (sym (same j before)) (f.next j low before));
+    }
+
 -- so where it is written into the list
-pub followed_more : (page : Page) (k : ℕ) (places : List Point) (p : Point) → 0 < k → k < length places → IsFollowed page k places → IsBest page (prediction_of places k) p → IsFollowed page (k + 1) (set places k p)
-followed_more page k places p some inside f best =
-    let Own : Point → Type 0 = λ x. IsBest page (prediction_of places k) x in
-    followed_grows page k places (set places k p) some f (λ j before. point_at_before places k j p before) (subst Own (sym (point_at_own places k p inside)) best)
+pub followed_more : (page : Page) (last k : ℕ) (places : List Point) (p : Point) → 0 < k → k < length places → IsFollowed page last k places → IsBest page (prediction_of last places k) p → IsFollowed page last (k + 1) (set places k p)
+followed_more page last k places p some inside f best =
+    let Own : Point → Type 0 = λ x. IsBest page (prediction_of last places k) x in
+    followed_grows page last k places (set places k p) some f (λ j before. point_at_before places k j p before) (subst Own (sym (point_at_own places k p inside)) best)
 
 -- a point that lies within a bound lies within a larger one
 pub within_more : (m n : ℕ) (p : Point) → m ≤ n → IsPointWithin m p → IsPointWithin n p
@@ -83,8 +95,8 @@ one_of_two true p q a b = a
 one_of_two false p q a b = b
 
 -- where the next mark is expected lies a step further at most
-pub expected_within : (k : ℕ) (p : Point) → IsPointWithin 4096 p → IsPointWithin 9000 (expected_from k p)
-expected_within k p w = one_of_two (is_in_row k) (right_of p) (below p)
+pub expected_within : (last k : ℕ) (p : Point) → IsPointWithin 4096 p → IsPointWithin 9000 (expected_from last k p)
+expected_within last k p w = one_of_two (is_in_row last k) (right_of p) (below p)
     (record {
       u = record { low = omega (arith, ints, w.u.low); high = omega (arith, ints, w.u.high) };
       v = record { low = omega (arith, ints, w.v.low); high = omega (arith, ints, w.v.high) };

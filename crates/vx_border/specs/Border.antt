@@ -1,10 +1,16 @@
 -- The border of a scan: its timing marks, each found from one before it. This project's own rule.
+-- Marks are told by the last grid row of the paper, so that each rule stands once for both papers.
 use Rattle.std.specs.Prelude.{◌≡◌, ◌<◌, ℕ, ◌-◌, ◌==◌, ◌||◌, Bool, nat_lt, nat_le, if◌then◌else◌, List, length, pos, ◌+ℤ◌, Result, Ok, Err}
 use Rattle.vx_plane.specs.Plane.{Page}
+use Rattle.vx_grid.specs.declared.paper.Paper.{Paper}
+use Rattle.vx_grid.specs.declared.paper.Paper.TheVariants.{Letter}
 use Rattle.vx_grid.specs.declared.places.Point.{Point}
-use Rattle.vx_grid.specs.declared.marks.Side.{Side}
-use Rattle.vx_grid.specs.declared.marks.Side.TheVariants.{Top, Right, Left, Bottom}
-use Rattle.vx_grid.specs.Grid.{x_of, y_of, mark_of}
+use Rattle.vx_grid.specs.declared.side.Side.{Side}
+use Rattle.vx_grid.specs.declared.side.Side.TheVariants.{Top, Right, Left, Bottom}
+use Rattle.vx_grid.specs.Paper.{last_row}
+use Rattle.vx_grid.specs.Grid.{x_of, y_of}
+use Rattle.vx_grid.specs.Marks.{first_right, first_left, first_bottom, marks_to, marks, mark_of}
+use Rattle.vx_grid.specs.Borders.{MarkPlaces}
 use Rattle.vx_grid.specs.Places.{point_at}
 use Rattle.vx_mark.specs.Corner.{IsCorner}
 use Rattle.vx_mark.specs.Best.{IsNear, IsBest}
@@ -12,86 +18,99 @@ use Rattle.vx_border.specs.declared.following.BorderFault.{BorderFault}
 use Rattle.vx_border.specs.declared.following.BorderFault.TheVariants.{NoCorner, NoMark, OpenBorder}
 
 -- the side of the page that a mark stands on
-abbrev pub side_of : ℕ → Side
-side_of k = if nat_lt k 34 then Top else if nat_lt k 74 then Right else if nat_lt k 114 then Left else Bottom
+abbrev pub side_of : ℕ → ℕ → Side
+side_of last k =
+    if nat_lt k first_right then Top
+    else if nat_lt k (first_left last) then Right
+    else if nat_lt k (first_bottom last) then Left
+    else Bottom
 
 -- whether a mark stands in the top row or the bottom row
-abbrev pub is_in_row : ℕ → Bool
-is_in_row k = nat_lt k 34 || nat_le 114 k
+abbrev pub is_in_row : ℕ → ℕ → Bool
+is_in_row last k = nat_lt k first_right || nat_le (first_bottom last) k
 
 -- a mark's place on its side: its column in a row, its row in a column
-abbrev pub index_of : ℕ → ℕ
-index_of k = if is_in_row k then (mark_of k).0 else (mark_of k).1
+abbrev pub index_of : ℕ → ℕ → ℕ
+index_of last k = if is_in_row last k then (mark_of last k).0 else (mark_of last k).1
 
 -- the mark that leads to another: mark 0 to the first of the left column, else the one before
-abbrev pub leader_of : ℕ → ℕ
-leader_of k = if k == 74 then 0 else k - 1
+abbrev pub leader_of : ℕ → ℕ → ℕ
+leader_of last k = if k == first_left last then 0 else k - 1
 
 -- where the next mark of a row is expected: one grid column to the right
 abbrev pub right_of : Point → Point
 right_of p = record { u = p.u +ℤ pos (x_of 1 - x_of 0); v = p.v }
 
--- where the next mark of a column is expected: one grid row down
+-- where the next mark of a column is expected: one grid row down, which is as far on either paper
 abbrev pub below : Point → Point
-below p = record { u = p.u; v = p.v +ℤ pos (y_of 1 - y_of 0) }
+below p = record { u = p.u; v = p.v +ℤ pos (y_of Letter 1 - y_of Letter 0) }
 
 -- where a mark is expected from the mark that leads to it
-abbrev pub expected_from : ℕ → Point → Point
-expected_from k leader = if is_in_row k then right_of leader else below leader
+abbrev pub expected_from : ℕ → ℕ → Point → Point
+expected_from last k leader = if is_in_row last k then right_of leader else below leader
 
 -- where a mark is expected, from the places of those before it
-abbrev pub prediction_of : List Point → ℕ → Point
-prediction_of places k = expected_from k (point_at places (leader_of k))
+abbrev pub prediction_of : ℕ → List Point → ℕ → Point
+prediction_of last places k = expected_from last k (point_at places (leader_of last k))
 
 -- the first n places of a list are followed: the corner, and then each the best place near where it
 -- is expected
-pub record IsFollowed (page : Page) (n : ℕ) (places : List Point) : Type 0 where
+pub record IsFollowed (page : Page) (last n : ℕ) (places : List Point) : Type 0 where
   pub corner : IsCorner page (point_at places 0)
-  pub next : (k : ℕ) → 0 < k → k < n → IsBest page (prediction_of places k) (point_at places k)
+  pub next : (k : ℕ) → 0 < k → k < n → IsBest page (prediction_of last places k) (point_at places k)
 
--- where the bottom row leads to
-abbrev pub end_of : List Point → Point
-end_of places = right_of (point_at places 145)
+-- all marks of a paper are followed
+abbrev pub AreAllFollowed : Paper → Page → List Point → Type 0
+AreAllFollowed paper page places = IsFollowed page (last_row paper) (marks paper) places
+
+-- where the bottom row leads to from its last mark
+abbrev pub end_of : ℕ → List Point → Point
+end_of last places = right_of (point_at places (marks_to last - 1))
+
+-- the place of the last mark of the right column
+abbrev pub right_end_of : ℕ → List Point → Point
+right_end_of last places = point_at places (first_left last - 1)
 
 -- the bottom row leads to the last mark of the right column
-abbrev pub Closes : List Point → Type 0
-Closes places = IsNear (end_of places) (point_at places 73)
+abbrev pub Closes : ℕ → List Point → Type 0
+Closes last places = IsNear (end_of last places) (right_end_of last places)
 
 -- a followed list of all marks that closes
-pub record IsBorder (page : Page) (places : List Point) : Type 0 where
-  pub all : length places ≡ 146
-  pub followed : IsFollowed page 146 places
-  pub closes : Closes places
+pub record IsBorder (paper : Paper) (page : Page) (border : MarkPlaces) : Type 0 where
+  pub of_paper : border.paper ≡ paper
+  pub all : length border.places ≡ marks paper
+  pub followed : AreAllFollowed paper page border.places
+  pub closes : Closes (last_row paper) border.places
 
 -- a mark is the first that isn't found
-pub record LacksMark (page : Page) (side : Side) (index : ℕ) (predicted : Point) : Type 0 where
+pub record LacksMark (paper : Paper) (page : Page) (side : Side) (index : ℕ) (predicted : Point) : Type 0 where
   pub mark : ℕ
   pub later : 0 < mark
-  pub number : mark < 146
-  pub side_is : side ≡ side_of mark
-  pub index_is : index ≡ index_of mark
+  pub number : mark < marks paper
+  pub side_is : side ≡ side_of (last_row paper) mark
+  pub index_is : index ≡ index_of (last_row paper) mark
   pub places : List Point
-  pub followed : IsFollowed page mark places
-  pub predicted_is : predicted ≡ prediction_of places mark
+  pub followed : IsFollowed page (last_row paper) mark places
+  pub predicted_is : predicted ≡ prediction_of (last_row paper) places mark
   pub none : (p : Point) → IsBest page predicted p → ⊥
 
 -- all marks are found, and the bottom row leads elsewhere
-pub record StaysOpen (page : Page) (predicted found : Point) : Type 0 where
+pub record StaysOpen (paper : Paper) (page : Page) (predicted found : Point) : Type 0 where
   pub places : List Point
-  pub followed : IsFollowed page 146 places
-  pub predicted_is : predicted ≡ end_of places
-  pub found_is : found ≡ point_at places 73
+  pub followed : AreAllFollowed paper page places
+  pub predicted_is : predicted ≡ end_of (last_row paper) places
+  pub found_is : found ≡ right_end_of (last_row paper) places
   pub apart : IsNear predicted found → ⊥
 
--- the border of a page, or its first fault
-abbrev pub IsBorderOf : Page → Result (List Point) BorderFault → Type 0
-IsBorderOf page (Ok places) = IsBorder page places
-IsBorderOf page (Err NoCorner) = (p : Point) → IsCorner page p → ⊥
-IsBorderOf page (Err (NoMark side index predicted)) = LacksMark page side index predicted
-IsBorderOf page (Err (OpenBorder predicted found)) = StaysOpen page predicted found
+-- the border of a page of a paper, or its first fault
+abbrev pub IsBorderOf : Paper → Page → Result MarkPlaces BorderFault → Type 0
+IsBorderOf paper page (Ok border) = IsBorder paper page border
+IsBorderOf paper page (Err NoCorner) = (p : Point) → IsCorner page p → ⊥
+IsBorderOf paper page (Err (NoMark side index predicted)) = LacksMark paper page side index predicted
+IsBorderOf paper page (Err (OpenBorder predicted found)) = StaysOpen paper page predicted found
 
 -- a fault of following is the first mark that isn't found
-abbrev pub IsLack : Page → BorderFault → Type 0
-IsLack page NoCorner = ⊥
-IsLack page (NoMark side index predicted) = LacksMark page side index predicted
-IsLack page (OpenBorder predicted found) = ⊥
+abbrev pub IsLack : Paper → Page → BorderFault → Type 0
+IsLack paper page NoCorner = ⊥
+IsLack paper page (NoMark side index predicted) = LacksMark paper page side index predicted
+IsLack paper page (OpenBorder predicted found) = ⊥

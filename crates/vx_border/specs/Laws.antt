@@ -1,7 +1,9 @@
 -- What is proved of followed lists of places, and of the border of a scan.
 use Rattle.std.specs.Prelude.{◌≡◌, ◌<◌, ℕ, ◌+◌, List, Result}
 use Rattle.vx_plane.specs.Plane.{Page}
+use Rattle.vx_grid.specs.declared.paper.Paper.{Paper}
 use Rattle.vx_grid.specs.declared.places.Point.{Point}
+use Rattle.vx_grid.specs.Borders.{MarkPlaces}
 use Rattle.vx_grid.specs.Places.{point_at}
 use Rattle.vx_mark.specs.Corner.{IsCorner}
 use Rattle.vx_mark.specs.Best.{IsBest}
@@ -11,24 +13,25 @@ use Rattle.vx_border.specs.Border.{prediction_of, IsFollowed, IsBorderOf}
 -- the corner alone is followed
 abbrev pub CornerIsFollowed : Type 0
 CornerIsFollowed =
-    (page : Page) (places : List Point) → IsCorner page (point_at places 0) → IsFollowed page 1 places
+    (page : Page) (last : ℕ) (places : List Point) → IsCorner page (point_at places 0) → IsFollowed page last 1 places
 
 -- of a list that begins with followed places and goes on with the best place near where the next
 -- mark is expected, one place more is followed
 abbrev pub FollowedGrows : Type 0
 FollowedGrows =
-    (page : Page) (n : ℕ) (places longer : List Point) → 0 < n → IsFollowed page n places
+    (page : Page) (last n : ℕ) (places longer : List Point) → 0 < n → IsFollowed page last n places
     → ((k : ℕ) → k < n → point_at longer k ≡ point_at places k)
-    → IsBest page (prediction_of places n) (point_at longer n)
-    → IsFollowed page (n + 1) longer
+    → IsBest page (prediction_of last places n) (point_at longer n)
+    → IsFollowed page last (n + 1) longer
 
 -- two followed lists of the same number of marks have the same places
 abbrev pub FollowedIsOne : Type 0
 FollowedIsOne =
-    (page : Page) (n : ℕ) (a b : List Point) → IsFollowed page n a → IsFollowed page n b
+    (page : Page) (last n : ℕ) (a b : List Point) → IsFollowed page last n a → IsFollowed page last n b
     → (k : ℕ) → k < n → point_at a k ≡ point_at b k
 
 -- a scan has one border, or one first fault
 abbrev pub BorderIsOne : Type 0
 BorderIsOne =
-    (page : Page) (a b : Result (List Point) BorderFault) → IsBorderOf page a → IsBorderOf page b → a ≡ b
+    (paper : Paper) (page : Page) (a b : Result MarkPlaces BorderFault)
+    → IsBorderOf paper page a → IsBorderOf paper page b → a ≡ b

@@ -1,11 +1,13 @@
-ghost use Rattle.std.specs.Prelude.{◌≡◌, ◌<◌, ◌↔◌, ◌+ℤ◌, ◌-ℤ◌, ◌≤ℤ◌, IsTrue, IfOk, OnOk, IfErr, length};
+ghost use Rattle.std.specs.Prelude.{◌≡◌, ◌<◌, ◌≤◌, ◌-◌, ◌↔◌, ◌+ℤ◌, ◌-ℤ◌, ◌≤ℤ◌, IsTrue, IfOk, OnOk, IfErr, length};
+ghost use Rattle.vx_grid.specs.Paper.{last_row as last_row_of};
+ghost use Rattle.vx_grid.specs.Marks.{first_left as first_left_of, first_bottom as first_bottom_of, marks as marks_of, marks_to};
 ghost use Rattle.vx_grid.specs.Places.{IsWithin, IsPointWithin, AreWithin, point_at};
-ghost use Rattle.vx_border.specs.Border.{side_of as side_is, index_of as index_is, is_in_row, leader_of as leader_is, expected_from, right_of as right_is, IsFollowed, IsLack, IsBorderOf};
+ghost use Rattle.vx_border.specs.Border.{side_of as side_is, index_of as index_is, is_in_row, leader_of as leader_is, expected_from, right_of as right_is, right_end_of, AreAllFollowed, IsLack, IsBorderOf};
 ghost use Rattle.vx_mark.specs.Corner.{IsCorner};
 ghost use Rattle.vx_mark.specs.Best.{IsNear};
 
 use vx_count::Counter;
-use vx_grid::{Border, Point, Side, mark_of};
+use vx_grid::{Border, Paper, Point, Side, last_row, mark_of, marks};
 use vx_mark::{best_near, first_corner};
 
 /// Why a scan's border can't be followed.
@@ -20,16 +22,29 @@ pub enum BorderFault {
     OpenBorder(Point, Point),
 }
 
+/// The number of the first mark of the left column.
+fn first_left(paper: Paper) -> u32
+    ensures { result ≡ first_left_of (last_row_of paper) }
+{
+    34 + last_row(paper)
+}
+
+/// The number of the first mark of the bottom row.
+fn first_bottom(paper: Paper) -> u32
+    ensures { result ≡ first_bottom_of (last_row_of paper) }
+{
+    34 + 2 * last_row(paper)
+}
+
 /// The side that mark `k` stands on.
-fn side_of(k: u32) -> Side
-    requires { k < 146 }
-    ensures { result ≡ side_is k }
+fn side_of(paper: Paper, k: u32) -> Side
+    ensures { result ≡ side_is (last_row_of paper) k }
 {
     if k < 34 {
         Side::Top
-    } else if k < 74 {
+    } else if k < first_left(paper) {
         Side::Right
-    } else if k < 114 {
+    } else if k < first_bottom(paper) {
         Side::Left
     } else {
         Side::Bottom
@@ -37,27 +52,27 @@ fn side_of(k: u32) -> Side
 }
 
 /// Whether mark `k` stands in the top row or the bottom row.
-fn in_row(k: u32) -> bool
-    ensures { result ≡ is_in_row k }
+fn in_row(paper: Paper, k: u32) -> bool
+    ensures { result ≡ is_in_row (last_row_of paper) k }
 {
-    k < 34 || k >= 114
+    k < 34 || k >= first_bottom(paper)
 }
 
 /// The column of a mark in a row, the row of a mark in a column.
-fn index_of(k: u32) -> u32
-    requires { k < 146 }
-    ensures { result ≡ index_is k }
+fn index_of(paper: Paper, k: u32) -> u32
+    requires { k < marks_of paper }
+    ensures { result ≡ index_is (last_row_of paper) k }
 {
-    let (column, row) = mark_of(k);
-    if in_row(k) { column } else { row }
+    let (column, row) = mark_of(paper, k);
+    if in_row(paper, k) { column } else { row }
 }
 
 /// The mark that leads to mark `k`.
-fn leader_of(k: u32) -> u32
+fn leader_of(paper: Paper, k: u32) -> u32
     requires { 0 < k }
-    ensures { result ≡ leader_is k }
+    ensures { result ≡ leader_is (last_row_of paper) k }
 {
-    if k == 74 { 0 } else { k - 1 }
+    if k == first_left(paper) { 0 } else { k - 1 }
 }
 
 /// Where the next mark of a row is expected.
@@ -72,11 +87,11 @@ fn right_of(p: Point) -> Point
 }
 
 /// Where mark `k` is expected from the mark that leads to it.
-fn expected(k: u32, leader: Point) -> Point
+fn expected(paper: Paper, k: u32, leader: Point) -> Point
     requires { IsPointWithin 8900 leader }
-    ensures { result ≡ expected_from k leader }
+    ensures { result ≡ expected_from (last_row_of paper) k leader }
 {
-    if in_row(k) {
+    if in_row(paper, k) {
         right_of(leader)
     } else {
         Point {
@@ -106,32 +121,51 @@ fn is_near(predicted: Point, place: Point) -> bool
 }
 
 /// Finds the marks after the corner, each from the mark that leads to it.
-fn follow(counter: &Counter, places: &mut [Point]) -> Result<(), BorderFault>
-    requires all { length places.old ≡ 146 }
+fn follow(counter: &Counter, paper: Paper, places: &mut [Point]) -> Result<(), BorderFault>
+    requires all { length places.old ≡ 168 }
     requires corner { IsCorner counter.now (point_at places.old 0) }
-    ensures all { length places.new ≡ 146 }
-    ensures found { OnOk result (IsFollowed counter.now 146 places.new) }
-    ensures lacks { IfErr result (IsLack counter.now) }
+    ensures all { length places.new ≡ 168 }
+    ensures found { OnOk result (AreAllFollowed paper counter.now places.new) }
+    ensures lacks { IfErr result (IsLack paper counter.now) }
 {
     // For the proof alone: what this call's clause says of the page.
     let _width = counter.width();
     let _height = counter.height();
-    for k in 1..146 {
-        let predicted = expected(k, places[leader_of(k) as usize]);
+    for k in 1..marks(paper) {
+        let predicted = expected(paper, k, places[leader_of(paper, k) as usize]);
         match best_near(counter, predicted) {
             Some(place) => places[k as usize] = place,
-            None => return Err(BorderFault::NoMark(side_of(k), index_of(k), predicted)),
+            None => {
+                let (side, index) = (side_of(paper, k), index_of(paper, k));
+                return Err(BorderFault::NoMark(side, index, predicted));
+            }
         }
     }
     Ok(())
 }
 
-/// Follows the border of a scan: 146 marks from the corner along the top row, down the right
-/// column, down the left column and along the bottom row, which has to lead to the end of the right
-/// column.
-pub fn trace(counter: &Counter) -> Result<Border, BorderFault>
-    ensures border { IsBorderOf counter.now result }
-    ensures within { IfOk result (λ border. AreWithin 9000 border) }
+/// The place of the last mark of the bottom row.
+fn bottom_end(paper: Paper, places: &[Point]) -> Point
+    requires { length places.now ≡ 168 }
+    ensures { result ≡ point_at places.now (marks_to (last_row_of paper) - 1) }
+{
+    places[marks(paper) as usize - 1]
+}
+
+/// The place of the last mark of the right column.
+fn right_end(paper: Paper, places: &[Point]) -> Point
+    requires { length places.now ≡ 168 }
+    ensures { result ≡ right_end_of (last_row_of paper) places.now }
+{
+    places[first_left(paper) as usize - 1]
+}
+
+/// Follows the border of a scan of this paper: its marks from the corner along the top row, down
+/// the right column, down the left column and along the bottom row, which has to lead to the end of
+/// the right column. There are 146 of them, or 168 on legal paper.
+pub fn trace(counter: &Counter, paper: Paper) -> Result<Border, BorderFault>
+    ensures border { IsBorderOf paper counter.now result }
+    ensures within { IfOk result (λ border. AreWithin 9000 border.places) }
 {
     // For the proof alone: what this call's clause says of the page.
     let _width = counter.width();
@@ -139,12 +173,12 @@ pub fn trace(counter: &Counter) -> Result<Border, BorderFault>
     let Some(corner) = first_corner(counter) else {
         return Err(BorderFault::NoCorner);
     };
-    let mut places = [corner; 146];
-    follow(counter, &mut places)?;
-    let end = right_of(places[145]);
-    let found = places[73];
+    let mut places = [corner; 168];
+    follow(counter, paper, &mut places)?;
+    let end = right_of(bottom_end(paper, &places));
+    let found = right_end(paper, &places);
     if is_near(end, found) {
-        Ok(Border::new(places))
+        Ok(Border::new(paper, places))
     } else {
         Err(BorderFault::OpenBorder(end, found))
     }

@@ -3,7 +3,7 @@ use std::alloc::{AllocError, Global};
 use std::test::Fail;
 use vx_bits::BitPage;
 use vx_count::Counter;
-use vx_grid::{MARKS, Point, Side, mark_of};
+use vx_grid::{Paper, Point, Side, marks, mark_of};
 
 /// A page with the timing marks, moved by some columns and rows.
 fn page_with_marks(
@@ -14,8 +14,8 @@ fn page_with_marks(
     down: u32,
 ) -> Result<BitPage, AllocError> {
     let mut page = BitPage::new(alloc, width.clamp(1, 4096), height.clamp(1, 4096))?;
-    for k in 0..MARKS {
-        let (column, row) = mark_of(k);
+    for k in 0..marks(Paper::Letter) {
+        let (column, row) = mark_of(Paper::Letter, k);
         let left = (40 + 48 * column.min(33)).saturating_add(right);
         let top = (54 + 52 * row.min(40)).saturating_add(down);
         if left <= 4000 && top <= 4000 && left + 36 <= page.width() && top + 12 <= page.height() {
@@ -44,7 +44,7 @@ fn a_clean_page_has_its_border(rt: HostRuntime) -> Result<(), Fail> {
         page.darken(832, 1194, 36, 12);
     }
     let counter = Counter::new(rt.alloc(), &page.view())?;
-    let border = trace(&counter).map_err(|_| "no border")?;
+    let border = trace(&counter, Paper::Letter).map_err(|_| "no border")?;
     let expected = [
         (0, place(56, 59)),
         (1, place(105, 59)),
@@ -65,11 +65,11 @@ fn a_clean_page_has_its_border(rt: HostRuntime) -> Result<(), Fail> {
 fn a_shifted_page_has_its_border_up_to_the_bound(rt: HostRuntime) -> Result<(), Fail> {
     let beyond = page_with_marks(rt.alloc(), 1800, 2240, 61, 40)?;
     let counter = Counter::new(rt.alloc(), &beyond.view())?;
-    let fault = trace(&counter).err();
+    let fault = trace(&counter, Paper::Letter).err();
     assert_eq!(rt; fault, Some(BorderFault::NoCorner));
     let within = page_with_marks(rt.alloc(), 1800, 2240, 60, 40)?;
     let counter = Counter::new(rt.alloc(), &within.view())?;
-    let border = trace(&counter).map_err(|_| "no border")?;
+    let border = trace(&counter, Paper::Letter).map_err(|_| "no border")?;
     assert_eq!(rt; border.at(0), place(116, 99));
     assert_eq!(rt; border.at(1), place(165, 99));
     Ok(())
@@ -84,14 +84,14 @@ fn a_mark_with_a_hole_is_not_found(rt: HostRuntime) -> Result<(), Fail> {
         }
     }
     let counter = Counter::new(rt.alloc(), &page.view())?;
-    let fault = trace(&counter).err();
+    let fault = trace(&counter, Paper::Letter).err();
     assert_eq!(rt;
         fault,
         Some(BorderFault::NoMark(Side::Top, 5, place(297, 59)))
     );
     paint(&mut page, 298, 60, true);
     let counter = Counter::new(rt.alloc(), &page.view())?;
-    let border = trace(&counter).map_err(|_| "no border")?;
+    let border = trace(&counter, Paper::Letter).map_err(|_| "no border")?;
     assert_eq!(rt; border.at(5), place(297, 59));
     Ok(())
 }

@@ -6,4 +6,4 @@
 
 mod scoring;
 
-pub use scoring::{OUTLINE, code_count, score, state};
+pub use scoring::{code_count, score, state};

@@ -3,10 +3,7 @@ ghost use Rattle.vx_grid.specs.Places.{IsPointWithin};
 ghost use Rattle.vx_score.specs.Score.{score_of, code_count_of, state_of};
 
 use vx_count::Counter;
-use vx_grid::{Point, State, Thresholds, bubble_window, code_window};
-
-/// How many pixels the printed outline of a bubble has.
-pub const OUTLINE: u32 = 192;
+use vx_grid::{OUTLINE_PIXELS, Point, State, Thresholds, bubble_window, code_window};
 
 /// The score of the bubble at a grid place: how many pixels of its window are dark besides its
 /// printed outline.
@@ -16,7 +13,7 @@ pub fn score(counter: &Counter, place: Point) -> u32
 {
     counter
         .dark_in(bubble_window(place))
-        .saturating_sub(OUTLINE)
+        .saturating_sub(OUTLINE_PIXELS)
 }
 
 /// How many pixels of the window of the code box at a grid place are dark.
