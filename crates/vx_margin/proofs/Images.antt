@@ -30,7 +30,7 @@ many_rows Legal = omega arith
 abbrev pub IsOnBorderLine : Paper → ℕ → ℕ → Type 0
 IsOnBorderLine paper c r = (r ≡ 0) ⊎ (r ≡ last_row paper) ⊎ (c ≡ 0) ⊎ (c ≡ last_column)
 
-outside_is_zone : (paper : Paper) (x y : ℤ) → inner_region paper x y ≡ false → frame_zone paper x y ≡ true
+pub outside_is_zone : (paper : Paper) (x y : ℤ) → inner_region paper x y ≡ false → frame_zone paper x y ≡ true
 outside_is_zone paper x y h = ap not h
 
 -- a place of the paper near a border line lies in the frame zone

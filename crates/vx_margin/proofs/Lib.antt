@@ -2,3 +2,4 @@ pub mod Parts
 pub mod Deficits
 pub mod Found
 pub mod Images
+pub mod Steps
