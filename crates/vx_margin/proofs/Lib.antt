@@ -3,3 +3,4 @@ pub mod Deficits
 pub mod Found
 pub mod Images
 pub mod Steps
+pub mod Weights
