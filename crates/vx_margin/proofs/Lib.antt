@@ -4,3 +4,4 @@ pub mod Found
 pub mod Images
 pub mod Steps
 pub mod Weights
+pub mod Grids
