@@ -25,7 +25,7 @@ both_true : (a b : Bool) → a ≡ true → b ≡ true → (a && b) ≡ true
 both_true true b h g = g
 both_true false b h g = cc
 
-swapped : (a b f : Bool) → (a ≡ b) ⊎ (f ≡ true) → (b ≡ a) ⊎ (f ≡ true)
+pub swapped : (a b f : Bool) → (a ≡ b) ⊎ (f ≡ true) → (b ≡ a) ⊎ (f ≡ true)
 swapped a b f (inl e) = inl (sym e)
 swapped a b f (inr h) = inr h
 
@@ -34,7 +34,7 @@ negated a b f (inl e) = inl (ap not e)
 negated a b f (inr h) = inr h
 
 -- a pixel of a zone is as the paper has it, or a flip
-as_shown : (s : Slant) (scan : Page) (set zone : Pixels) (u v : ℤ) → frame_of scan u v ≡ true → seen s zone u v ≡ true
+pub as_shown : (s : Slant) (scan : Page) (set zone : Pixels) (u v : ℤ) → frame_of scan u v ≡ true → seen s zone u v ≡ true
     → (seen s set u v ≡ dark_at scan u v) ⊎ (flips_in s scan set zone u v ≡ true)
 unfolding flips
 as_shown s scan set zone u v framed zoned = choose (differs (dark_at scan u v) (seen s set u v))
@@ -42,6 +42,15 @@ as_shown s scan set zone u v framed zoned = choose (differs (dark_at scan u v) (
     choose : (seen s set u v ≡ dark_at scan u v) ⊎ (differ (dark_at scan u v) (seen s set u v) ≡ true) → (seen s set u v ≡ dark_at scan u v) ⊎ (flips_in s scan set zone u v ≡ true)
     choose (inl same) = inl same
     choose (inr other) = inr (both_true _ _ zoned (both_true _ _ framed other))
+
+-- a pixel of the frame is as the paper has it, or a flip
+pub as_or_flip : (s : Slant) (scan : Page) (set : Pixels) (u v : ℤ) → frame_of scan u v ≡ true → (seen s set u v ≡ dark_at scan u v) ⊎ (flips s scan set u v ≡ true)
+unfolding flips
+as_or_flip s scan set u v framed = choose (differs (dark_at scan u v) (seen s set u v))
+  where
+    choose : (seen s set u v ≡ dark_at scan u v) ⊎ (differ (dark_at scan u v) (seen s set u v) ≡ true) → (seen s set u v ≡ dark_at scan u v) ⊎ (flips s scan set u v ≡ true)
+    choose (inl same) = inl same
+    choose (inr other) = inr (both_true _ _ framed other)
 
 module _ (s : Slant) (scan : Page) (paper : Paper) (marks : Pixels) (p : Point) (shows : ShowsMarks s scan paper marks) (framed : IsInFrame scan p) (zone : IsInZone s paper p) where
   abbrev shown : Pixels

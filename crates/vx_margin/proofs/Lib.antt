@@ -5,3 +5,4 @@ pub mod Images
 pub mod Steps
 pub mod Weights
 pub mod Grids
+pub mod Windows

@@ -1,6 +1,6 @@
 -- What a scan has to show of a page's marks, boxes and bubbles, so that they are found.
 use Rattle.std.specs.Prelude.{◌≡◌, ◌≤◌, ◌+◌, ℕ, true, ℤ, pos, ◌-ℤ◌, ◌≤ℤ◌}
-use Rattle.vx_plane.specs.Plane.{Pixels, Page, rectangle}
+use Rattle.vx_plane.specs.Plane.{Pixels, Page, rectangle, dark_at}
 use Rattle.vx_plane.specs.Count.{count_in}
 use Rattle.vx_grid.specs.declared.paper.Paper.{Paper}
 use Rattle.vx_grid.specs.declared.places.Point.{Point}
@@ -59,3 +59,9 @@ pub record ShowsZone (s : Slant) (scan : Page) (paper : Paper) (set : Pixels) (h
       (x y : ℤ) → round half (x_of c) (y_of paper r) x y ≡ true
       → frame_of scan (scan_column s x y) (scan_row s x y) ≡ true
   pub few : count_round paper half c r (flips_on s scan set) ≤ most
+
+-- the dark pixels of a scan in such a size round a place
+abbrev pub dark_round : Page → HalfSides → Point → ℕ
+dark_round scan half p =
+    count_in (p.u -ℤ pos half.across) (p.v -ℤ pos half.down)
+        (half.across + half.across) (half.down + half.down) (dark_at scan)
