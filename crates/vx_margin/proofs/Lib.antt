@@ -6,3 +6,4 @@ pub mod Steps
 pub mod Weights
 pub mod Grids
 pub mod Windows
+pub mod Numbers
