@@ -7,3 +7,4 @@ pub mod Weights
 pub mod Grids
 pub mod Windows
 pub mod Numbers
+pub mod Chains

@@ -25,12 +25,12 @@ bottom-mark : (last k : ℕ) → 34 + 2 * last ≤ k → mark_of last k ≡ (k -
 bottom-mark last k h = grind (arith, nat_tests)
 
 -- a mark of a row stands right of the one that leads to it
-mark-right : (last k : ℕ) → 40 ≤ last → 0 < k → is_in_row last k ≡ true
+pub mark-right : (last k : ℕ) → 40 ≤ last → 0 < k → is_in_row last k ≡ true
     → ((mark_of last k).0 ≡ (mark_of last (leader_of last k)).0 + 1) × ((mark_of last k).1 ≡ (mark_of last (leader_of last k)).1)
 mark-right last k many some row = (grind (arith, nat_tests), grind (arith, nat_tests))
 
 -- a mark of a column stands below the one that leads to it
-mark-below : (last k : ℕ) → 40 ≤ last → 0 < k → is_in_row last k ≡ false
+pub mark-below : (last k : ℕ) → 40 ≤ last → 0 < k → is_in_row last k ≡ false
     → ((mark_of last k).0 ≡ (mark_of last (leader_of last k)).0) × ((mark_of last k).1 ≡ (mark_of last (leader_of last k)).1 + 1)
 mark-below last k many some column = (grind (arith, nat_tests), grind (arith, nat_tests))
 

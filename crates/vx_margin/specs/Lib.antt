@@ -2,3 +2,4 @@ pub mod Marks
 pub mod Flips
 pub mod Shown
 pub mod Deficits
+pub mod Chains
