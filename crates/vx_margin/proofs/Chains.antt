@@ -74,3 +74,46 @@ followed-chain scan last n places followed = record {
     accepted_each : (k : ℕ) → k < n → IsAccepted scan (point_at places k)
     accepted_each zero within = followed.corner.accepted
     accepted_each (suc k) within = (followed.next (suc k) (omega arith) within).accepted
+
+-- two places near two others that are one
+meets : (p q o : Point) → LiesNear 5 3 p o → LiesNear 4 2 q o → IsNear p q
+meets p q o a b = record {
+  left = omega (arith, ints, a.across.high, b.across.low);
+  right = omega (arith, ints, a.across.low, b.across.high);
+  top = omega (arith, ints, a.down.high, b.down.low);
+  bottom = omega (arith, ints, a.down.low, b.down.high);
+}
+
+module _ (s : Slant) (scan : Page) (paper : Paper) (marks : Pixels) (shows : ShowsBorder s scan paper marks) where
+  -- followed places lie at the marks
+  pub followed-near : IsInStartRegion (mark_image s paper 0) → (n : ℕ) (places : List Point) → n ≤ marks_of paper → IsFollowed scan (last_row paper) n places → LieAtMarks s paper n places
+  followed-near start n places few followed =
+      chain-near s scan paper marks shows.slant_is shows.marks_are shows.shows n places few (followed-chain scan (last_row paper) n places followed)
+      (corner-near s scan paper marks shows start (point_at places 0) followed.corner)
+
+  -- places that lie at the marks close
+  pub near-closes : (places : List Point) → LieAtMarks s paper (marks_of paper) places → Closes (last_row paper) places
+  near-closes places near =
+      let last : ℕ = last_row paper in
+      let many : 40 ≤ last = many_rows paper in
+      let e : ℕ = marks_to last - 1 in
+      let f : ℕ = first_left last - 1 in
+      let e-column : (mark_of last e).0 ≡ 32 = grind (arith, nat_tests) in
+      let e-row : (mark_of last e).1 ≡ last = grind (arith, nat_tests) in
+      let f-column : (mark_of last f).0 ≡ 33 = grind (arith, nat_tests) in
+      let f-row : (mark_of last f).1 ≡ last = grind (arith, nat_tests) in
+      let At : Point → ℕ → ℕ → Type 0 = λ p c r. LiesNear 4 2 p (image_of s paper c r) in
+      let at-e : LiesNear 4 2 (point_at places e) (image_of s paper 32 last) =
+      subst (λ (r : ℕ). At (point_at places e) 32 r) e-row (subst (λ (c : ℕ). At (point_at places e) c (mark_of last e).1) e-column (near.each e (omega arith))) in
+      let at-f : LiesNear 4 2 (point_at places f) (image_of s paper 33 last) =
+      subst (λ (r : ℕ). At (point_at places f) 33 r) f-row (subst (λ (c : ℕ). At (point_at places f) c (mark_of last f).1) f-column (near.each f (omega arith))) in
+      meets (right_of (point_at places e)) (point_at places f) (image_of s paper 33 last) (right-predicted s shows.slant_is paper (point_at places e) 32 last at-e) at-f
+
+  -- the next mark is accepted where it is expected
+  pub next-accepted : (n : ℕ) (places : List Point) → 0 < n → n < marks_of paper → LieAtMarks s paper n places
+      → IsAccepted scan (mark_image s paper n) × IsNear (prediction_of (last_row paper) places n) (mark_image s paper n)
+  next-accepted n places some few near =
+      let lead : leader_of (last_row paper) n < n = leader-before (last_row paper) n some in
+      let point : IsBorderPoint paper (mark_of (last_row paper) n).0 (mark_of (last_row paper) n).1 = mark-point paper n few in
+      accepted-near s shows.slant_is scan paper marks shows.marks_are shows.shows _ _ point (shows.in_frame _ _ point) (prediction_of (last_row paper) places n)
+      (predicted-near s scan paper marks shows.slant_is shows.marks_are shows.shows places n some (near.each (leader_of (last_row paper) n) lead))

@@ -8,3 +8,4 @@ pub mod Grids
 pub mod Windows
 pub mod Numbers
 pub mod Chains
+pub mod Places
