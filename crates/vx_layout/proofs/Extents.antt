@@ -1,17 +1,24 @@
 -- In which rectangles sets of pixels lie, and which of them are apart.
-use Rattle.std.proofs.Common.{◌≡◌, ℕ, ◌+◌, ◌-◌, ◌*◌, ◌≤◌, ◌<◌, ◌⊎◌, inl, inr, length, chars, get_or, Bool, true, false, cond, not, ℤ, pos, ◌≤ℤ◌, ◌<ℤ◌, ap, arith}
+use Rattle.std.proofs.Common.{◌≡◌, ℕ, ◌+◌, ◌-◌, ◌*◌, ◌≤◌, ◌<◌, ◌⊎◌, inl, inr, length, chars, get_or, Bool, true, false, cond, not, ℤ, pos, ◌-ℤ◌, ◌≤ℤ◌, ◌<ℤ◌, ap, arith}
 use Rattle.std.proofs.lemmas.Int.{ints}
 use Rattle.vx_plane.specs.Plane.{Pixels, nowhere, rectangle, in_any}
 use Rattle.vx_plane.proofs.Pages.{in_any-some, rectangle-sides, rectangle-inside}
-use Rattle.vx_grid.specs.Grid.{x_of, y_of}
-use Rattle.vx_code.specs.Code.{place_of_box}
+use Rattle.vx_grid.specs.declared.paper.Paper.{Paper}
+use Rattle.vx_grid.specs.declared.sizes.HalfSides.{HalfSides}
+use Rattle.vx_grid.specs.Paper.{last_row, first_y}
+use Rattle.vx_grid.specs.Grid.{x_of, y_of, first_code_row}
+use Rattle.vx_grid.specs.Sizes as sizes
+use Rattle.vx_grid.specs.Sizes.{zone_of, round}
+use Rattle.vx_grid.specs.Regions.{inner_region, frame_zone}
+use Rattle.vx_code.specs.Code.{place_from, place_of_box, reserved_place}
 use Rattle.vx_font.specs.Font.{dot_of}
 use Rattle.vx_layout.specs.declared.bubbles.Bubble.{Bubble}
 use Rattle.vx_layout.specs.declared.lines.TextLine.{TextLine}
 use Rattle.vx_layout.specs.Lines.{size_of}
 use Rattle.vx_layout.specs.Pages.{IsOnGrid}
 use Rattle.vx_layout.specs.Print.{dot_pixels, column_pixels, glyph_pixels, character_pixels, line_pixels}
-use Rattle.vx_layout.specs.Zones.{bubble_zone_of, bubble_box_of, code_zone_of, code_zones, frame_zone, Apart}
+use Rattle.vx_layout.specs.Zones.{bubble_zone_of, bubble_box_of, box_zone_at, code_zones, reserved_zones, Apart}
+use Rattle.vx_layout.proofs.Papers.{last-row_high, first-y_low}
 
 -- the places of a set lie in a rectangle: from_x ≤ u < to_x and from_y ≤ v < to_y
 pub record Lies (set : Pixels) (from_x to_x from_y to_y : ℕ) : Type 0 where
@@ -56,11 +63,11 @@ apart-lies one other (inr (inr (inl h))) = record { apart = λ u v p q. omega (a
 apart-lies one other (inr (inr (inr h))) = record { apart = λ u v p q. omega (arith, ints, one.above u v p, other.below u v q) }
 
 -- a set in the inner region keeps clear of the frame
-pub apart-frame : {a : Pixels} {l r t o : ℕ} → Lies a l r t o → 178 ≤ l → r ≤ 1522 → 190 ≤ t → o ≤ 2010 → Apart a frame_zone
-apart-frame lies h k m n = record {
+pub apart-frame : (paper : Paper) {a : Pixels} {l r t o : ℕ} → Lies a l r t o → 178 ≤ l → r ≤ 1522 → first_y paper + 130 ≤ t → o ≤ first_y paper + 130 + (52 * last_row paper - 260) → Apart a (frame_zone paper)
+apart-frame paper lies h k m n = record {
   apart = λ u v p framed.
-      let inside : rectangle (pos 178) (pos 190) 1344 1820 u v ≡ true =
-      rectangle-inside (pos 178) (pos 190) 1344 1820 u v
+      let inside : inner_region paper u v ≡ true =
+      rectangle-inside (pos 178) (pos (first_y paper + 130)) 1344 (52 * last_row paper - 260) u v
       (omega (arith, ints, lies.left u v p)) (omega (arith, ints, lies.right u v p))
       (omega (arith, ints, lies.above u v p)) (omega (arith, ints, lies.below u v p)) in
       absurd (cc (framed, ap not inside));
@@ -95,20 +102,44 @@ lies-line line most few =
     (λ i within. lies-wider line.x (line.x + 12 * most) line.y (line.y + 14)
     (lies-glyph (get_or (chars line.text) i 0) (line.x + 12 * i) line.y) (omega arith) (omega arith) (omega arith) (omega arith))
 
--- the zone and the box of a bubble on the grid
-pub lies-zone : (bubble : Bubble) (is : IsOnGrid bubble) → Lies (bubble_zone_of bubble) (214 + 432 * is.column) (286 + 432 * is.column) (35 + 52 * bubble.row) (85 + 52 * bubble.row)
-lies-zone bubble is =
-    lies-rectangle (x_of bubble.col - 36) (y_of bubble.row - 25) 72 50 (214 + 432 * is.column) (286 + 432 * is.column) (35 + 52 * bubble.row) (85 + 52 * bubble.row)
-    (omega (arith, is.col)) (omega (arith, is.col)) (omega arith) (omega arith)
+-- the pixels of a size round a place
+lies-round : (half : HalfSides) (x y left right above below : ℕ) → left + half.across ≤ x → x + half.across ≤ right → above + half.down ≤ y → y + half.down ≤ below → Lies (round half x y) left right above below
+lies-round half x y left right above below a b c d =
+    let sides = rectangle-sides (pos x -ℤ pos half.across) (pos y -ℤ pos half.down) (half.across + half.across) (half.down + half.down) in
+    record {
+      left = λ u v h. omega (arith, ints, a, (sides u v h).0);
+      right = λ u v h. omega (arith, ints, b, (sides u v h).1);
+      above = λ u v h. omega (arith, ints, c, (sides u v h).2);
+      below = λ u v h. omega (arith, ints, d, (sides u v h).3);
+    }
 
-pub lies-box : (bubble : Bubble) (is : IsOnGrid bubble) → Lies (bubble_box_of bubble) (230 + 432 * is.column) (270 + 432 * is.column) (47 + 52 * bubble.row) (73 + 52 * bubble.row)
-lies-box bubble is =
-    lies-rectangle (x_of bubble.col - 20) (y_of bubble.row - 13) 40 26 (230 + 432 * is.column) (270 + 432 * is.column) (47 + 52 * bubble.row) (73 + 52 * bubble.row)
-    (omega (arith, is.col)) (omega (arith, is.col)) (omega arith) (omega arith)
+-- the zone and the box of a bubble on the grid
+pub lies-zone : (paper : Paper) (bubble : Bubble) (is : IsOnGrid paper bubble) → Lies (bubble_zone_of paper bubble) (214 + 432 * is.column) (286 + 432 * is.column) (y_of paper bubble.row - 25) (y_of paper bubble.row + 25)
+lies-zone paper bubble is =
+    lies-round (zone_of sizes.bubble) (x_of bubble.col) (y_of paper bubble.row) (214 + 432 * is.column) (286 + 432 * is.column) (y_of paper bubble.row - 25) (y_of paper bubble.row + 25)
+    (omega (arith, is.col)) (omega (arith, is.col)) (omega (arith, first-y_low paper)) (omega arith)
+
+pub lies-box : (paper : Paper) (bubble : Bubble) (is : IsOnGrid paper bubble) → Lies (bubble_box_of paper bubble) (230 + 432 * is.column) (270 + 432 * is.column) (y_of paper bubble.row - 13) (y_of paper bubble.row + 13)
+lies-box paper bubble is =
+    lies-round sizes.bubble (x_of bubble.col) (y_of paper bubble.row) (230 + 432 * is.column) (270 + 432 * is.column) (y_of paper bubble.row - 13) (y_of paper bubble.row + 13)
+    (omega (arith, is.col)) (omega (arith, is.col)) (omega (arith, first-y_low paper)) (omega arith)
+
+-- the zones of the boxes of three rows
+lies-boxes : (paper : Paper) (first n : ℕ) → n < 84 → first ≤ 46 → Lies (box_zone_at paper (place_from first n)) 0 4000 (y_of paper first - 22) (y_of paper (first + 2) + 22)
+lies-boxes paper first n few low =
+    lies-round (zone_of sizes.code_box) (x_of (place_from first n).0) (y_of paper (place_from first n).1) 0 4000 (y_of paper first - 22) (y_of paper (first + 2) + 22)
+    (omega arith) (omega arith) (omega (arith, first-y_low paper)) (omega (arith, few))
 
 -- the zones of the page code
-pub lies-code : Lies code_zones 0 4000 1858 4000
+pub lies-code : (paper : Paper) → Lies (code_zones paper) 0 4000 (y_of paper (first_code_row paper) - 22) (y_of paper (first_code_row paper + 2) + 22)
 unfolding code_zones
-lies-code =
-    lies-any 84 code_zone_of 0 4000 1858 4000
-    (λ n few. lies-rectangle (x_of (place_of_box n).0 - 30) (y_of (place_of_box n).1 - 22) 60 44 0 4000 1858 4000 (omega arith) (omega arith) (omega arith) (omega arith))
+lies-code paper =
+    lies-any 84 (λ n. box_zone_at paper (place_of_box paper n)) 0 4000 (y_of paper (first_code_row paper) - 22) (y_of paper (first_code_row paper + 2) + 22)
+    (λ n few. lies-boxes paper (first_code_row paper) n few (omega (arith, last-row_high paper)))
+
+-- the reserved zones
+pub lies-reserved : (paper : Paper) → Lies (reserved_zones paper) 0 4000 (y_of paper 3 - 22) (y_of paper 5 + 22)
+unfolding reserved_zones
+lies-reserved paper =
+    lies-any 84 (λ n. box_zone_at paper (reserved_place n)) 0 4000 (y_of paper 3 - 22) (y_of paper 5 + 22)
+    (λ n few. lies-boxes paper 3 n few (omega arith))

@@ -6,13 +6,14 @@ use Rattle.std.specs.Option.{option_map_or}
 use Rattle.std.proofs.lemmas.List.Elements.{All-head, All-tail}
 use Rattle.std.proofs.lemmas.List.FromFn.{length-map-range_with_len, length-range_with_len}
 use Rattle.vx_base.proofs.Lists.{length-flat_map_le}
+use Rattle.vx_grid.specs.declared.paper.Paper.{Paper}
 use Rattle.vx_election.specs.declared.choice.Choice.{Choice}
 use Rattle.vx_election.specs.declared.contest.Contest.{Contest}
 use Rattle.vx_election.specs.declared.election.Election.{Election}
 use Rattle.vx_election.specs.Options.{options_of}
 use Rattle.vx_styles.specs.declared.card.Card.{Card}
 use Rattle.vx_layout.specs.Lines.{size_of, rows_of, lines_of, line_of, placed_line, lines_at}
-use Rattle.vx_layout.specs.Blocks.{HasSizes, Fits, description_of, seats_line, label_at, heading_rows, option_lines, block_lines}
+use Rattle.vx_layout.specs.Blocks.{HasSizes, LabelsFit, description_of, seats_line, label_at, heading_rows, option_lines, block_lines}
 use Rattle.vx_layout.specs.Plan.{foot_text, foot_line}
 use Rattle.vx_layout.proofs.Bytes.{length-chars_encodes}
 use Rattle.vx_layout.proofs.Labels.{size-write_in, size-seats, size-nil}
@@ -33,12 +34,12 @@ label-in (choice ∷ choices) zero fit = All-head (λ (choice : Choice). size_of
 label-in (choice ∷ choices) (suc option) fit = label-in choices option (All-tail (λ (choice : Choice). size_of choice.label ≤ 58) choice choices fit)
 
 -- a label fits a row
-pub size-label : (contest : Contest) (option : ℕ) → Fits contest → size_of (label_at contest option) ≤ 58
-size-label contest option fits = label-in contest.choices option fits.labels
+pub size-label : (contest : Contest) (option : ℕ) → LabelsFit contest → size_of (label_at contest option) ≤ 58
+size-label contest option fits = label-in contest.choices option fits
 
-length-lines : (col row : ℕ) (text : List ℕ) → length (lines_at col row text) ≡ lines_of text
+length-lines : (paper : Paper) (col row : ℕ) (text : List ℕ) → length (lines_at paper col row text) ≡ lines_of text
 unfolding lines_at
-length-lines col row text = length-map-range_with_len (placed_line col row text) 0 (lines_of text)
+length-lines paper col row text = length-map-range_with_len (placed_line paper col row text) 0 (lines_of text)
 
 either-le : (b : Bool) (m n most : ℕ) → m ≤ most → n ≤ most → cond b m n ≤ most
 either-le true m n most h k = h
@@ -56,28 +57,28 @@ either-size false text h = omega (arith, size-nil)
 pub size-description : (contest : Contest) → HasSizes contest → size_of (description_of contest) ≤ 10000
 size-description contest sizes = either-size contest.is_yes_no contest.description sizes.description
 
-few-label_lines : (contest : Contest) (col row option : ℕ) → Fits contest → length (option_lines contest col row option) ≤ 2
-few-label_lines contest col row option fits =
-    omega (arith, length-lines col (row + heading_rows contest + option) (label_at contest option), size-label contest option fits)
+few-label_lines : (paper : Paper) (contest : Contest) (col row option : ℕ) → LabelsFit contest → length (option_lines paper contest col row option) ≤ 2
+few-label_lines paper contest col row option fits =
+    omega (arith, length-lines paper col (row + heading_rows contest + option) (label_at contest option), size-label contest option fits)
 
 -- a block has at most 656 lines
-pub length-block : (contest : Contest) (col row : ℕ) → HasSizes contest → Fits contest → length (block_lines contest col row) ≤ 656
+pub length-block : (paper : Paper) (contest : Contest) (col row : ℕ) → HasSizes contest → LabelsFit contest → length (block_lines paper contest col row) ≤ 656
 unfolding block_lines
-length-block contest col row sizes fits =
-    let title = lines_at col row contest.title in
-    let asked = lines_at col (row + rows_of contest.title) (description_of contest) in
-    let seats = lines_at col (row + rows_of contest.title + rows_of (description_of contest)) (seats_line contest) in
-    let options = flat_map (option_lines contest col row) (range_with_len 0 (options_of contest)) in
-    let each = length-flat_map_le (option_lines contest col row) 2 (range_with_len 0 (options_of contest))
-    (All-range (λ option. length (option_lines contest col row option) ≤ 2) 0 (options_of contest) (λ option low high. few-label_lines contest col row option fits)) in
+length-block paper contest col row sizes fits =
+    let title = lines_at paper col row contest.title in
+    let asked = lines_at paper col (row + rows_of contest.title) (description_of contest) in
+    let seats = lines_at paper col (row + rows_of contest.title + rows_of (description_of contest)) (seats_line contest) in
+    let options = flat_map (option_lines paper contest col row) (range_with_len 0 (options_of contest)) in
+    let each = length-flat_map_le (option_lines paper contest col row) 2 (range_with_len 0 (options_of contest))
+    (All-range (λ option. length (option_lines paper contest col row option) ≤ 2) 0 (options_of contest) (λ option low high. few-label_lines paper contest col row option fits)) in
     omega (
       arith,
       length-append (title ++ asked ++ seats) options,
       length-append (title ++ asked) seats,
       length-append title asked,
-      length-lines col row contest.title,
-      length-lines col (row + rows_of contest.title) (description_of contest),
-      length-lines col (row + rows_of contest.title + rows_of (description_of contest)) (seats_line contest),
+      length-lines paper col row contest.title,
+      length-lines paper col (row + rows_of contest.title) (description_of contest),
+      length-lines paper col (row + rows_of contest.title + rows_of (description_of contest)) (seats_line contest),
       each,
       length-range_with_len 0 (options_of contest),
       few-options contest sizes,

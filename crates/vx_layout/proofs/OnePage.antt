@@ -5,6 +5,7 @@ use Rattle.std.specs.List.{flat_map}
 use Rattle.std.proofs.lemmas.List.Elements.{All-nil, All-cons, All-head, All-tail, All-filter, filter_passes}
 use Rattle.vx_base.proofs.Lists.{All-flat_map}
 use Rattle.vx_base.proofs.Numbers.{equal-yes, equal-no, equal-from_yes}
+use Rattle.vx_grid.specs.declared.paper.Paper.{Paper}
 use Rattle.vx_election.specs.declared.contest.Contest.{Contest}
 use Rattle.vx_election.specs.declared.election.Election.{Election}
 use Rattle.vx_election.specs.Options.{options_of}
@@ -28,26 +29,26 @@ abbrev page_in : List Block → ℕ → ℕ
 page_in [] number = 0
 page_in (block ∷ blocks) number = cond (block.contest == number) (page_of block.spot) (page_in blocks number)
 
-blocks-rise : (contests : List Contest) (least : ℕ) (spot : Spot) (numbers : List ℕ) → All (λ n. least < n) numbers → All (λ (b : Block). least < b.contest) (blocks_from contests spot numbers)
-blocks-rise contests least spot [] are = All-nil (λ (b : Block). least < b.contest)
-blocks-rise contests least spot (number ∷ numbers) are =
-    All-cons (λ (b : Block). least < b.contest) (block_at contests spot number) (blocks_from contests (end_of_block contests spot number) numbers)
+blocks-rise : (paper : Paper) (contests : List Contest) (least : ℕ) (spot : Spot) (numbers : List ℕ) → All (λ n. least < n) numbers → All (λ (b : Block). least < b.contest) (blocks_from paper contests spot numbers)
+blocks-rise paper contests least spot [] are = All-nil (λ (b : Block). least < b.contest)
+blocks-rise paper contests least spot (number ∷ numbers) are =
+    All-cons (λ (b : Block). least < b.contest) (block_at paper contests spot number) (blocks_from paper contests (end_of_block paper contests spot number) numbers)
     (All-head (λ n. least < n) number numbers are)
-    (blocks-rise contests least (end_of_block contests spot number) numbers (All-tail (λ n. least < n) number numbers are))
+    (blocks-rise paper contests least (end_of_block paper contests spot number) numbers (All-tail (λ n. least < n) number numbers are))
 
 past-first : (first : Block) (rest : List Block) (b : Block) → first.contest < b.contest → page_in rest b.contest ≡ page_of b.spot → page_in (first ∷ rest) b.contest ≡ page_of b.spot
 past-first first rest b less is =
     ap (λ (same : Bool). cond same (page_of first.spot) (page_in rest b.contest)) (equal-no first.contest b.contest (λ same. omega (arith, same, less))) ∙ is
 
 -- that is the page of each block, as no two are of one contest
-own-page : (contests : List Contest) (spot : Spot) (numbers : List ℕ) → Rising numbers → All (λ (b : Block). page_in (blocks_from contests spot numbers) b.contest ≡ page_of b.spot) (blocks_from contests spot numbers)
-own-page contests spot [] rising = All-nil (λ (b : Block). page_in [] b.contest ≡ page_of b.spot)
-own-page contests spot (number ∷ numbers) rising =
-    let first = block_at contests spot number in
-    let next = end_of_block contests spot number in
-    let rest = blocks_from contests next numbers in
-    let later = blocks-rise contests number next numbers rising.0 in
-    let own = own-page contests next numbers rising.1 in
+own-page : (paper : Paper) (contests : List Contest) (spot : Spot) (numbers : List ℕ) → Rising numbers → All (λ (b : Block). page_in (blocks_from paper contests spot numbers) b.contest ≡ page_of b.spot) (blocks_from paper contests spot numbers)
+own-page paper contests spot [] rising = All-nil (λ (b : Block). page_in [] b.contest ≡ page_of b.spot)
+own-page paper contests spot (number ∷ numbers) rising =
+    let first = block_at paper contests spot number in
+    let next = end_of_block paper contests spot number in
+    let rest = blocks_from paper contests next numbers in
+    let later = blocks-rise paper contests number next numbers rising.0 in
+    let own = own-page paper contests next numbers rising.1 in
     All-cons (λ (b : Block). page_in (first ∷ rest) b.contest ≡ page_of b.spot) first rest
     (ap (λ (same : Bool). cond same (page_of first.spot) (page_in rest number)) (equal-yes number number refl))
     (λ i d h. past-first first rest (get_or rest i d) (later i d h) (own i d h))
@@ -72,9 +73,10 @@ on-own_page page_for page contests blocks own =
 -- in every plan each contest has its page
 pub page-for_contests : (election : Election) (number : ℕ) (plan : CardPlan) → IsValid election → plan_of election number ≡ Ok plan → GivesEachContestAPage plan
 page-for_contests election number plan valid h =
+    let paper = election.paper in
     let contests = election.contests in
     let blocks = blocks_of election number in
-    let own = own-page contests top (contests_of_card election number) (contests-rise election number) in
+    let own = own-page paper contests top (contests_of_card election number) (contests-rise election number) in
     record {
       page_for = page_in blocks;
       each =

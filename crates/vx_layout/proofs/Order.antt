@@ -6,6 +6,8 @@ use Rattle.std.proofs.lemmas.Bool.{cases_lt}
 use Rattle.std.proofs.lemmas.List.Elements.{All-nil, All-cons, All-head, All-tail, All-append, All-filter, All-weaker, All-get_or, filter_passes}
 use Rattle.vx_base.proofs.Lists.{All-flat_map}
 use Rattle.vx_base.proofs.Numbers.{equal-from_yes}
+use Rattle.vx_grid.specs.declared.paper.Paper.{Paper}
+use Rattle.vx_grid.specs.Grid.{contest_rows}
 use Rattle.vx_election.specs.declared.contest.Contest.{Contest}
 use Rattle.vx_election.specs.declared.election.Election.{Election}
 use Rattle.vx_election.specs.Options.{options_of}
@@ -72,20 +74,20 @@ start-cases : (b : Bool) (spot : Spot) → NoLater spot (cond b spot (record { c
 start-cases true spot = inr (refl, omega arith)
 start-cases false spot = inl (omega arith)
 
-no-later-start : (spot : Spot) (rows : ℕ) → NoLater spot (start_of spot rows)
-no-later-start spot rows = start-cases (nat_le (spot.row + rows) 28) spot
+no-later-start : (paper : Paper) (spot : Spot) (rows : ℕ) → NoLater spot (start_of paper spot rows)
+no-later-start paper spot rows = start-cases (nat_le (spot.row + rows) (contest_rows paper)) spot
 
 no-later-below : (spot : Spot) (rows : ℕ) → NoLater spot (below spot rows)
 no-later-below spot rows = inr (refl, omega arith)
 
-blocks-after : (contests : List Contest) (at spot : Spot) (numbers : List ℕ) → NoLater at spot → All (λ (b : Block). NoLater at b.spot) (blocks_from contests spot numbers)
-blocks-after contests at spot [] h = All-nil (λ (b : Block). NoLater at b.spot)
-blocks-after contests at spot (number ∷ numbers) h =
+blocks-after : (paper : Paper) (contests : List Contest) (at spot : Spot) (numbers : List ℕ) → NoLater at spot → All (λ (b : Block). NoLater at b.spot) (blocks_from paper contests spot numbers)
+blocks-after paper contests at spot [] h = All-nil (λ (b : Block). NoLater at b.spot)
+blocks-after paper contests at spot (number ∷ numbers) h =
     let rows = height_of (contest_at contests number) in
-    let start = start_of spot rows in
-    let here = no-later-trans at spot start h (no-later-start spot rows) in
-    All-cons (λ (b : Block). NoLater at b.spot) (block_at contests spot number) (blocks_from contests (end_of_block contests spot number) numbers)
-    here (blocks-after contests at (end_of_block contests spot number) numbers (no-later-trans at start (below start rows) here (no-later-below start rows)))
+    let start = start_of paper spot rows in
+    let here = no-later-trans at spot start h (no-later-start paper spot rows) in
+    All-cons (λ (b : Block). NoLater at b.spot) (block_at paper contests spot number) (blocks_from paper contests (end_of_block paper contests spot number) numbers)
+    here (blocks-after paper contests at (end_of_block paper contests spot number) numbers (no-later-trans at start (below start rows) here (no-later-below start rows)))
 
 -- a bubble stands in a block
 record StandsIn (spot : Spot) (rows : ℕ) (bubble : Bubble) : Type 0 where
@@ -104,7 +106,7 @@ before-later spot other rows others x y same (inl h) in_x in_y = inl (omega (ari
 before-later spot other rows others x y same (inr h) in_x in_y =
     inr (in_x.col ∙ ap (λ (column : ℕ). 4 + 9 * (column % 3)) h.0 ∙ sym in_y.col, omega (arith, h.1, in_x.high, in_y.low))
 
-module _ (contests : List Contest) (page : ℕ) where
+module _ (paper : Paper) (contests : List Contest) (page : ℕ) where
   -- every bubble of a block stands before those of later blocks on the page
   between : (block : Block) (rest : List Block) → page_of block.spot ≡ page → All (λ (b : Block). NoLater (below block.spot (height_of (contest_at contests block.contest))) b.spot) rest → All (λ (x : Bubble). All (Before x) (flat_map (bubbles_of contests) (on_page page rest))) (bubbles_of contests block)
   between block rest here after =
@@ -121,12 +123,12 @@ module _ (contests : List Contest) (page : ℕ) where
       (bubbles_of contests other) (options-stand other.contest (contest_at contests other.contest) other.spot)))
       (bubbles_of contests block) (options-stand block.contest (contest_at contests block.contest) block.spot)
 
-  ordered-page : (spot : Spot) (numbers : List ℕ) → Ordered (flat_map (bubbles_of contests) (on_page page (blocks_from contests spot numbers)))
+  ordered-page : (spot : Spot) (numbers : List ℕ) → Ordered (flat_map (bubbles_of contests) (on_page page (blocks_from paper contests spot numbers)))
   ordered-page spot [] = tt
   ordered-page spot (number ∷ numbers) =
-      let block = block_at contests spot number in
-      let next = end_of_block contests spot number in
-      let rest = blocks_from contests next numbers in
+      let block = block_at paper contests spot number in
+      let next = end_of_block paper contests spot number in
+      let rest = blocks_from paper contests next numbers in
       let after = ordered-page next numbers in
       let Is : List Block → Type 0 = λ blocks. Ordered (flat_map (bubbles_of contests) blocks) in
       let away = λ (there : (page_of block.spot < page) ⊎ (page < page_of block.spot)). subst Is (sym (on-no page block rest there)) after in
@@ -138,30 +140,31 @@ module _ (contests : List Contest) (page : ℕ) where
       subst Is (sym (on-yes page block rest here))
       (ordered-append (bubbles_of contests block) (flat_map (bubbles_of contests) (on_page page rest))
       (ordered-block block.contest (contest_at contests block.contest) (column_of block.spot) (row_of block.spot)) after
-      (between block rest here (blocks-after contests next next numbers (inr (refl, omega arith))))))
+      (between block rest here (blocks-after paper contests next next numbers (inr (refl, omega arith))))))
       (cases_lt page (page_of block.spot)))
       (cases_lt (page_of block.spot) page)
 
--- the zone of a bubble and the box of another
-apart-before : (a b : Bubble) → IsOnGrid a → IsOnGrid b → Before a b → Apart (bubble_zone_of a) (bubble_box_of b)
-apart-before a b on_a on_b (inl less) =
-    apart-lies (lies-zone a on_a) (lies-box b on_b) (inl (omega (arith, less, on_a.col, on_b.col)))
-apart-before a b on_a on_b (inr same) =
-    apart-lies (lies-zone a on_a) (lies-box b on_b) (inr (inr (inl (omega (arith, same.1)))))
+module _ (paper : Paper) where
+  -- the zone of a bubble and the box of another
+  apart-before : (a b : Bubble) → IsOnGrid paper a → IsOnGrid paper b → Before a b → Apart (bubble_zone_of paper a) (bubble_box_of paper b)
+  apart-before a b on_a on_b (inl less) =
+      apart-lies (lies-zone paper a on_a) (lies-box paper b on_b) (inl (omega (arith, less, on_a.col, on_b.col)))
+  apart-before a b on_a on_b (inr same) =
+      apart-lies (lies-zone paper a on_a) (lies-box paper b on_b) (inr (inr (inl (omega (arith, same.1)))))
 
-apart-after : (a b : Bubble) → IsOnGrid a → IsOnGrid b → Before b a → Apart (bubble_zone_of a) (bubble_box_of b)
-apart-after a b on_a on_b (inl less) =
-    apart-lies (lies-zone a on_a) (lies-box b on_b) (inr (inl (omega (arith, less, on_a.col, on_b.col))))
-apart-after a b on_a on_b (inr same) =
-    apart-lies (lies-zone a on_a) (lies-box b on_b) (inr (inr (inr (omega (arith, same.1)))))
+  apart-after : (a b : Bubble) → IsOnGrid paper a → IsOnGrid paper b → Before b a → Apart (bubble_zone_of paper a) (bubble_box_of paper b)
+  apart-after a b on_a on_b (inl less) =
+      apart-lies (lies-zone paper a on_a) (lies-box paper b on_b) (inr (inl (omega (arith, less, on_a.col, on_b.col))))
+  apart-after a b on_a on_b (inr same) =
+      apart-lies (lies-zone paper a on_a) (lies-box paper b on_b) (inr (inr (inr (omega (arith, same.1)))))
 
-apart-list : (bubbles : List Bubble) → Ordered bubbles → All IsOnGrid bubbles → (i j : ℕ) (d : Bubble) → i < length bubbles → j < length bubbles → i ≢ j → Apart (bubble_zone_of (get_or bubbles i d)) (bubble_box_of (get_or bubbles j d))
-apart-list bubbles ordered on i j d in_i in_j other =
-    ⊎_elim
-    (λ less. apart-before (get_or bubbles i d) (get_or bubbles j d) (on i d in_i) (on j d in_j) (ordered-get bubbles ordered i j d less in_j))
-    (λ more. let less : j < i = omega (arith, more, other) in
-    apart-after (get_or bubbles i d) (get_or bubbles j d) (on i d in_i) (on j d in_j) (ordered-get bubbles ordered j i d less in_i))
-    (cases_lt i j)
+  pub apart-list : (bubbles : List Bubble) → Ordered bubbles → All (IsOnGrid paper) bubbles → (i j : ℕ) (d : Bubble) → i < length bubbles → j < length bubbles → i ≢ j → Apart (bubble_zone_of paper (get_or bubbles i d)) (bubble_box_of paper (get_or bubbles j d))
+  apart-list bubbles ordered on i j d in_i in_j other =
+      ⊎_elim
+      (λ less. apart-before (get_or bubbles i d) (get_or bubbles j d) (on i d in_i) (on j d in_j) (ordered-get bubbles ordered i j d less in_j))
+      (λ more. let less : j < i = omega (arith, more, other) in
+      apart-after (get_or bubbles i d) (get_or bubbles j d) (on i d in_i) (on j d in_j) (ordered-get bubbles ordered j i d less in_i))
+      (cases_lt i j)
 
 -- the bubbles of every page of a plan are apart
 pub apart-plan : (election : Election) (number : ℕ) (plan : CardPlan) → IsValid election → plan_of election number ≡ Ok plan → AreApartInPlan plan
@@ -171,6 +174,6 @@ apart-plan election number plan valid h =
     let blocks = blocks_of election number in
     All-pages AreApart election number plan is (λ page. record {
       each =
-          apart-list (flat_map (bubbles_of contests) (on_page page blocks)) (ordered-page contests page top (contests_of_card election number))
+          apart-list election.paper (flat_map (bubbles_of contests) (on_page page blocks)) (ordered-page election.paper contests page top (contests_of_card election number))
           (grid-page election page blocks is.placed);
     })

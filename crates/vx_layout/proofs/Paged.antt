@@ -6,6 +6,7 @@ use Rattle.std.proofs.lemmas.List.Elements.{All-nil, All-cons, All-head, All-tai
 use Rattle.std.proofs.lemmas.Bool.Decides.{nat_tests}
 use Rattle.std.proofs.lemmas.Bool.{cases_lt}
 use Rattle.vx_base.proofs.Numbers.{equal-yes, equal-no}
+use Rattle.vx_grid.specs.declared.paper.Paper.{Paper}
 use Rattle.vx_election.specs.declared.contest.Contest.{Contest}
 use Rattle.vx_layout.specs.declared.flow.Spot.{Spot}
 use Rattle.vx_layout.specs.declared.flow.Block.{Block}
@@ -65,33 +66,33 @@ module _ {X : Type 0} (f : Block → List X) where
   paged-none from (suc count) = paged-none (from + 1) count
 
 -- blocks stand at or after where they begin to flow
-later : (contests : List Contest) (spot : Spot) (numbers : List ℕ) (column : ℕ) → column ≤ spot.column → All (λ (b : Block). column ≤ b.spot.column) (blocks_from contests spot numbers)
-later contests spot [] column h = All-nil (λ (b : Block). column ≤ b.spot.column)
-later contests spot (number ∷ numbers) column h =
-    let here : column ≤ (start_of spot (height_of (contest_at contests number))).column = grind (arith, nat_tests) in
-    All-cons (λ (b : Block). column ≤ b.spot.column) (block_at contests spot number) (blocks_from contests (end_of_block contests spot number) numbers)
-    here (later contests (end_of_block contests spot number) numbers column here)
+later : (paper : Paper) (contests : List Contest) (spot : Spot) (numbers : List ℕ) (column : ℕ) → column ≤ spot.column → All (λ (b : Block). column ≤ b.spot.column) (blocks_from paper contests spot numbers)
+later paper contests spot [] column h = All-nil (λ (b : Block). column ≤ b.spot.column)
+later paper contests spot (number ∷ numbers) column h =
+    let here : column ≤ (start_of paper spot (height_of (contest_at contests number))).column = grind (arith, nat_tests) in
+    All-cons (λ (b : Block). column ≤ b.spot.column) (block_at paper contests spot number) (blocks_from paper contests (end_of_block paper contests spot number) numbers)
+    here (later paper contests (end_of_block paper contests spot number) numbers column here)
 
 -- the end is at or after where they begin
-end-later : (contests : List Contest) (spot : Spot) (numbers : List ℕ) (column : ℕ) → column ≤ spot.column → column ≤ (end_from contests spot numbers).column
-end-later contests spot [] column h = h
-end-later contests spot (number ∷ numbers) column h =
-    let here : column ≤ (start_of spot (height_of (contest_at contests number))).column = grind (arith, nat_tests) in
-    end-later contests (end_of_block contests spot number) numbers column here
+end-later : (paper : Paper) (contests : List Contest) (spot : Spot) (numbers : List ℕ) (column : ℕ) → column ≤ spot.column → column ≤ (end_from paper contests spot numbers).column
+end-later paper contests spot [] column h = h
+end-later paper contests spot (number ∷ numbers) column h =
+    let here : column ≤ (start_of paper spot (height_of (contest_at contests number))).column = grind (arith, nat_tests) in
+    end-later paper contests (end_of_block paper contests spot number) numbers column here
 
 page-le : (a b : Spot) → a.column ≤ b.column → page_of a ≤ page_of b
 page-le a b h = omega arith
 
 -- the pages up to the last have all blocks, in order
-pub all-paged : {X : Type 0} (f : Block → List X) (contests : List Contest) (spot : Spot) (numbers : List ℕ) (count : ℕ) → page_of (end_from contests spot numbers) ≤ count → flat_map (λ page. flat_map f (on_page page (blocks_from contests spot numbers))) (range_with_len 1 count) ≡ flat_map f (blocks_from contests spot numbers)
+pub all-paged : {X : Type 0} (f : Block → List X) (paper : Paper) (contests : List Contest) (spot : Spot) (numbers : List ℕ) (count : ℕ) → page_of (end_from paper contests spot numbers) ≤ count → flat_map (λ page. flat_map f (on_page page (blocks_from paper contests spot numbers))) (range_with_len 1 count) ≡ flat_map f (blocks_from paper contests spot numbers)
 unfolding paged
-all-paged f contests spot [] count h = paged-none f 1 count
-all-paged f contests spot (number ∷ numbers) count h =
-    let block = block_at contests spot number in
-    let next = end_of_block contests spot number in
-    let rest = blocks_from contests next numbers in
+all-paged f paper contests spot [] count h = paged-none f 1 count
+all-paged f paper contests spot (number ∷ numbers) count h =
+    let block = block_at paper contests spot number in
+    let next = end_of_block paper contests spot number in
+    let rest = blocks_from paper contests next numbers in
     let after = All-weaker (λ (b : Block). block.spot.column ≤ b.spot.column) (λ (b : Block). page_of block.spot ≤ page_of b.spot)
-    (λ b l. page-le block.spot b.spot l) rest (later contests next numbers block.spot.column (omega arith)) in
-    let last : page_of block.spot ≤ page_of (end_from contests next numbers) = page-le block.spot (end_from contests next numbers) (end-later contests next numbers block.spot.column (omega arith)) in
+    (λ b l. page-le block.spot b.spot l) rest (later paper contests next numbers block.spot.column (omega arith)) in
+    let last : page_of block.spot ≤ page_of (end_from paper contests next numbers) = page-le block.spot (end_from paper contests next numbers) (end-later paper contests next numbers block.spot.column (omega arith)) in
     paged-first f 1 count block rest (omega arith) (omega arith) after
-    ∙ ap (λ xs. f block ++ xs) (all-paged f contests next numbers count h)
+    ∙ ap (λ xs. f block ++ xs) (all-paged f paper contests next numbers count h)

@@ -25,10 +25,10 @@ use Rattle.vx_layout.proofs.Sizes.{sizes-from_valid}
 
 -- the blocks of a card, its number of pages, and the page with a number
 abbrev pub blocks_of : Election → ℕ → List Block
-blocks_of election number = blocks_from election.contests top (contests_of_card election number)
+blocks_of election number = blocks_from election.paper election.contests top (contests_of_card election number)
 
 abbrev pub count_of : Election → ℕ → ℕ
-count_of election number = pages_of election.contests (contests_of_card election number)
+count_of election number = pages_of election.paper election.contests (contests_of_card election number)
 
 abbrev pub page_at : Election → ℕ → ℕ → PagePlan
 page_at election number page =
@@ -38,7 +38,7 @@ page_at election number page =
 pub record IsPlan (election : Election) (number : ℕ) (plan : CardPlan) : Type 0 where
   pub there : number < length (cards_of election)
   pub few : count_of election number ≤ 63
-  pub placed : All (IsPlaced election.contests) (blocks_of election number)
+  pub placed : All (IsPlaced election.paper election.contests) (blocks_of election number)
   pub is : card_plan number (map (page_at election number) (range_with_len 1 (count_of election number))) ≡ plan
 
 within : (b : Bool) (fault : LayoutFault) (made plan : CardPlan) → cond b (Err fault) (Ok made) ≡ Ok plan → (b ≡ false) × (made ≡ plan)
@@ -49,18 +49,19 @@ within false fault made plan h = (refl, cc)
 pub parts-of_plan : (election : Election) (number : ℕ) (plan : CardPlan) → IsValid election → plan_of election number ≡ Ok plan → IsPlan election number plan
 unfolding plan_of
 parts-of_plan election number plan valid h =
+    let paper = election.paper in
     let contests = election.contests in
     let numbers = contests_of_card election number in
     let count = count_of election number in
     let made = card_plan number (map (page_at election number) (range_with_len 1 count)) in
     let with = plan_with election number (card_at election number) numbers count in
     let first = chosen-if (nat_lt number (length (cards_of election))) (plan_of_card election number) (NoCard (length (cards_of election))) plan h in
-    let second = bind_ok (contests_checked contests numbers) (λ _. with) plan first.1 in
+    let second = bind_ok (contests_checked paper contests numbers) (λ _. with) plan first.1 in
     let third = within (nat_lt 63 count) (TooManyPages count) made plan second.2 in
     record {
       there = below-from_yes number (length (cards_of election)) first.0;
       few = below-from_no 63 count third.0;
-      placed = All-placed contests top numbers (stand-from_checked contests numbers (sizes-from_valid election valid) (contests-there election number) second.1);
+      placed = All-placed paper contests top numbers (stand-from_checked paper contests numbers (sizes-from_valid election valid) (contests-there election number) second.1);
       is = third.1;
     }
 

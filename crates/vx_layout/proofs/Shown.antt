@@ -3,6 +3,7 @@ use Rattle.std.proofs.Common.{◌≡◌, ℕ, ◌≤◌, List, [], ◌∷◌, �
 use Rattle.std.specs.List.{flat_map, range_with_len}
 use Rattle.std.proofs.lemmas.List.Folds.{flat_map-map}
 use Rattle.vx_base.proofs.Lists.{map-map, map-flat_map, flat_map-same}
+use Rattle.vx_grid.specs.declared.paper.Paper.{Paper}
 use Rattle.vx_election.specs.declared.contest.Contest.{Contest}
 use Rattle.vx_election.specs.declared.election.Election.{Election}
 use Rattle.vx_election.specs.Options.{options_of}
@@ -29,10 +30,10 @@ shown-block contests block =
     (range_with_len 0 (options_of (contest_at contests block.contest)))
 
 -- the blocks stand for the contests
-shown-blocks : (contests : List Contest) (spot : Spot) (numbers : List ℕ) → flat_map (λ (block : Block). options_with contests block.contest) (blocks_from contests spot numbers) ≡ flat_map (options_with contests) numbers
-shown-blocks contests spot [] = refl
-shown-blocks contests spot (number ∷ numbers) =
-    ap (λ (rest : List (ℕ × ℕ)). options_with contests number ++ rest) (shown-blocks contests (end_of_block contests spot number) numbers)
+shown-blocks : (paper : Paper) (contests : List Contest) (spot : Spot) (numbers : List ℕ) → flat_map (λ (block : Block). options_with contests block.contest) (blocks_from paper contests spot numbers) ≡ flat_map (options_with contests) numbers
+shown-blocks paper contests spot [] = refl
+shown-blocks paper contests spot (number ∷ numbers) =
+    ap (λ (rest : List (ℕ × ℕ)). options_with contests number ++ rest) (shown-blocks paper contests (end_of_block paper contests spot number) numbers)
 
 shown-page : (contests : List Contest) (blocks : List Block) → options_shown (flat_map (bubbles_of contests) blocks) ≡ flat_map (λ (block : Block). options_with contests block.contest) blocks
 shown-page contests blocks =
@@ -43,16 +44,17 @@ shown-page contests blocks =
 pub each-option_shown : (election : Election) (number : ℕ) (plan : CardPlan) → IsValid election → plan_of election number ≡ Ok plan → ShowsEachOption election number plan
 each-option_shown election number plan valid h =
     let is = parts-of_plan election number plan valid h in
+    let paper = election.paper in
     let contests = election.contests in
     let numbers = contests_of_card election number in
     let blocks = blocks_of election number in
     let count = count_of election number in
-    let enough : page_of (end_from contests top numbers) ≤ count = omega arith in
+    let enough : page_of (end_from paper contests top numbers) ≤ count = omega arith in
     record {
       each =
           ap (λ (p : CardPlan). flat_map (λ (page : PagePlan). options_shown page.bubbles) p.pages) (sym is.is)
           ∙ flat_map-map (λ (page : PagePlan). options_shown page.bubbles) (page_at election number) (range_with_len 1 count)
           ∙ flat_map-same (λ page. options_shown (flat_map (bubbles_of contests) (on_page page blocks))) (λ page. flat_map (λ (block : Block). options_with contests block.contest) (on_page page blocks)) (range_with_len 1 count) (λ page. shown-page contests (on_page page blocks))
-          ∙ all-paged (λ (block : Block). options_with contests block.contest) contests top numbers count enough
-          ∙ shown-blocks contests top numbers;
+          ∙ all-paged (λ (block : Block). options_with contests block.contest) paper contests top numbers count enough
+          ∙ shown-blocks paper contests top numbers;
     }

@@ -3,6 +3,8 @@ use Rattle.std.specs.Prelude.{◌≡◌, ◌≤◌, ◌⊎◌, ℕ, ◌+◌, ◌
 use Rattle.std.specs.Fmt.{decimal}
 use Rattle.std.specs.List.{flat_map, range_with_len}
 use Rattle.std.specs.Option.{option_map_or}
+use Rattle.vx_grid.specs.declared.paper.Paper.{Paper}
+use Rattle.vx_grid.specs.Grid.{contest_rows}
 use Rattle.vx_election.specs.declared.choice.Choice.{Choice}
 use Rattle.vx_election.specs.declared.contest.Contest.{Contest}
 use Rattle.vx_election.specs.Options.{options_of}
@@ -32,23 +34,25 @@ abbrev pub height_of : Contest → ℕ
 height_of contest = heading_rows contest + options_of contest
 
 -- the lines above those of the options, of a block whose first row is a grid row
-abbrev pub heading_lines : Contest → ℕ → ℕ → List TextLine
-heading_lines contest col row =
-    lines_at col row contest.title
-    ++ lines_at col (row + rows_of contest.title) (description_of contest)
-    ++ lines_at col (row + rows_of contest.title + rows_of (description_of contest)) (seats_line contest)
+abbrev pub heading_lines : Paper → Contest → ℕ → ℕ → List TextLine
+heading_lines paper contest col row =
+    lines_at paper col row contest.title
+    ++ lines_at paper col (row + rows_of contest.title) (description_of contest)
+    ++ lines_at paper col (row + rows_of contest.title + rows_of (description_of contest)) (seats_line contest)
 
 -- the lines of an option
-abbrev pub option_lines : Contest → ℕ → ℕ → ℕ → List TextLine
-option_lines contest col row option = lines_at col (row + heading_rows contest + option) (label_at contest option)
+abbrev pub option_lines : Paper → Contest → ℕ → ℕ → ℕ → List TextLine
+option_lines paper contest col row option =
+    lines_at paper col (row + heading_rows contest + option) (label_at contest option)
 
 -- the lines of all options, in their order
-abbrev pub lines_of_options : Contest → ℕ → ℕ → List TextLine
-lines_of_options contest col row = flat_map (option_lines contest col row) (range_with_len 0 (options_of contest))
+abbrev pub lines_of_options : Paper → Contest → ℕ → ℕ → List TextLine
+lines_of_options paper contest col row =
+    flat_map (option_lines paper contest col row) (range_with_len 0 (options_of contest))
 
 -- the lines of a block, from the top
-unfoldable pub block_lines : Contest → ℕ → ℕ → List TextLine
-block_lines contest col row = heading_lines contest col row ++ lines_of_options contest col row
+unfoldable pub block_lines : Paper → Contest → ℕ → ℕ → List TextLine
+block_lines paper contest col row = heading_lines paper contest col row ++ lines_of_options paper contest col row
 
 -- the bubble of an option of a contest, in a block whose first row is a grid row
 abbrev pub option_bubble : ℕ → Contest → ℕ → ℕ → ℕ → Bubble
@@ -69,7 +73,11 @@ pub record HasSizes (contest : Contest) : Type 0 where
   pub names : All (λ (choice : Choice). size_of choice.name ≤ 256) contest.choices
   pub labels : All (λ (choice : Choice). (size_of choice.label ≤ 58) ⊎ (choice.label ≡ choice.name)) contest.choices
 
--- a contest that can be printed: its labels fit a row each, and its block a column
-pub record Fits (contest : Contest) : Type 0 where
-  pub height : height_of contest ≤ 28
-  pub labels : All (λ (choice : Choice). size_of choice.label ≤ 58) contest.choices
+-- the labels of a contest's choices fit a row each
+abbrev pub LabelsFit : Contest → Type 0
+LabelsFit contest = All (λ (choice : Choice). size_of choice.label ≤ 58) contest.choices
+
+-- a contest that can be printed on a paper: its labels fit a row each, and its block a column
+pub record Fits (paper : Paper) (contest : Contest) : Type 0 where
+  pub height : height_of contest ≤ contest_rows paper
+  pub labels : LabelsFit contest

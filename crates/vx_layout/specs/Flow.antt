@@ -1,13 +1,11 @@
--- Where blocks stand: they flow through text columns of 28 rows, three on each page.
+-- Where blocks stand: they flow through text columns, three on each page, which have the paper's rows of contests.
 use Rattle.std.specs.Prelude.{◌<◌, ◌≤◌, ℕ, ◌+◌, ◌*◌, ◌/◌, ◌%◌, List, [], ◌∷◌, length, false, None, nat_le, if◌then◌else◌, slice_index_or}
+use Rattle.vx_grid.specs.declared.paper.Paper.{Paper}
+use Rattle.vx_grid.specs.Grid.{first_contest_row, contest_rows}
 use Rattle.vx_election.specs.declared.contest.Contest.{Contest}
 use Rattle.vx_layout.specs.declared.flow.Spot.{Spot}
 use Rattle.vx_layout.specs.declared.flow.Block.{Block}
 use Rattle.vx_layout.specs.Blocks.{height_of, Fits}
-
--- the rows of a text column
-abbrev pub column_rows : ℕ
-column_rows = 28
 
 -- the top of the first column
 abbrev pub top : Spot
@@ -15,9 +13,9 @@ top = record { column = 0; row = 0 }
 
 -- where a block of some rows begins, if what is before it ends at a spot: there where the rows fit in
 -- what is left of the column, else at the top of the next
-abbrev pub start_of : Spot → ℕ → Spot
-start_of spot rows =
-    if nat_le (spot.row + rows) column_rows then spot else record { column = spot.column + 1; row = 0 }
+abbrev pub start_of : Paper → Spot → ℕ → Spot
+start_of paper spot rows =
+    if nat_le (spot.row + rows) (contest_rows paper) then spot else record { column = spot.column + 1; row = 0 }
 
 -- so many rows below a spot
 abbrev pub below : Spot → ℕ → Spot
@@ -42,25 +40,27 @@ abbrev pub contest_at : List Contest → ℕ → Contest
 contest_at contests number = slice_index_or contests number no_contest
 
 -- the block of a contest, after what ends at a spot
-abbrev pub block_at : List Contest → Spot → ℕ → Block
-block_at contests spot number =
-    record { contest = number; spot = start_of spot (height_of (contest_at contests number)) }
+abbrev pub block_at : Paper → List Contest → Spot → ℕ → Block
+block_at paper contests spot number =
+    record { contest = number; spot = start_of paper spot (height_of (contest_at contests number)) }
 
 -- where that block ends
-abbrev pub end_of_block : List Contest → Spot → ℕ → Spot
-end_of_block contests spot number =
-    below (start_of spot (height_of (contest_at contests number))) (height_of (contest_at contests number))
+abbrev pub end_of_block : Paper → List Contest → Spot → ℕ → Spot
+end_of_block paper contests spot number =
+    below (start_of paper spot (height_of (contest_at contests number))) (height_of (contest_at contests number))
 
 -- the blocks of contests, one after the other from a spot on
-abbrev pub blocks_from : List Contest → Spot → List ℕ → List Block
-blocks_from contests spot [] = []
-blocks_from contests spot (number ∷ numbers) =
-    block_at contests spot number ∷ blocks_from contests (end_of_block contests spot number) numbers
+abbrev pub blocks_from : Paper → List Contest → Spot → List ℕ → List Block
+blocks_from paper contests spot [] = []
+blocks_from paper contests spot (number ∷ numbers) =
+    block_at paper contests spot number
+    ∷ blocks_from paper contests (end_of_block paper contests spot number) numbers
 
 -- where the last of them ends
-abbrev pub end_from : List Contest → Spot → List ℕ → Spot
-end_from contests spot [] = spot
-end_from contests spot (number ∷ numbers) = end_from contests (end_of_block contests spot number) numbers
+abbrev pub end_from : Paper → List Contest → Spot → List ℕ → Spot
+end_from paper contests spot [] = spot
+end_from paper contests spot (number ∷ numbers) =
+    end_from paper contests (end_of_block paper contests spot number) numbers
 
 -- the page of a spot, from 1: three columns a page
 abbrev pub page_of : Spot → ℕ
@@ -70,21 +70,21 @@ page_of spot = spot.column / 3 + 1
 abbrev pub column_of : Spot → ℕ
 column_of spot = 4 + 9 * (spot.column % 3)
 
--- its grid row, from 6 on
+-- its grid row
 abbrev pub row_of : Spot → ℕ
-row_of spot = 6 + spot.row
+row_of spot = first_contest_row + spot.row
 
 -- an even number of pages, the last one without contests if need be
 abbrev pub even_up : ℕ → ℕ
 even_up pages = pages + pages % 2
 
 -- a block of a contest that can be printed, which stands within its column
-pub record IsPlaced (contests : List Contest) (block : Block) : Type 0 where
+pub record IsPlaced (paper : Paper) (contests : List Contest) (block : Block) : Type 0 where
   pub there : block.contest < length contests
-  pub fits : Fits (contest_at contests block.contest)
-  pub room : block.spot.row + height_of (contest_at contests block.contest) ≤ column_rows
+  pub fits : Fits paper (contest_at contests block.contest)
+  pub room : block.spot.row + height_of (contest_at contests block.contest) ≤ contest_rows paper
 
 -- a contest with a number is there and can be printed
-pub record CanStand (contests : List Contest) (number : ℕ) : Type 0 where
+pub record CanStand (paper : Paper) (contests : List Contest) (number : ℕ) : Type 0 where
   pub there : number < length contests
-  pub fits : Fits (contest_at contests number)
+  pub fits : Fits paper (contest_at contests number)

@@ -2,6 +2,7 @@
 use Rattle.std.specs.Prelude.{ℕ, ◌+◌, ◌-◌, ◌*◌, ◌/◌, ◌%◌, List, length, map, chars, encode_utf8_all}
 use Rattle.std.specs.List.{range_with_len}
 use Rattle.std.specs.Fork.{slice_chunk}
+use Rattle.vx_grid.specs.declared.paper.Paper.{Paper}
 use Rattle.vx_grid.specs.Grid.{x_of, y_of}
 use Rattle.vx_layout.specs.declared.lines.TextLine.{TextLine}
 
@@ -21,14 +22,14 @@ lines_of text = (size_of text + 28) / 29
 abbrev pub line_of : List ℕ → ℕ → List ℕ
 line_of text k = encode_utf8_all (slice_chunk (chars text) 29 k)
 
--- line k of a text whose first row is a grid row, right of the bubbles of a grid column
-abbrev pub placed_line : ℕ → ℕ → List ℕ → ℕ → TextLine
-placed_line col row text k = record {
+-- line k of a text whose first row is a grid row of a paper, right of the bubbles of a grid column
+abbrev pub placed_line : Paper → ℕ → ℕ → List ℕ → ℕ → TextLine
+placed_line paper col row text k = record {
   x = x_of col + 40;
-  y = y_of (row + k / 2) - 18 + 20 * (k % 2);
+  y = y_of paper (row + k / 2) - 18 + 20 * (k % 2);
   text = line_of text k;
 }
 
 -- the lines of a text whose first row is a grid row
-unfoldable pub lines_at : ℕ → ℕ → List ℕ → List TextLine
-lines_at col row text = map (placed_line col row text) (range_with_len 0 (lines_of text))
+unfoldable pub lines_at : Paper → ℕ → ℕ → List ℕ → List TextLine
+lines_at paper col row text = map (placed_line paper col row text) (range_with_len 0 (lines_of text))

@@ -1,5 +1,7 @@
 -- How the pages of a planned card are numbered, and where their bubbles stand.
 use Rattle.std.specs.Prelude.{◌≡◌, ◌<◌, ◌≤◌, ℕ, ◌+◌, ◌*◌, ◌%◌, All, List, length, slice_get, Some, Ok}
+use Rattle.vx_grid.specs.declared.paper.Paper.{Paper}
+use Rattle.vx_grid.specs.Grid.{first_contest_row, contest_rows}
 use Rattle.vx_election.specs.declared.contest.Contest.{Contest}
 use Rattle.vx_election.specs.declared.election.Election.{Election}
 use Rattle.vx_election.specs.Options.{options_of}
@@ -20,13 +22,13 @@ pub record IsNumbered (card_number : ℕ) (plan : CardPlan) : Type 0 where
   pub number : (i : ℕ) (page : PagePlan) → slice_get plan.pages i ≡ Some page → page.page ≡ i + 1
   pub of : (i : ℕ) (page : PagePlan) → slice_get plan.pages i ≡ Some page → page.of ≡ length plan.pages
 
--- a bubble stands in grid column 4, 13 or 22 and in a grid row from 6 to 33
-pub record IsOnGrid (bubble : Bubble) : Type 0 where
+-- a bubble stands in grid column 4, 13 or 22 and in one of the paper's rows of contests
+pub record IsOnGrid (paper : Paper) (bubble : Bubble) : Type 0 where
   pub column : ℕ
   pub few : column < 3
   pub col : bubble.col ≡ 4 + 9 * column
-  pub low : 6 ≤ bubble.row
-  pub high : bubble.row ≤ 33
+  pub low : first_contest_row ≤ bubble.row
+  pub high : bubble.row < first_contest_row + contest_rows paper
 
 -- a bubble stands for an option that a contest has
 pub record NamesOption (contests : List Contest) (bubble : Bubble) : Type 0 where
@@ -35,8 +37,12 @@ pub record NamesOption (contests : List Contest) (bubble : Bubble) : Type 0 wher
 
 -- every bubble of a plan stands on the grid, for an option of the election
 pub record StandsOnGrid (election : Election) (plan : CardPlan) : Type 0 where
-  pub on_grid : All (λ (page : PagePlan). All IsOnGrid page.bubbles) plan.pages
+  pub on_grid : All (λ (page : PagePlan). All (IsOnGrid page.paper) page.bubbles) plan.pages
   pub options : All (λ (page : PagePlan). All (NamesOption election.contests) page.bubbles) plan.pages
+
+-- every page of a plan is of the paper
+pub record HasPaper (paper : Paper) (plan : CardPlan) : Type 0 where
+  pub each : All (λ (page : PagePlan). page.paper ≡ paper) plan.pages
 
 -- the plans of a valid election are numbered so
 abbrev pub PlansAreNumbered : Type 0
@@ -49,3 +55,9 @@ abbrev pub PlansStandOnGrid : Type 0
 PlansStandOnGrid =
     (election : Election) (card : ℕ) (plan : CardPlan) → IsValid election → plan_of election card ≡ Ok plan
     → StandsOnGrid election plan
+
+-- and their pages are of the election's paper
+abbrev pub PlansHavePaper : Type 0
+PlansHavePaper =
+    (election : Election) (card : ℕ) (plan : CardPlan) → IsValid election → plan_of election card ≡ Ok plan
+    → HasPaper election.paper plan

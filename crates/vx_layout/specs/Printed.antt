@@ -2,10 +2,11 @@
 use Rattle.std.specs.Prelude.{◌≡◌, ◌≤◌, ℕ, ◌-◌, Bool, Ok, Some, slice_get}
 use Rattle.vx_plane.specs.Plane.{Pixels, Page, page_of}
 use Rattle.vx_grid.specs.declared.kind.Kind.{Kind}
+use Rattle.vx_grid.specs.Paper.{page_width, page_height}
 use Rattle.vx_election.specs.declared.election.Election.{Election}
 use Rattle.vx_election.specs.Valid.{IsValid}
 use Rattle.vx_code.specs.declared.code.PageCode.{PageCode}
-use Rattle.vx_code.specs.Code.{tag_of, boxes_of, IsInRange}
+use Rattle.vx_code.specs.Code.{tag_of, boxes_of, version_of, IsInRange}
 use Rattle.vx_layout.specs.declared.pages.PagePlan.{PagePlan}
 use Rattle.vx_layout.specs.declared.plan.CardPlan.{CardPlan}
 use Rattle.vx_layout.specs.Plan.{plan_of}
@@ -19,10 +20,10 @@ pub record PrintedPage : Type 0 where
   pub kind : Kind
   pub test : Bool
 
--- the code of a printed page: version 1, what the page is, and the tag of its election
+-- the code of a printed page: the version of its paper, what the page is, and the tag of its election
 abbrev pub code_of : Election → PrintedPage → PageCode
 code_of election printed = record {
-  version = 1;
+  version = version_of election.paper;
   test = printed.test;
   kind = printed.kind;
   card = printed.card;
@@ -41,9 +42,9 @@ pub record IsPlanned (election : Election) (printed : PrintedPage) (plan : PageP
 abbrev pub print_of_page : Election → PagePlan → PrintedPage → Pixels
 print_of_page election plan printed = print_of plan (boxes_of (code_of election printed))
 
--- the printed page as a bitmap: 1700 by 2200 pixels
+-- the printed page as a bitmap of its paper's size
 abbrev pub bitmap_of : Election → PagePlan → PrintedPage → Page
-bitmap_of election plan printed = page_of 1700 2200 (print_of_page election plan printed)
+bitmap_of election plan printed = page_of page_width (page_height plan.paper) (print_of_page election plan printed)
 
 -- a page of a card's plan is a printed page of that number, for each kind of ballot
 abbrev pub PagesArePlanned : Type 0
@@ -51,6 +52,12 @@ PagesArePlanned =
     (election : Election) (card : ℕ) (plan : CardPlan) (i : ℕ) (page : PagePlan) (kind : Kind) (test : Bool)
     → IsValid election → plan_of election card ≡ Ok plan → slice_get plan.pages i ≡ Some page
     → IsPlanned election (record { card = card; page = page.page; kind = kind; test = test }) page
+
+-- a printed page is of the election's paper
+abbrev pub PrintedHavePaper : Type 0
+PrintedHavePaper =
+    (election : Election) (printed : PrintedPage) (plan : PagePlan) → IsValid election
+    → IsPlanned election printed plan → plan.paper ≡ election.paper
 
 -- a printed page is planned with its number, and its code can be printed
 abbrev pub PrintedHaveCodes : Type 0

@@ -1,54 +1,64 @@
 -- What has to keep clear of what on a page: this project's own geometry.
-use Rattle.std.specs.Prelude.{◌≡◌, ◌≢◌, ◌<◌, ◌-◌, ℕ, All, length, slice_index_or, true, not, ℤ, pos}
-use Rattle.vx_plane.specs.Plane.{Pixels, rectangle, in_any}
+use Rattle.std.specs.Prelude.{◌≡◌, ◌≢◌, ◌<◌, ℕ, All, length, slice_index_or, true, ℤ}
+use Rattle.vx_plane.specs.Plane.{Pixels, in_any}
+use Rattle.vx_grid.specs.declared.paper.Paper.{Paper}
 use Rattle.vx_grid.specs.Grid.{x_of, y_of}
-use Rattle.vx_code.specs.Code.{place_of_box}
+use Rattle.vx_grid.specs.Sizes as sizes
+use Rattle.vx_grid.specs.Sizes.{zone_of, round}
+use Rattle.vx_grid.specs.Regions.{frame_zone}
+use Rattle.vx_code.specs.Code.{place_of_box, reserved_place}
 use Rattle.vx_layout.specs.declared.bubbles.Bubble.{Bubble}
 use Rattle.vx_layout.specs.declared.lines.TextLine.{TextLine}
 use Rattle.vx_layout.specs.declared.pages.PagePlan.{PagePlan}
 use Rattle.vx_layout.specs.declared.plan.CardPlan.{CardPlan}
 use Rattle.vx_layout.specs.Print.{line_pixels}
 
--- the zone of a bubble: its box of 40 by 26 pixels, grown twice by 8 columns and 6 rows
-abbrev pub bubble_zone_of : Bubble → Pixels
-bubble_zone_of bubble = rectangle (pos (x_of bubble.col - 36)) (pos (y_of bubble.row - 25)) 72 50
+-- the zone of a bubble
+abbrev pub bubble_zone_of : Paper → Bubble → Pixels
+bubble_zone_of paper bubble = round (zone_of sizes.bubble) (x_of bubble.col) (y_of paper bubble.row)
 
--- the zone of box n of the page code: the box of 28 by 20 pixels, grown so too
-abbrev pub code_zone_of : ℕ → Pixels
-code_zone_of n = rectangle (pos (x_of (place_of_box n).0 - 30)) (pos (y_of (place_of_box n).1 - 22)) 60 44
+-- the box of a bubble
+abbrev pub bubble_box_of : Paper → Bubble → Pixels
+bubble_box_of paper bubble = round sizes.bubble (x_of bubble.col) (y_of paper bubble.row)
 
--- the box of a bubble: 40 by 26 pixels
-abbrev pub bubble_box_of : Bubble → Pixels
-bubble_box_of bubble = rectangle (pos (x_of bubble.col - 20)) (pos (y_of bubble.row - 13)) 40 26
+-- the zone of a box of the page code that stands at a grid column and row
+abbrev pub box_zone_at : Paper → ℕ × ℕ → Pixels
+box_zone_at paper place = round (zone_of sizes.code_box) (x_of place.0) (y_of paper place.1)
 
 -- the zones of all boxes of the page code
-unfoldable pub code_zones : Pixels
-code_zones = in_any 84 code_zone_of
+unfoldable pub code_zones : Paper → Pixels
+code_zones paper = in_any 84 (λ n. box_zone_at paper (place_of_box paper n))
 
--- every place outside the inner region, 178 to 1521 by 190 to 2009
-abbrev pub frame_zone : Pixels
-frame_zone u v = not (rectangle (pos 178) (pos 190) 1344 1820 u v)
+-- the reserved zones, where the page code is seen on a page that is turned by 180 degrees
+unfoldable pub reserved_zones : Paper → Pixels
+reserved_zones paper = in_any 84 (λ n. box_zone_at paper (reserved_place n))
 
 -- two sets have no place in common
 pub record Apart (a b : Pixels) : Type 0 where
   pub apart : (u v : ℤ) → a u v ≡ true → b u v ≡ true → ⊥
 
--- the zones of bubbles keep clear of the dark dots of texts, of the zones of the page code and of the frame
--- zone, and the dark dots of texts keep clear of the page code's zones and of the frame zone
+-- the zones of bubbles keep clear of the dark dots of texts, of the zones of the page code, of the
+-- reserved zones and of the frame zone, and the dark dots of texts keep clear of those three
 pub record IsClear (page : PagePlan) : Type 0 where
   pub zones_from_text :
-      All (λ (bubble : Bubble). All (λ (line : TextLine). Apart (bubble_zone_of bubble) (line_pixels line)) page.texts)
+      All (λ (bubble : Bubble). All (λ (line : TextLine). Apart (bubble_zone_of page.paper bubble) (line_pixels line)) page.texts)
       page.bubbles
-  pub zones_from_code : All (λ (bubble : Bubble). Apart (bubble_zone_of bubble) code_zones) page.bubbles
-  pub zones_from_frame : All (λ (bubble : Bubble). Apart (bubble_zone_of bubble) frame_zone) page.bubbles
-  pub text_from_code : All (λ (line : TextLine). Apart (line_pixels line) code_zones) page.texts
-  pub text_from_frame : All (λ (line : TextLine). Apart (line_pixels line) frame_zone) page.texts
+  pub zones_from_code :
+      All (λ (bubble : Bubble). Apart (bubble_zone_of page.paper bubble) (code_zones page.paper)) page.bubbles
+  pub zones_from_reserved :
+      All (λ (bubble : Bubble). Apart (bubble_zone_of page.paper bubble) (reserved_zones page.paper)) page.bubbles
+  pub zones_from_frame :
+      All (λ (bubble : Bubble). Apart (bubble_zone_of page.paper bubble) (frame_zone page.paper)) page.bubbles
+  pub text_from_code : All (λ (line : TextLine). Apart (line_pixels line) (code_zones page.paper)) page.texts
+  pub text_from_reserved : All (λ (line : TextLine). Apart (line_pixels line) (reserved_zones page.paper)) page.texts
+  pub text_from_frame : All (λ (line : TextLine). Apart (line_pixels line) (frame_zone page.paper)) page.texts
 
 -- the zone of each bubble keeps clear of the box of every other bubble of its page
 pub record AreApart (page : PagePlan) : Type 0 where
   pub each :
       (i j : ℕ) (d : Bubble) → i < length page.bubbles → j < length page.bubbles → i ≢ j
-      → Apart (bubble_zone_of (slice_index_or page.bubbles i d)) (bubble_box_of (slice_index_or page.bubbles j d))
+      → Apart (bubble_zone_of page.paper (slice_index_or page.bubbles i d))
+        (bubble_box_of page.paper (slice_index_or page.bubbles j d))
 
 -- so on every page of a plan
 abbrev pub AreApartInPlan : CardPlan → Type 0

@@ -1,7 +1,8 @@
-ghost use Rattle.std.specs.Prelude.{◌≡◌, ◌++◌, ◌+◌, ◌≤◌, OnOk, IfOk, string_bytes};
+ghost use Rattle.std.specs.Prelude.{◌≡◌, ◌++◌, ◌+◌, ◌^◌, ◌<◌, ◌≤◌, OnOk, IfOk, string_bytes};
 ghost use Rattle.vx_layout.specs.Lines.{size_of};
 ghost use Rattle.vx_layout.specs.Blocks as blocks;
-ghost use Rattle.vx_layout.specs.Blocks.{HasSizes, Fits, seats_line, lines_of_options, block_lines, block_bubbles};
+ghost use Rattle.vx_grid.specs.Paper.{last_row};
+ghost use Rattle.vx_layout.specs.Blocks.{HasSizes, LabelsFit, seats_line, lines_of_options, block_lines, block_bubbles};
 
 use crate::bubbles::{Bubble, Bubbles};
 use crate::lines::TextLines;
@@ -9,6 +10,7 @@ use crate::typing::{lay_text, rows_of};
 use std::alloc::Global;
 use vx_base::OutOfMemory;
 use vx_election::Contest;
+use vx_grid::Paper;
 
 /// What stands beside the bubble of a write-in slot.
 const WRITE_IN: &str = "Write-in";
@@ -45,7 +47,7 @@ pub(crate) fn height_of(contest: &Contest) -> u32
 
 /// What stands beside the bubble of an option.
 fn label_at(contest: &Contest, option: u32) -> &str
-    requires { Fits contest.now }
+    requires { LabelsFit contest.now }
     ensures exact { result.now ≡ blocks.label_at contest.now option }
     ensures fits { size_of result.now ≤ 58 }
 {
@@ -59,19 +61,27 @@ fn label_at(contest: &Contest, option: u32) -> &str
 fn lay_options(
     alloc: Global,
     texts: &mut TextLines,
+    paper: Paper,
     contest: &Contest,
     col: u32,
     row: u32,
 ) -> Result<(), OutOfMemory>
     requires col { col ≤ 33 }
-    requires row { row + blocks.height_of contest.now ≤ 40 }
+    requires row { row + blocks.height_of contest.now ≤ last_row paper }
     requires sizes { HasSizes contest.now }
-    requires fits { Fits contest.now }
-    ensures { OnOk result (texts.new ≡ texts.old ++ lines_of_options contest.now col row) }
+    requires labels { LabelsFit contest.now }
+    ensures { OnOk result (texts.new ≡ texts.old ++ lines_of_options paper contest.now col row) }
 {
     let first = row + heading_rows(contest);
     for option in 0..contest.options() {
-        lay_text(alloc, texts, col, first + option, label_at(contest, option))?;
+        lay_text(
+            alloc,
+            texts,
+            paper,
+            col,
+            first + option,
+            label_at(contest, option),
+        )?;
     }
     Ok(())
 }
@@ -89,23 +99,31 @@ fn seats_of(alloc: Global, contest: &Contest) -> Result<String, OutOfMemory>
 pub(crate) fn lay_block(
     alloc: Global,
     texts: &mut TextLines,
+    paper: Paper,
     contest: &Contest,
     col: u32,
     row: u32,
 ) -> Result<(), OutOfMemory>
     requires col { col ≤ 33 }
-    requires row { row + blocks.height_of contest.now ≤ 40 }
+    requires row { row + blocks.height_of contest.now ≤ last_row paper }
     requires sizes { HasSizes contest.now }
-    requires fits { Fits contest.now }
-    ensures { OnOk result (texts.new ≡ texts.old ++ block_lines contest.now col row) }
+    requires labels { LabelsFit contest.now }
+    ensures { OnOk result (texts.new ≡ texts.old ++ block_lines paper contest.now col row) }
 {
     let described = row + rows_of(contest.title.as_str());
     let seated = described + rows_of(description_of(contest));
     let seats = seats_of(alloc, contest)?;
-    lay_text(alloc, texts, col, row, contest.title.as_str())?;
-    lay_text(alloc, texts, col, described, description_of(contest))?;
-    lay_text(alloc, texts, col, seated, seats.as_str())?;
-    lay_options(alloc, texts, contest, col, row)
+    lay_text(alloc, texts, paper, col, row, contest.title.as_str())?;
+    lay_text(
+        alloc,
+        texts,
+        paper,
+        col,
+        described,
+        description_of(contest),
+    )?;
+    lay_text(alloc, texts, paper, col, seated, seats.as_str())?;
+    lay_options(alloc, texts, paper, contest, col, row)
 }
 
 /// Adds the bubbles of a block whose first row is `row`, one for each option.
@@ -116,7 +134,7 @@ pub(crate) fn add_bubbles(
     col: u32,
     row: u32,
 ) -> Result<(), OutOfMemory>
-    requires row { row + blocks.height_of contest.now ≤ 40 }
+    requires row { row + blocks.height_of contest.now < 2 ^ 32 }
     requires sizes { HasSizes contest.now }
     ensures { OnOk result (bubbles.new ≡ bubbles.old ++ block_bubbles number contest.now col row) }
 {

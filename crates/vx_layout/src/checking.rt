@@ -9,9 +9,9 @@ ghost use Rattle.vx_layout.specs.Plan.{long_in, contest_checked, contests_checke
 
 use crate::block::height_of;
 use crate::fault::LayoutFault;
-use crate::flow::COLUMN_ROWS;
 use std::alloc::Global;
 use vx_election::{Choice, Contest};
+use vx_grid::{Paper, contest_rows};
 use vx_json::characters_of;
 
 /// How many characters an option's name may have.
@@ -33,15 +33,15 @@ fn long_name(choices: &[Choice]) -> Option<u32>
 
 /// Whether a contest can be printed: first its names are tested, then its height.
 #[tactic(auto, unfolding(crate::specs::Plan::contest_checked))]
-fn check_contest(alloc: Global, contest: &Contest) -> Result<(), LayoutFault>
+fn check_contest(alloc: Global, paper: Paper, contest: &Contest) -> Result<(), LayoutFault>
     requires { HasSizes contest.now }
-    ensures { Gives is_no_memory result (contest_checked contest.now) }
+    ensures { Gives is_no_memory result (contest_checked paper contest.now) }
 {
     if let Some(size) = long_name(contest.choices.as_slice()) {
         return Err(LayoutFault::TextTooLong(contest.id.copy(alloc)?, size));
     }
     let rows = height_of(contest);
-    if rows > COLUMN_ROWS {
+    if rows > contest_rows(paper) {
         return Err(LayoutFault::ContestTooTall(contest.id.copy(alloc)?, rows));
     }
     Ok(())
@@ -50,16 +50,17 @@ fn check_contest(alloc: Global, contest: &Contest) -> Result<(), LayoutFault>
 /// Whether all of a card's contests can be printed; the first that can't gives the answer.
 pub(crate) fn check_contests(
     alloc: Global,
+    paper: Paper,
     contests: &[Contest],
     numbers: &[u32],
 ) -> Result<(), LayoutFault>
     requires sizes { All HasSizes contests.now }
     requires there { All (λ number. number < length contests.now) numbers.now }
-    ensures exact { Gives is_no_memory result (contests_checked contests.now numbers.now) }
-    ensures stand { OnOk result (All (CanStand contests.now) numbers.now) }
+    ensures exact { Gives is_no_memory result (contests_checked paper contests.now numbers.now) }
+    ensures stand { OnOk result (All (CanStand paper contests.now) numbers.now) }
 {
     for number in numbers {
-        check_contest(alloc, &contests[*number as usize])?;
+        check_contest(alloc, paper, &contests[*number as usize])?;
     }
     Ok(())
 }

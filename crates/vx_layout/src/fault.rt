@@ -8,7 +8,8 @@ use vx_json::Text;
 /// Why a card can't be printed.
 #[derive(Debug, Drop)]
 pub enum LayoutFault {
-    /// A contest's block has this many rows, and a text column has 28. The contest by its id.
+    /// A contest's block has this many rows, and a text column of the paper has fewer: 28, or 39 on
+    /// legal paper. The contest by its id.
     ContestTooTall(Text, u32),
     /// The name of an option of a contest, by its id, has this many characters, and 58 fit.
     TextTooLong(Text, u32),

@@ -1,4 +1,4 @@
-ghost use Rattle.std.specs.Prelude.{◌≡◌, ◌≤◌, ◌<◌, All, IfOk, length};
+ghost use Rattle.std.specs.Prelude.{◌≡◌, ◌≤◌, ◌<◌, ◌+◌, ◌^◌, All, IfOk, length};
 ghost use Rattle.vx_layout.specs.Blocks.{HasSizes};
 ghost use Rattle.vx_layout.specs.Flow.{top, blocks_from, end_from, CanStand, IsPlaced};
 
@@ -6,9 +6,7 @@ use crate::block::height_of;
 use std::alloc::Global;
 use vx_base::OutOfMemory;
 use vx_election::Contest;
-
-/// How many rows a text column has.
-pub(crate) const COLUMN_ROWS: u32 = 28;
+use vx_grid::{FIRST_CONTEST_ROW, Paper, contest_rows};
 
 /// A place in the text columns, before any page is made.
 #[derive(Clone, Copy, Debug, PartialEq, Eq)]
@@ -28,16 +26,17 @@ pub struct Block {
 }
 
 impl Spot {
+    ghost use Rattle.vx_grid.specs.Grid as grid;
     ghost use Rattle.vx_layout.specs.Flow as flow;
 
     /// Where a block of some rows begins, if what is before it ends here.
-    fn start(self, rows: u32) -> Spot
+    fn start(self, paper: Paper, rows: u32) -> Spot
         requires column { self.column < 2000 }
-        requires row { self.row ≤ 28 }
-        requires rows { rows ≤ 28 }
-        ensures { result ≡ flow.start_of self rows }
+        requires row { self.row ≤ grid.contest_rows paper }
+        requires rows { rows ≤ grid.contest_rows paper }
+        ensures { result ≡ flow.start_of paper self rows }
     {
-        if self.row + rows <= COLUMN_ROWS {
+        if self.row + rows <= contest_rows(paper) {
             self
         } else {
             Spot {
@@ -49,8 +48,7 @@ impl Spot {
 
     /// So many rows below.
     fn below(self, rows: u32) -> Spot
-        requires row { self.row ≤ 28 }
-        requires rows { rows ≤ 28 }
+        requires { self.row + rows < 2 ^ 32 }
         ensures { result ≡ flow.below self rows }
     {
         Spot {
@@ -72,6 +70,14 @@ impl Spot {
     {
         4 + 9 * (self.column % 3)
     }
+
+    /// The grid row.
+    pub(crate) fn grid_row(self) -> u32
+        requires { self.row < 2 ^ 31 }
+        ensures { result ≡ flow.row_of self }
+    {
+        FIRST_CONTEST_ROW + self.row
+    }
 }
 
 /// The blocks of a card's contests, and where the last one ends.
@@ -84,21 +90,22 @@ pub(crate) struct Flow {
 /// Lets the blocks of contests flow through the columns. Each of them fits a column.
 pub(crate) fn flow_of(
     alloc: Global,
+    paper: Paper,
     contests: &[Contest],
     numbers: &[u32],
 ) -> Result<Flow, OutOfMemory>
     requires sizes { All HasSizes contests.now }
-    requires stand { All (CanStand contests.now) numbers.now }
+    requires stand { All (CanStand paper contests.now) numbers.now }
     requires few { length numbers.now ≤ 500 }
-    ensures blocks { IfOk result (λ flow. flow.blocks.items ≡ blocks_from contests.now top numbers.now) }
-    ensures end { IfOk result (λ flow. flow.end ≡ end_from contests.now top numbers.now) }
+    ensures blocks { IfOk result (λ flow. flow.blocks.items ≡ blocks_from paper contests.now top numbers.now) }
+    ensures end { IfOk result (λ flow. flow.end ≡ end_from paper contests.now top numbers.now) }
     ensures few { IfOk result (λ flow. flow.end.column ≤ 500) }
 {
     let mut blocks = Vec::with_capacity(alloc, numbers.len())?;
     let mut spot = Spot { column: 0, row: 0 };
     for number in numbers {
         let rows = height_of(&contests[*number as usize]);
-        spot = spot.start(rows);
+        spot = spot.start(paper, rows);
         blocks.push(Block {
             contest: *number,
             spot,

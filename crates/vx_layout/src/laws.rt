@@ -1,8 +1,8 @@
 //! Laws of the plans of an election. These functions do nothing; their contracts are the laws.
 
-ghost use Rattle.vx_layout.specs.Pages.{PlansAreNumbered, PlansStandOnGrid};
+ghost use Rattle.vx_layout.specs.Pages.{PlansAreNumbered, PlansHavePaper, PlansStandOnGrid};
 ghost use Rattle.vx_layout.specs.Plans.{PlansAreThose};
-ghost use Rattle.vx_layout.specs.Printed.{PagesArePlanned, PrintedHaveCodes};
+ghost use Rattle.vx_layout.specs.Printed.{PagesArePlanned, PrintedHaveCodes, PrintedHavePaper};
 
 use vx_code::tags_are_in_range;
 use vx_styles::cards_are_few;
@@ -15,8 +15,13 @@ pub fn plans_are_numbered()
     cards_are_few()
 }
 
-/// The bubbles of such a plan stand in the grid columns 4, 13 and 22 and in the grid rows 6 to 33,
-/// each for an option that a contest of the election has.
+/// The pages of such a plan are of the election's paper.
+pub fn plans_have_the_elections_paper()
+    ensures { PlansHavePaper }
+{}
+
+/// The bubbles of such a plan stand in the grid columns 4, 13 and 22 and in rows of contests of their
+/// page's paper, each for an option that a contest of the election has.
 pub fn plans_stand_on_the_grid()
     ensures { PlansStandOnGrid }
 {}
@@ -27,12 +32,14 @@ pub fn plans_of_are_plans()
     ensures { PlansAreThose }
 {}
 
-/// Each page of a planned card can be printed for each kind of ballot: the page has its number, and
-/// its code is in its ranges.
+/// Each page of a planned card can be printed for each kind of ballot: the page has its number, it is
+/// of the election's paper, and its code is in its ranges.
 pub fn planned_pages_can_be_printed()
     ensures planned { PagesArePlanned }
     ensures codes { PrintedHaveCodes }
+    ensures paper { PrintedHavePaper }
 {
     plans_are_numbered();
+    plans_have_the_elections_paper();
     tags_are_in_range();
 }

@@ -28,7 +28,8 @@ mod typing;
 pub use bubbles::{Bubble, Bubbles};
 pub use fault::{CardFault, LayoutFault};
 pub use laws::{
-    planned_pages_can_be_printed, plans_are_numbered, plans_of_are_plans, plans_stand_on_the_grid,
+    planned_pages_can_be_printed, plans_are_numbered, plans_have_the_elections_paper,
+    plans_of_are_plans, plans_stand_on_the_grid,
 };
 pub use lines::{TextLine, TextLines};
 pub use pages::{PagePlan, PagePlans};

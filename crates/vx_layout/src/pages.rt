@@ -1,6 +1,7 @@
 use crate::bubbles::Bubbles;
 use crate::lines::TextLines;
 use vx_base::ListOf;
+use vx_grid::Paper;
 
 /// What is printed on one page of a card, but for the page code and the timing marks.
 #[derive(Debug, Drop)]
@@ -9,6 +10,8 @@ pub struct PagePlan {
     pub page: u32,
     /// How many pages the card has.
     pub of: u32,
+    /// The election's paper.
+    pub paper: Paper,
     /// In the order of contests and options.
     pub bubbles: Bubbles,
     /// In the order of blocks, rows and lines, the foot line last.

@@ -14,23 +14,23 @@ use crate::typing::front_of;
 use std::alloc::Global;
 use vx_base::OutOfMemory;
 use vx_election::{Contest, Election};
+use vx_grid::{Paper, centre_y, foot_row};
 use vx_styles::Card;
-
-/// The grid row where text columns begin.
-const FIRST_ROW: u32 = 6;
 
 /// How many characters the foot line has at most.
 const FOOT: usize = 100;
 
-/// The bubbles of the blocks that stand on a page.
+/// The bubbles of the blocks that stand on a page. They don't depend on the paper; it is for the
+/// contract alone.
 fn bubbles_on(
     alloc: Global,
+    _paper: Paper,
     contests: &[Contest],
     blocks: &[Block],
     page: u32,
 ) -> Result<Bubbles, OutOfMemory>
     requires sizes { All HasSizes contests.now }
-    requires placed { All (IsPlaced contests.now) blocks.now }
+    requires placed { All (IsPlaced _paper contests.now) blocks.now }
     ensures { IfOk result (λ bubbles. bubbles ≡ flat_map (bubbles_of contests.now) (on_page page blocks.now)) }
 {
     let mut bubbles = Bubbles::new(alloc);
@@ -44,7 +44,7 @@ fn bubbles_on(
             block.contest,
             contest,
             block.spot.col(),
-            FIRST_ROW + block.spot.row,
+            block.spot.grid_row(),
         )?;
     }
     Ok(bubbles)
@@ -53,13 +53,14 @@ fn bubbles_on(
 /// The lines of the blocks that stand on a page.
 fn texts_on(
     alloc: Global,
+    paper: Paper,
     contests: &[Contest],
     blocks: &[Block],
     page: u32,
 ) -> Result<TextLines, OutOfMemory>
     requires sizes { All HasSizes contests.now }
-    requires placed { All (IsPlaced contests.now) blocks.now }
-    ensures { IfOk result (λ texts. texts ≡ flat_map (texts_of contests.now) (on_page page blocks.now)) }
+    requires placed { All (IsPlaced paper contests.now) blocks.now }
+    ensures { IfOk result (λ texts. texts ≡ flat_map (texts_of paper contests.now) (on_page page blocks.now)) }
 {
     let mut texts = TextLines::new(alloc);
     for block in blocks {
@@ -70,9 +71,10 @@ fn texts_on(
         lay_block(
             alloc,
             &mut texts,
+            paper,
             contest,
             block.spot.col(),
-            FIRST_ROW + block.spot.row,
+            block.spot.grid_row(),
         )?;
     }
     Ok(texts)
@@ -96,6 +98,13 @@ fn foot_text(
     format!(in alloc; "{title} - {date} - {name} - page {page} of {of}")
 }
 
+/// The pixel row where the foot line's characters begin.
+fn foot_y(paper: Paper) -> u32
+    ensures { result ≡ plan.foot_y paper }
+{
+    centre_y(paper, foot_row(paper)) as u32 - 18
+}
+
 /// The foot line of a page: the first characters of what it says.
 fn foot_line(
     alloc: Global,
@@ -110,7 +119,7 @@ fn foot_line(
     let text = foot_text(alloc, election, card, page, of)?;
     Ok(TextLine {
         x: 290,
-        y: 1810,
+        y: foot_y(election.paper),
         text: front_of(alloc, text.as_str(), FOOT)?,
     })
 }
@@ -126,16 +135,17 @@ fn lay_page(
 ) -> Result<PagePlan, OutOfMemory>
     requires precinct { card.precinct < length election.now.precincts }
     requires sizes { All HasSizes election.now.contests }
-    requires placed { All (IsPlaced election.now.contests) blocks.now }
+    requires placed { All (IsPlaced election.now.paper election.now.contests) blocks.now }
     ensures { IfOk result (λ plan. plan ≡ page_plan election.now card blocks.now of page) }
 {
     let contests = election.contests.as_slice();
-    let bubbles = bubbles_on(alloc, contests, blocks, page)?;
-    let mut texts = texts_on(alloc, contests, blocks, page)?;
+    let bubbles = bubbles_on(alloc, election.paper, contests, blocks, page)?;
+    let mut texts = texts_on(alloc, election.paper, contests, blocks, page)?;
     texts.push(foot_line(alloc, election, card, page, of)?)?;
     Ok(PagePlan {
         page,
         of,
+        paper: election.paper,
         bubbles,
         texts,
     })
@@ -152,7 +162,7 @@ pub(crate) fn lay_pages(
     requires few { of < 2 ^ 31 }
     requires precinct { card.precinct < length election.now.precincts }
     requires sizes { All HasSizes election.now.contests }
-    requires placed { All (IsPlaced election.now.contests) blocks.now }
+    requires placed { All (IsPlaced election.now.paper election.now.contests) blocks.now }
     ensures { IfOk result (λ pages. pages ≡ page_plans election.now card blocks.now of) }
 {
     let mut pages = PagePlans::new(alloc);

@@ -7,7 +7,7 @@ ghost use Rattle.vx_base.specs.Refusals.{Gives};
 ghost use Rattle.vx_styles.specs.Cards.{cards_of};
 ghost use Rattle.vx_layout.specs.Faults.{is_no_memory, is_card_no_memory};
 ghost use Rattle.vx_layout.specs.Options.{ShowsEachOption, GivesEachContestAPage};
-ghost use Rattle.vx_layout.specs.Pages.{IsNumbered, StandsOnGrid};
+ghost use Rattle.vx_layout.specs.Pages.{IsNumbered, HasPaper, StandsOnGrid};
 ghost use Rattle.vx_layout.specs.Plan.{pages_of, plan_with, plan_checked, plan_of};
 ghost use Rattle.vx_layout.specs.Plans.{plans_of, ArePlansOf};
 ghost use Rattle.vx_layout.specs.Zones.{IsClearPlan, AreApartInPlan};
@@ -43,12 +43,12 @@ fn plan_flow(
 ) -> Result<CardPlan, LayoutFault>
     requires precinct { card.precinct < length election.now.precincts }
     requires sizes { All HasSizes election.now.contests }
-    requires stand { All (CanStand election.now.contests) numbers.now }
+    requires stand { All (CanStand election.now.paper election.now.contests) numbers.now }
     requires few { length numbers.now ≤ 500 }
     ensures { Gives is_no_memory result
-        (plan_with election.now number card numbers.now (pages_of election.now.contests numbers.now)) }
+        (plan_with election.now number card numbers.now (pages_of election.now.paper election.now.contests numbers.now)) }
 {
-    let flow = flow_of(alloc, election.contests.as_slice(), numbers)?;
+    let flow = flow_of(alloc, election.paper, election.contests.as_slice(), numbers)?;
     let of = even_up(flow.end.page());
     if of > LAST_PAGE {
         return Err(LayoutFault::TooManyPages(of));
@@ -76,7 +76,7 @@ fn plan_contests(
     requires few { length numbers.now ≤ 500 }
     ensures { Gives is_no_memory result (plan_checked election.now number card numbers.now) }
 {
-    check_contests(alloc, election.contests.as_slice(), numbers)?;
+    check_contests(alloc, election.paper, election.contests.as_slice(), numbers)?;
     plan_flow(alloc, election, number, card, numbers)
 }
 
@@ -117,8 +117,8 @@ fn planned(alloc: Global, election: &Election, card: u32) -> Result<CardPlan, La
 /// The plan of the card with a number, or why it can't be printed.
 ///
 /// `NoCard` where the election has no such card. Then the card's contests are tested in order, each
-/// for an option's name of more than 58 characters (`TextTooLong`) and next for a block of more than
-/// 28 rows (`ContestTooTall`). Last, the even number of pages may be above 63 (`TooManyPages`).
+/// for an option's name of more than 58 characters (`TextTooLong`) and next for a block of more rows
+/// than the election's paper has rows of contests, 28 or 39 (`ContestTooTall`). Last, the even number of pages may be above 63 (`TooManyPages`).
 /// Time and memory are in proportion to the text that is laid out, besides one look at each
 /// contest's block for each of the at most 62 pages.
 pub fn plan_card(alloc: Global, election: &Election, card: u32) -> Result<CardPlan, LayoutFault>
@@ -126,14 +126,16 @@ pub fn plan_card(alloc: Global, election: &Election, card: u32) -> Result<CardPl
     ensures exact { Gives is_no_memory result (plan_of election.now card) }
     // It has the card's number, and its pages are numbered from 1 in order, below 64.
     ensures numbered { IfOk result (IsNumbered card) }
+    // Each page is of the election's paper.
+    ensures paper { IfOk result (HasPaper election.now.paper) }
     // Each bubble stands on the grid, for an option that a contest of the election has.
     ensures on_grid { IfOk result (StandsOnGrid election.now) }
     // Every option of each of the card's contests has its one bubble, in order, and no other has.
     ensures options { IfOk result (ShowsEachOption election.now card) }
     // All bubbles of a contest stand on one page.
     ensures one_page { IfOk result GivesEachContestAPage }
-    // No bubble's zone meets a dark dot of a text, a code box's zone or the frame zone, and no dark
-    // dot of a text meets a code box's zone or the frame zone. A character's cell is not spoken of.
+    // No bubble's zone meets a dark dot of a text, a code box's zone, a reserved zone or the frame
+    // zone, and no dark dot of a text meets one of these three. A character's cell isn't spoken of.
     ensures clear { IfOk result IsClearPlan }
     // No bubble's zone meets the box of another bubble of its page.
     ensures apart { IfOk result AreApartInPlan }

@@ -1,12 +1,13 @@
 ghost use Rattle.std.specs.Prelude.{◌≡◌, ◌++◌, ◌∷◌, ◌≤◌, ◌<◌, ◌+◌, ◌-◌, ◌*◌, ◌/◌, ◌%◌, ◌^◌, [], length, chars, take, drop, encode_utf8_all, IfOk, OnOk};
 ghost use Rattle.vx_layout.specs.Lines as text_lines;
 ghost use Rattle.vx_grid.specs.Grid as grid;
+ghost use Rattle.vx_grid.specs.Paper.{last_row};
 ghost use Rattle.vx_layout.specs.Lines.{size_of, lines_at};
 
 use crate::lines::{TextLine, TextLines};
 use std::alloc::Global;
 use vx_base::OutOfMemory;
-use vx_grid::{x_of, y_of};
+use vx_grid::{Paper, x_of, y_of};
 use vx_json::{Text, characters_of};
 
 /// How many characters a line of a block has.
@@ -33,22 +34,23 @@ pub(crate) fn front_of(alloc: Global, text: &str, count: usize) -> Result<Text, 
 /// Adds line `k` of a text whose first row is `row`, right of the bubbles of grid column `col`.
 fn put_line(
     texts: &mut TextLines,
+    paper: Paper,
     col: u32,
     row: u32,
     k: u32,
     text: Text,
 ) -> Result<(), OutOfMemory>
     requires col { col ≤ 33 }
-    requires row { row + k / 2 ≤ 40 }
+    requires row { row + k / 2 ≤ last_row paper }
     ensures { OnOk result (texts.new ≡ texts.old ++ record {
       x = grid.x_of col + 40;
-      y = grid.y_of (row + k / 2) - 18 + 20 * (k % 2);
+      y = grid.y_of paper (row + k / 2) - 18 + 20 * (k % 2);
       text = text;
     } ∷ []) }
 {
     texts.push(TextLine {
         x: x_of(col) as u32 + 40,
-        y: y_of(row + k / 2) as u32 - 18 + 20 * (k % 2),
+        y: y_of(paper, row + k / 2) as u32 - 18 + 20 * (k % 2),
         text,
     })
 }
@@ -68,23 +70,24 @@ fn cut_line(text: &str) -> (&str, &str)
     text.split_at(line_bytes(text))
 }
 
-/// Lays a text in rows of the grid from `row` on, right of the bubbles of grid column `col`.
+/// Lays a text in rows of the paper's grid from `row` on, right of the bubbles of grid column `col`.
 pub(crate) fn lay_text(
     alloc: Global,
     texts: &mut TextLines,
+    paper: Paper,
     col: u32,
     row: u32,
     text: &str,
 ) -> Result<(), OutOfMemory>
     requires col { col ≤ 33 }
-    requires rows { row + text_lines.rows_of text.now ≤ 40 }
-    ensures { OnOk result (texts.new ≡ texts.old ++ lines_at col row text.now) }
+    requires rows { row + text_lines.rows_of text.now ≤ last_row paper }
+    ensures { OnOk result (texts.new ≡ texts.old ++ lines_at paper col row text.now) }
 {
     let count = ((characters_of(text) + LINE - 1) / LINE) as u32;
     let mut rest = text;
     for k in 0..count {
         let (line, after) = cut_line(rest);
-        put_line(texts, col, row, k, Text::from_str(alloc, line)?)?;
+        put_line(texts, paper, col, row, k, Text::from_str(alloc, line)?)?;
         rest = after;
     }
     Ok(())

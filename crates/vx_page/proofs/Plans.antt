@@ -1,9 +1,13 @@
 -- The bubbles of a planned page stand on the grid, and what the plans of all cards say of a code.
-use Rattle.std.proofs.Common.{◌≡◌, ℕ, ◌≤◌, ◌<◌, ◌-◌, ◌==◌, List, length, get_or, Bool, true, false, cond, refl, sym, ap, ◌∙◌, subst, arith}
+use Rattle.std.proofs.Common.{◌≡◌, ℕ, ◌≤◌, ◌<◌, ◌+◌, ◌-◌, ◌==◌, List, length, get_or, Bool, true, false, cond, refl, sym, ap, ◌∙◌, subst, arith}
 use Rattle.std.specs.Prelude.{All, slice_get, nat_lt, Option, None, Some, Result, Ok, Err}
 use Rattle.std.proofs.lemmas.Bool.Decides.{nat_tests}
 use Rattle.std.proofs.lemmas.List.Elements.{All-get_or}
 use Rattle.std.proofs.lemmas.Option.{slice_get_within, slice_get_read, slice_get_past, get_or_from_slice_get}
+use Rattle.vx_grid.specs.declared.paper.Paper.{Paper}
+use Rattle.vx_grid.specs.declared.paper.Paper.TheVariants.{Letter, Legal}
+use Rattle.vx_grid.specs.Paper.{last_row}
+use Rattle.vx_grid.specs.Grid.{first_code_row, first_contest_row, contest_rows}
 use Rattle.vx_election.specs.declared.election.Election.{Election}
 use Rattle.vx_election.specs.Valid.{IsValid}
 use Rattle.vx_code.specs.declared.code.PageCode.{PageCode}
@@ -13,7 +17,7 @@ use Rattle.vx_layout.specs.declared.pages.PagePlan.{PagePlan}
 use Rattle.vx_layout.specs.declared.plan.CardPlan.{CardPlan}
 use Rattle.vx_layout.specs.declared.fault.LayoutFault.{LayoutFault}
 use Rattle.vx_layout.specs.declared.fault.LayoutFault.TheVariants.{NoCard as NoSuchCard}
-use Rattle.vx_layout.specs.Pages.{IsOnGrid, PlansStandOnGrid}
+use Rattle.vx_layout.specs.Pages.{IsOnGrid, PlansStandOnGrid, PlansHavePaper}
 use Rattle.vx_layout.specs.Plan.{plan_of_card, plan_of}
 use Rattle.vx_layout.specs.Plans.{ArePlansOf}
 use Rattle.vx_scan_model.specs.declared.fault.PageFault.{PageFault}
@@ -22,7 +26,7 @@ use Rattle.vx_scan_model.specs.Named.{page_numbered, plan_unless, plan_on_card, 
 
 -- all bubbles of a page stand on the grid
 abbrev AreOnGrid : PagePlan → Type 0
-AreOnGrid page = All IsOnGrid page.bubbles
+AreOnGrid page = All (IsOnGrid page.paper) page.bubbles
 
 -- what a code names, taken apart
 record IsNamed (election : Election) (code : PageCode) (plan : PagePlan) : Type 0 where
@@ -55,10 +59,24 @@ numbered-listed P false pages number plan h all =
     subst P (get_or_from_slice_get pages number plan plan h) (All-get_or P pages number plan (slice_get_within pages number plan h) all)
 
 -- the bubbles of the page that a code names
-pub named-on_grid : PlansStandOnGrid → (election : Election) (code : PageCode) (plan : PagePlan) → IsValid election → named_plan election code ≡ Ok plan → All IsOnGrid plan.bubbles
-named-on_grid stand election code plan valid h =
+pub named-on_grid : PlansStandOnGrid → PlansHavePaper → (election : Election) (code : PageCode) (plan : PagePlan) → IsValid election → named_plan election code ≡ Ok plan → All (IsOnGrid election.paper) plan.bubbles
+named-on_grid stand have election code plan valid h =
     let is = parts-of_named election code plan h in
-    numbered-listed AreOnGrid (code.page == 0) is.card.pages (code.page - 1) plan is.page_is (stand election code.card is.card valid is.card_is).on_grid
+    let HasPaper : PagePlan → Type 0 = λ page. page.paper ≡ election.paper in
+    let grid : AreOnGrid plan = numbered-listed AreOnGrid (code.page == 0) is.card.pages (code.page - 1) plan is.page_is (stand election code.card is.card valid is.card_is).on_grid in
+    let paper : plan.paper ≡ election.paper = numbered-listed HasPaper (code.page == 0) is.card.pages (code.page - 1) plan is.page_is (have election code.card is.card valid is.card_is).each in
+    let OnGrid : Paper → Type 0 = λ p. All (IsOnGrid p) plan.bubbles in
+    subst OnGrid paper grid
+
+-- a row of contests is a grid row
+pub contest_row-within : (paper : Paper) (row : ℕ) → row < first_contest_row + contest_rows paper → row ≤ last_row paper
+contest_row-within Letter row h = omega arith
+contest_row-within Legal row h = omega arith
+
+-- a row of the page code is one
+pub code_row-within : (paper read : Paper) (row : ℕ) → read ≡ paper → row ≤ first_code_row read + 2 → row ≤ last_row paper
+code_row-within Letter read row same h = let at : row ≤ 37 = subst (λ (p : Paper). row ≤ first_code_row p + 2) same h in omega arith
+code_row-within Legal read row same h = let at : row ≤ 48 = subst (λ (p : Paper). row ≤ first_code_row p + 2) same h in omega arith
 
 not-below : (m n : ℕ) → n ≤ m → nat_lt m n ≡ false
 not-below m n h = grind (arith, nat_tests)

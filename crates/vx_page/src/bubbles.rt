@@ -13,8 +13,8 @@ use vx_score::{score, state};
 
 /// The score of a bubble, at its grid place.
 fn bubble_score(counter: &Counter, border: &Border, bubble: Bubble) -> u32
-    requires border { AreWithin 9000 border.now }
-    requires bubble { IsOnGrid bubble }
+    requires border { AreWithin 9000 border.now.places }
+    requires bubble { IsOnGrid border.now.paper bubble }
     ensures { result ≡ reading.bubble_score counter.now border.now bubble }
 {
     score(counter, place(border, bubble.col, bubble.row))
@@ -27,8 +27,8 @@ pub(crate) fn scores_of(
     border: &Border,
     bubbles: &[Bubble],
 ) -> Result<Scores, AllocError>
-    requires border { AreWithin 9000 border.now }
-    requires bubbles { All IsOnGrid bubbles.now }
+    requires border { AreWithin 9000 border.now.places }
+    requires bubbles { All (IsOnGrid border.now.paper) bubbles.now }
     ensures { IfOk result (λ scores. scores ≡ reading.scores_of counter.now border.now bubbles.now) }
 {
     let mut scores = Vec::with_capacity(alloc, bubbles.len())?;

@@ -3,9 +3,9 @@ ghost use Rattle.vx_base.specs.Refusals.{Gives};
 ghost use Rattle.vx_election.specs.Valid.{IsValid};
 ghost use Rattle.vx_grid.specs.Places.{AreWithin};
 ghost use Rattle.vx_layout.specs.Plans.{ArePlansOf};
-ghost use Rattle.vx_scan_model.specs.Faults.{is_no_memory};
+ghost use Rattle.vx_scan_model.specs.Faults.{is_no_memory as is_want_of_memory};
 ghost use Rattle.vx_scan_model.specs.Reading as reading;
-ghost use Rattle.vx_scan_model.specs.Reading.{code_read, reading_of_code, reading_of};
+ghost use Rattle.vx_scan_model.specs.Reading.{code_read, either_way, reading_of_code, upright_reading_of};
 ghost use Rattle.vx_page.specs.Named.{IsOfAPlan, GivesOnPlan, GivesWithPlan};
 
 use crate::bubbles::{scores_of, states_of};
@@ -16,16 +16,34 @@ use vx_bits::BitView;
 use vx_border::trace;
 use vx_count::Counter;
 use vx_election::Election;
-use vx_grid::Border;
-use vx_layout::{CardPlans, PagePlan, plans_stand_on_the_grid};
+use vx_grid::{Border, Paper};
+use vx_layout::{CardPlans, PagePlan, plans_have_the_elections_paper, plans_stand_on_the_grid};
 use vx_scan_model::{PageFault, PageReading, a_border_is_the_border};
 
-/// Whether a scan has a number of columns and of rows that is read.
-fn is_allowed(page: &BitView<'_>) -> bool
-    ensures { result ≡ reading.is_allowed page.now }
+/// The least and the greatest number of rows of a scan of this paper.
+fn allowed_heights(paper: Paper) -> (u32, u32)
+    ensures { result ≡ reading.allowed_heights paper }
+{
+    match paper {
+        Paper::Letter => (2100, 2400),
+        Paper::Legal => (2700, 3000),
+    }
+}
+
+/// Whether a scan has a number of columns and of rows that is read on this paper.
+fn is_allowed(paper: Paper, page: &BitView<'_>) -> bool
+    ensures { result ≡ reading.is_allowed paper page.now }
 {
     let (width, height) = (page.width(), page.height());
-    (1600..=2000).contains(&width) && (2100..=2400).contains(&height)
+    let (least, most) = allowed_heights(paper);
+    (1600..=2000).contains(&width) && (least..=most).contains(&height)
+}
+
+/// Whether a fault is want of memory.
+fn is_no_memory(fault: PageFault) -> bool
+    ensures { result ≡ is_want_of_memory fault }
+{
+    matches!(fault, PageFault::OutOfMemory)
 }
 
 /// The reading of a page whose timing marks were found, with the plan of the page.
@@ -38,11 +56,13 @@ fn read_marked<'a>(
 ) -> Result<(PageReading, &'a PagePlan), PageFault>
     requires election { IsValid election.now }
     requires plans { ArePlansOf election.now plans.now }
-    requires border { AreWithin 9000 border }
+    requires paper { border.paper ≡ election.now.paper }
+    requires border { AreWithin 9000 border.places }
     ensures { GivesOnPlan election.now
         (reading_of_code election.now counter.now border (code_read counter.now border)) result }
 {
     plans_stand_on_the_grid();
+    plans_have_the_elections_paper();
     let code = match read_code(counter, &border) {
         Ok(code) => code,
         Err(fault) => return Err(PageFault::Code(fault)),
@@ -55,11 +75,58 @@ fn read_marked<'a>(
         border,
         scores,
         states,
+        turned: false,
     };
     Ok((reading, plan))
 }
 
-/// The reading of a scan whose frame is allowed, with the plan of its page.
+/// The reading of a counter's page as it lies, with the plan of the page. Its frame is allowed.
+fn read_upright<'a>(
+    alloc: Global,
+    election: &Election,
+    plans: &'a CardPlans,
+    counter: &Counter,
+) -> Result<(PageReading, &'a PagePlan), PageFault>
+    requires election { IsValid election.now }
+    requires plans { ArePlansOf election.now plans.now }
+    requires allowed { reading.is_allowed election.now.paper counter.now ≡ true }
+    ensures { GivesOnPlan election.now (upright_reading_of election.now counter.now) result }
+{
+    a_border_is_the_border();
+    match trace(counter, election.paper) {
+        Ok(border) => read_marked(alloc, election, plans, counter, border),
+        Err(fault) => Err(PageFault::Border(fault)),
+    }
+}
+
+/// The reading of the turned page that a counter has, told as one, with the plan of the page; or the
+/// fault of the page as it lay, which is given.
+fn read_turned<'a>(
+    alloc: Global,
+    election: &Election,
+    plans: &'a CardPlans,
+    counter: &Counter,
+    first: PageFault,
+) -> Result<(PageReading, &'a PagePlan), PageFault>
+    requires election { IsValid election.now }
+    requires plans { ArePlansOf election.now plans.now }
+    requires allowed { reading.is_allowed election.now.paper counter.now ≡ true }
+    ensures { GivesOnPlan election.now
+        (either_way (Err first) (upright_reading_of election.now counter.now)) result }
+{
+    match read_upright(alloc, election, plans, counter) {
+        Ok((reading, plan)) => Ok((PageReading { turned: true, ..reading }, plan)),
+        Err(other) => {
+            if is_no_memory(other) {
+                return Err(other);
+            }
+            Err(first)
+        }
+    }
+}
+
+/// The reading of a scan whose frame is allowed, with the plan of its page. Where the scan as it lies
+/// isn't read, its counter is turned and reads on, without a second copy.
 fn read_framed<'a>(
     alloc: Global,
     election: &Election,
@@ -68,24 +135,32 @@ fn read_framed<'a>(
 ) -> Result<(PageReading, &'a PagePlan), PageFault>
     requires election { IsValid election.now }
     requires plans { ArePlansOf election.now plans.now }
-    requires allowed { reading.is_allowed page.now ≡ true }
+    requires allowed { reading.is_allowed election.now.paper page.now ≡ true }
     ensures { GivesWithPlan election.now page.now result }
 {
-    a_border_is_the_border();
-    let counter = Counter::new(alloc, page)?;
-    match trace(&counter) {
-        Ok(border) => read_marked(alloc, election, plans, &counter, border),
-        Err(fault) => Err(PageFault::Border(fault)),
+    let mut counter = Counter::new(alloc, page)?;
+    match read_upright(alloc, election, plans, &counter) {
+        Ok(given) => Ok(given),
+        Err(fault) => {
+            if is_no_memory(fault) {
+                return Err(fault);
+            }
+            counter.turn();
+            read_turned(alloc, election, plans, &counter, fault)
+        }
     }
 }
 
 /// Reads the scan of a page of the election, whose cards are planned so, and answers the plan of the
-/// page besides, which lives as long as the plans.
+/// page besides, which lives as long as the plans. The scan may be the page turned by 180 degrees: it
+/// is read as it lies, and where it has a fault so, it is read turned; where it has one so too, the
+/// first is told.
 ///
 /// The first fault is the answer, in this order: `FrameSize` where there aren't 1600 to 2000 columns
-/// and 2100 to 2400 rows, `Border` where the timing marks can't be followed, `Code` where the boxes
-/// show no code of version 1, `OtherElection` where the code has another election's tag, `NoCard`
-/// and `NoPage` where it names a card or a page that isn't planned.
+/// and 2100 to 2400 rows, or 2700 to 3000 on legal paper, `Border` where the timing marks can't be
+/// followed, `Code` where the boxes show no code of the paper's version, `OtherElection` where the
+/// code has another election's tag, `NoCard` and `NoPage` where it names a card or a page that isn't
+/// planned.
 pub fn read_planned<'a>(
     alloc: Global,
     election: &Election,
@@ -96,7 +171,7 @@ pub fn read_planned<'a>(
     requires plans { ArePlansOf election.now plans.now }
     ensures { GivesWithPlan election.now page.now result }
 {
-    if is_allowed(page) {
+    if is_allowed(election.paper, page) {
         read_framed(alloc, election, plans, page)
     } else {
         Err(PageFault::FrameSize(page.width(), page.height()))
@@ -113,14 +188,15 @@ pub fn read_page(
 ) -> Result<PageReading, PageFault>
     requires election { IsValid election.now }
     requires plans { ArePlansOf election.now plans.now }
-    ensures exact { Gives is_no_memory result (reading_of election.now page.now) }
+    ensures exact { Gives is_want_of_memory result (reading.reading_of election.now page.now) }
     // The frame is tested before any memory is taken.
     ensures frame { (width height : ℕ) → (result ≡ Err (PageFault.FrameSize width height))
-        ↔ ((reading.is_allowed page.now ≡ false) × (width ≡ page.now.width) × (height ≡ page.now.height)) }
+        ↔ ((reading.is_allowed election.now.paper page.now ≡ false)
+        × (width ≡ page.now.width) × (height ≡ page.now.height)) }
     // The code names a planned page, and each of its bubbles has a score and a state.
     ensures planned { IfOk result (IsOfAPlan election.now) }
 {
-    if !is_allowed(page) {
+    if !is_allowed(election.paper, page) {
         return Err(PageFault::FrameSize(page.width(), page.height()));
     }
     match read_framed(alloc, election, plans, page) {

@@ -1,15 +1,16 @@
 -- The best place by numbers is the best place.
 use Rattle.std.proofs.Common.{◌≡◌, ◌∙◌, ◌+◌, ◌*◌, ◌/◌, ◌%◌, ◌<◌, ◌≤◌, ◌≤ℤ◌, inl, inr, ap, ℕ, ℤ, true, pos, ◌+ℤ◌, ◌-ℤ◌, Option, Some, None, arith, refl, sym, subst, eq-eqb}
-use Rattle.std.specs.Prelude.{◌==◌, ◌&&◌, nat_le, option_map}
+use Rattle.std.specs.Prelude.{◌==◌, ◌&&◌, option_map}
 use Rattle.std.proofs.lemmas.Int.{ints}
-use Rattle.std.proofs.lemmas.Bool.{and_parts, and_from, leb-true, le-leb, eqb-true}
+use Rattle.std.proofs.lemmas.Bool.{and_parts, and_from, eqb-true}
 use Rattle.vx_plane.specs.Plane.{Page}
 use Rattle.vx_grid.specs.declared.places.Point.{Point}
-use Rattle.vx_mark.specs.Mark.{deficit_of, IsAccepted}
-use Rattle.vx_mark.specs.Best.{IsNear, IsBetter, IsBest}
-use Rattle.vx_scan_model.specs.Border.{is_accepted, near_numbers, near_place, may_be_best, best_of}
+use Rattle.vx_mark.specs.Region.{is_in}
+use Rattle.vx_mark.specs.Mark.{deficit_of, IsAccepted, is_accepted}
+use Rattle.vx_mark.specs.Best.{near, IsNear, IsBetter, IsBest}
+use Rattle.vx_scan_model.specs.Border.{near_numbers, near_place, may_be_best, best_of}
 use Rattle.vx_scan_model.proofs.Firsts.{IsFirstOf, find-first}
-use Rattle.vx_scan_model.proofs.Accepting.{same_point, natural_of, accepted_from, accepted_true}
+use Rattle.vx_scan_model.proofs.Accepting.{same_point, natural_of, in_from, in_true, accepted_from, accepted_true}
 
 -- the number of a place in the order of places near a predicted one
 pub record HasRank (page : Page) (predicted p : Point) (n : ℕ) : Type 0 where
@@ -42,8 +43,6 @@ rank-of_parts page predicted p d r c deficit row column low narrow = record {
 -- a number of a place that may be the best, below 21 * 1024
 pub record IsRank (page : Page) (predicted p : Point) (n : ℕ) : Type 0 where
   pub has : HasRank page predicted p n
-  pub column : n % 32 ≤ 20
-  pub row : n / 32 % 32 ≤ 12
   pub below : n < 21504
 
 -- what lies within a reach above a whole number
@@ -54,17 +53,15 @@ above low z reach from to =
 
 -- each accepted place near the predicted one has a number
 rank-of_place : (page : Page) (predicted p : Point) → IsAccepted page p → IsNear predicted p → (n : ℕ) × IsRank page predicted p n
-rank-of_place page predicted p good near =
-    let row = above (predicted.v -ℤ pos 6) p.v 12 near.top (omega (arith, ints, near.bottom)) in
-    let column = above (predicted.u -ℤ pos 10) p.u 20 near.left (omega (arith, ints, near.right)) in
+rank-of_place page predicted p good close =
+    let row = above (predicted.v -ℤ pos 6) p.v 12 close.top (omega (arith, ints, close.bottom)) in
+    let column = above (predicted.u -ℤ pos 10) p.u 20 close.left (omega (arith, ints, close.right)) in
     let few : deficit_of page p ≤ 20 = good.deficit in
     let narrow : column.0 < 32 = omega (arith, column.2) in
     let low : row.0 < 32 = omega (arith, row.2) in (
       deficit_of page p * 1024 + row.0 * 32 + column.0,
       record {
         has = rank-of_parts page predicted p (deficit_of page p) row.0 column.0 refl row.1 column.1 low narrow;
-        column = rw (rank-column (deficit_of page p) row.0 column.0 low narrow) column.2;
-        row = rw (rank-row (deficit_of page p) row.0 column.0 low narrow) row.2;
         below = omega (arith, few, row.2, column.2);
       },
     )
@@ -89,15 +86,6 @@ better-rank page predicted p q m n a b better =
       ]
     ]
 
--- a place with a row and a column of the region is near
-near-from : (predicted : Point) (n : ℕ) → n % 32 ≤ 20 → n / 32 % 32 ≤ 12 → IsNear predicted (near_place predicted n)
-near-from predicted n column row = record {
-  left = omega (arith, ints);
-  right = omega (arith, ints, column);
-  top = omega (arith, ints);
-  bottom = omega (arith, ints, row);
-}
-
 -- what a number says that passes
 pub record IsChoice (page : Page) (predicted : Point) (n : ℕ) : Type 0 where
   pub accepted : IsAccepted page (near_place predicted n)
@@ -106,12 +94,11 @@ pub record IsChoice (page : Page) (predicted : Point) (n : ℕ) : Type 0 where
 
 passes-choice : (page : Page) (predicted : Point) (n : ℕ) → may_be_best page predicted n ≡ true → IsChoice page predicted n
 passes-choice page predicted n passes =
-    let parts = and_parts (nat_le (n % 32) 20 && nat_le (n / 32 % 32) 12) (is_accepted page (near_place predicted n) && deficit_of page (near_place predicted n) == n / 1024) passes in
-    let region = and_parts (nat_le (n % 32) 20) (nat_le (n / 32 % 32) 12) parts.0 in
+    let parts = and_parts (is_in (near predicted) (near_place predicted n)) (is_accepted page (near_place predicted n) && deficit_of page (near_place predicted n) == n / 1024) passes in
     let place = and_parts (is_accepted page (near_place predicted n)) (deficit_of page (near_place predicted n) == n / 1024) parts.1 in
     record {
       accepted = accepted_from page (near_place predicted n) place.0;
-      near = near-from predicted n (leb-true (n % 32) 20 region.0) (leb-true (n / 32 % 32) 12 region.1);
+      near = in_from (near predicted) (near_place predicted n) parts.0;
       rank = record {
         deficit = eqb-true (deficit_of page (near_place predicted n)) (n / 1024) place.1;
         row = refl;
@@ -120,13 +107,14 @@ passes-choice page predicted n passes =
     }
 
 -- and the number of each such place passes
-place-passes : (page : Page) (predicted p : Point) (n : ℕ) → IsRank page predicted p n → IsAccepted page p → may_be_best page predicted n ≡ true
-place-passes page predicted p n rank good =
+place-passes : (page : Page) (predicted p : Point) (n : ℕ) → IsRank page predicted p n → IsAccepted page p → IsNear predicted p → may_be_best page predicted n ≡ true
+place-passes page predicted p n rank good close =
     let same = rank-place page predicted p n rank.has in
     let fine : IsAccepted page (near_place predicted n) = subst (IsAccepted page) same good in
+    let there : IsNear predicted (near_place predicted n) = subst (IsNear predicted) same close in
     let deficit : deficit_of page (near_place predicted n) ≡ n / 1024 = ap (deficit_of page) (sym same) ∙ rank.has.deficit in
-    and_from (nat_le (n % 32) 20 && nat_le (n / 32 % 32) 12) (is_accepted page (near_place predicted n) && deficit_of page (near_place predicted n) == n / 1024)
-    (and_from (nat_le (n % 32) 20) (nat_le (n / 32 % 32) 12) (le-leb (n % 32) 20 rank.column) (le-leb (n / 32 % 32) 12 rank.row))
+    and_from (is_in (near predicted) (near_place predicted n)) (is_accepted page (near_place predicted n) && deficit_of page (near_place predicted n) == n / 1024)
+    (in_true (near predicted) (near_place predicted n) there)
     (and_from (is_accepted page (near_place predicted n)) (deficit_of page (near_place predicted n) == n / 1024)
     (accepted_true page (near_place predicted n) fine)
     (eq-eqb (deficit_of page (near_place predicted n)) (n / 1024) deficit))
@@ -140,16 +128,16 @@ IsBestOf page predicted (Some p) = IsBest page predicted p
 first-best : (page : Page) (predicted : Point) (end : ℕ) (first : Option ℕ) → 21504 ≤ end → IsFirstOf (may_be_best page predicted) 0 end first → IsBestOf page predicted (option_map (near_place predicted) first)
 first-best page predicted end None most h = λ p best.
     let ranked = rank-of_place page predicted p best.accepted best.near in
-    h ranked.0 (omega arith) (omega (arith, ranked.1.below)) (place-passes page predicted p ranked.0 ranked.1 best.accepted)
+    h ranked.0 (omega arith) (omega (arith, ranked.1.below)) (place-passes page predicted p ranked.0 ranked.1 best.accepted best.near)
 first-best page predicted end (Some n) most h =
     let choice = passes-choice page predicted n h.passes in
     record {
       accepted = choice.accepted;
       near = choice.near;
-      best = λ q good near better.
-          let ranked = rank-of_place page predicted q good near in
+      best = λ q good close better.
+          let ranked = rank-of_place page predicted q good close in
           let earlier : ranked.0 < n = better-rank page predicted q (near_place predicted n) ranked.0 n ranked.1.has choice.rank better in
-          h.first ranked.0 (omega arith) earlier (place-passes page predicted q ranked.0 ranked.1 good);
+          h.first ranked.0 (omega arith) earlier (place-passes page predicted q ranked.0 ranked.1 good close);
     }
 
 numbers-many : 21504 ≤ near_numbers

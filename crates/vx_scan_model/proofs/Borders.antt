@@ -1,59 +1,52 @@
 -- The border that the function gives is the one of the scan.
-use Rattle.std.proofs.Common.{◌≡◌, Bool, true, false, cond, List, Result, Ok, Err, pos, ◌+ℤ◌, ◌-ℤ◌, arith, refl}
-use Rattle.std.proofs.lemmas.Bool.{and_parts, and_from, both_ways}
+use Rattle.std.proofs.Common.{◌≡◌, Bool, true, false, cond, List, Result, Ok, Err, arith, refl}
+use Rattle.std.proofs.lemmas.Bool.{both_ways}
 use Rattle.vx_plane.specs.Plane.{Page}
+use Rattle.vx_grid.specs.declared.paper.Paper.{Paper}
 use Rattle.vx_grid.specs.declared.places.Point.{Point}
-use Rattle.vx_grid.specs.Places.{point_at}
-use Rattle.vx_mark.specs.Best.{IsNear}
+use Rattle.vx_grid.specs.Paper.{last_row}
+use Rattle.vx_grid.specs.Marks.{marks}
+use Rattle.vx_grid.specs.Borders.{MarkPlaces}
+use Rattle.vx_mark.specs.Best.{near}
 use Rattle.vx_border.specs.declared.following.BorderFault.{BorderFault}
 use Rattle.vx_border.specs.declared.following.BorderFault.TheVariants.{NoCorner, NoMark, OpenBorder}
-use Rattle.vx_border.specs.Border.{end_of, IsBorderOf}
+use Rattle.vx_border.specs.Border.{end_of, right_end_of, IsBorderOf}
 use Rattle.vx_border.specs.Laws.{CornerIsFollowed, FollowedGrows, BorderIsOne}
-use Rattle.vx_scan_model.specs.Border.{is_between, closes, if_closed, marks_of, border_of}
-use Rattle.vx_scan_model.proofs.Accepting.{IsBetween, between_from, between_true}
+use Rattle.vx_scan_model.specs.Border.{closes, if_closed, marks_of, border_of}
+use Rattle.vx_scan_model.proofs.Accepting.{in_from, in_true}
 use Rattle.vx_scan_model.proofs.Marks.{AreFollowed, IsLackOf, AreMarksOf, AreMarksOf-marks_of}
 
--- what the test of the closing says
-closes-near : (places : List Point) → closes places ≡ true → IsNear (end_of places) (point_at places 73)
-closes-near places h =
-    let across = is_between ((end_of places).u -ℤ pos 10) ((end_of places).u +ℤ pos 10) (point_at places 73).u in
-    let down = is_between ((end_of places).v -ℤ pos 6) ((end_of places).v +ℤ pos 6) (point_at places 73).v in
-    let parts = and_parts across down h in
-    let columns : IsBetween ((end_of places).u -ℤ pos 10) ((end_of places).u +ℤ pos 10) (point_at places 73).u = between_from _ _ _ parts.0 in
-    let rows : IsBetween ((end_of places).v -ℤ pos 6) ((end_of places).v +ℤ pos 6) (point_at places 73).v = between_from _ _ _ parts.1 in
-    record { left = columns.from; right = columns.to; top = rows.from; bottom = rows.to }
+module _ (paper : Paper) (page : Page) where
+  -- all marks, by the test of the closing
+  closed_by : (places : List Point) (test : Bool) → closes (last_row paper) places ≡ test → AreFollowed page (last_row paper) (marks paper) places → IsBorderOf paper page (cond test (Ok (record { paper = paper; places = places })) (Err (OpenBorder (end_of (last_row paper) places) (right_end_of (last_row paper) places))))
+  closed_by places true is all = record {
+    of_paper = refl;
+    all = all.all;
+    followed = all.followed (omega arith);
+    closes = in_from (near (end_of (last_row paper) places)) (right_end_of (last_row paper) places) is;
+  }
+  closed_by places false is all = record {
+    places = places;
+    followed = all.followed (omega arith);
+    predicted_is = refl;
+    found_is = refl;
+    apart = λ close. both_ways (closes (last_row paper) places) is (in_true (near (end_of (last_row paper) places)) (right_end_of (last_row paper) places) close);
+  }
 
-near-closes : (places : List Point) → IsNear (end_of places) (point_at places 73) → closes places ≡ true
-near-closes places h =
-    and_from _ _
-    (between_true ((end_of places).u -ℤ pos 10) ((end_of places).u +ℤ pos 10) (point_at places 73).u (record { from = h.left; to = h.right }))
-    (between_true ((end_of places).v -ℤ pos 6) ((end_of places).v +ℤ pos 6) (point_at places 73).v (record { from = h.top; to = h.bottom }))
+  lacking : (fault : BorderFault) → IsLackOf paper page fault → IsBorderOf paper page (Err fault)
+  lacking NoCorner h = h
+  lacking (NoMark side index predicted) h = h
+  lacking (OpenBorder predicted found) h = absurd h
 
--- all marks, by the test of the closing
-closed_by : (page : Page) (places : List Point) (test : Bool) → closes places ≡ test → AreFollowed page 146 places → IsBorderOf page (cond test (Ok places) (Err (OpenBorder (end_of places) (point_at places 73))))
-closed_by page places true is marks = record { all = marks.all; followed = marks.followed (omega arith); closes = closes-near places is }
-closed_by page places false is marks = record {
-  places = places;
-  followed = marks.followed (omega arith);
-  predicted_is = refl;
-  found_is = refl;
-  apart = λ near. both_ways (closes places) is (near-closes places near);
-}
-
-lack_of : (page : Page) (fault : BorderFault) → IsLackOf page fault → IsBorderOf page (Err fault)
-lack_of page NoCorner h = h
-lack_of page (NoMark side index predicted) h = h
-lack_of page (OpenBorder predicted found) h = absurd h
-
-closed : (page : Page) (marks : Result (List Point) BorderFault) → AreMarksOf page 146 marks → IsBorderOf page (if_closed marks)
-closed page (Err fault) h = lack_of page fault h
-closed page (Ok places) h = closed_by page places (closes places) refl h
+  closed : (found : Result (List Point) BorderFault) → AreMarksOf paper page (marks paper) found → IsBorderOf paper page (if_closed paper found)
+  closed (Err fault) h = lacking fault h
+  closed (Ok places) h = closed_by places (closes (last_row paper) places) refl h
 
 -- what the function gives is the border of the scan, or its first fault
-pub IsBorderOf-border_of : CornerIsFollowed → FollowedGrows → (page : Page) → IsBorderOf page (border_of page)
+pub IsBorderOf-border_of : CornerIsFollowed → FollowedGrows → (paper : Paper) (page : Page) → IsBorderOf paper page (border_of paper page)
 unfolding border_of
-IsBorderOf-border_of corner grows page = closed page (marks_of page 146) (AreMarksOf-marks_of corner grows page 146 (omega arith))
+IsBorderOf-border_of corner grows paper page = closed paper page (marks_of page (last_row paper) (marks paper)) (AreMarksOf-marks_of corner grows paper page (marks paper) (omega arith))
 
 -- the border of a scan, or its first fault, is what the function gives
-pub border_of-is : CornerIsFollowed → FollowedGrows → BorderIsOne → (page : Page) (answer : Result (List Point) BorderFault) → IsBorderOf page answer → answer ≡ border_of page
-border_of-is corner grows one page answer h = one page answer (border_of page) h (IsBorderOf-border_of corner grows page)
+pub border_of-is : CornerIsFollowed → FollowedGrows → BorderIsOne → (paper : Paper) (page : Page) (answer : Result MarkPlaces BorderFault) → IsBorderOf paper page answer → answer ≡ border_of paper page
+border_of-is corner grows one paper page answer h = one paper page answer (border_of paper page) h (IsBorderOf-border_of corner grows paper page)

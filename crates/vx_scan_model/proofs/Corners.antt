@@ -7,10 +7,10 @@ use Rattle.std.proofs.lemmas.Bool.{and_parts, and_from}
 use Rattle.vx_plane.specs.Plane.{Page}
 use Rattle.vx_grid.specs.declared.places.Point.{Point}
 use Rattle.vx_mark.specs.Mark.{IsAccepted}
-use Rattle.vx_mark.specs.Corner.{IsInCornerRegion, ComesBefore, IsCorner}
-use Rattle.vx_scan_model.specs.Border.{is_between, corner_numbers, corner_place, may_be_corner, corner_of}
+use Rattle.vx_mark.specs.Corner.{corner_region, IsInCornerRegion, ComesBefore, IsCorner}
+use Rattle.vx_scan_model.specs.Border.{corner_numbers, corner_place, may_be_corner, corner_of}
 use Rattle.vx_scan_model.proofs.Firsts.{IsFirstOf, find-first}
-use Rattle.vx_scan_model.proofs.Accepting.{same_point, natural_of, IsBetween, between_from, between_true, accepted_from, accepted_true}
+use Rattle.vx_scan_model.proofs.Accepting.{same_point, natural_of, in_from, in_true, accepted_from, accepted_true}
 
 -- the number of a place in the order of corners
 pub record HasNumber (p : Point) (n : ℕ) : Type 0 where
@@ -54,25 +54,11 @@ before-number p q m n a b before =
           omega arith
     ]
 
--- what the test of a place says
-region-from : (p : Point) → is_between (pos 26) (pos 116) p.u ≡ true → is_between (pos 14) (pos 104) p.v ≡ true → IsInCornerRegion p
-region-from p across down =
-    let a : IsBetween (pos 26) (pos 116) p.u = between_from (pos 26) (pos 116) p.u across in
-    let b : IsBetween (pos 14) (pos 104) p.v = between_from (pos 14) (pos 104) p.v down in
-    record { left = a.from; right = a.to; top = b.from; bottom = b.to }
-
-region-true : (p : Point) → IsInCornerRegion p → (is_between (pos 26) (pos 116) p.u ≡ true) × (is_between (pos 14) (pos 104) p.v ≡ true)
-region-true p region = (
-  between_true (pos 26) (pos 116) p.u (record { from = region.left; to = region.right }),
-  between_true (pos 14) (pos 104) p.v (record { from = region.top; to = region.bottom }),
-)
-
 -- a number that passes is that of an accepted place of the region
 passes-place : (page : Page) (n : ℕ) → may_be_corner page n ≡ true → IsAccepted page (corner_place n) × IsInCornerRegion (corner_place n)
 passes-place page n passes =
     let parts = and_parts _ _ passes in
-    let region = and_parts _ _ parts.0 in
-    (accepted_from page (corner_place n) parts.1, region-from (corner_place n) region.0 region.1)
+    (accepted_from page (corner_place n) parts.1, in_from corner_region (corner_place n) parts.0)
 
 -- and the number of each such place passes
 place-passes : (page : Page) (p : Point) (n : ℕ) → HasNumber p n → IsAccepted page p → IsInCornerRegion p → may_be_corner page n ≡ true
@@ -80,8 +66,7 @@ place-passes page p n has good region =
     let same = number-place p n has in
     let there : IsInCornerRegion (corner_place n) = subst IsInCornerRegion same region in
     let fine : IsAccepted page (corner_place n) = subst (IsAccepted page) same good in
-    let tests = region-true (corner_place n) there in
-    and_from _ _ (and_from _ _ tests.0 tests.1) (accepted_true page (corner_place n) fine)
+    and_from _ _ (in_true corner_region (corner_place n) there) (accepted_true page (corner_place n) fine)
 
 -- the corner, or that there is none
 abbrev pub IsCornerOf : Page → Option Point → Type 0

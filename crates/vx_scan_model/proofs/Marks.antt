@@ -4,7 +4,10 @@ use Rattle.std.specs.Prelude.{◌==◌}
 use Rattle.std.proofs.lemmas.Bool.{ne_eqb}
 use Rattle.std.proofs.lemmas.List.{length-append, get_or_append_left, get_or-append_right}
 use Rattle.vx_plane.specs.Plane.{Page}
+use Rattle.vx_grid.specs.declared.paper.Paper.{Paper}
 use Rattle.vx_grid.specs.declared.places.Point.{Point}
+use Rattle.vx_grid.specs.Paper.{last_row}
+use Rattle.vx_grid.specs.Marks.{marks}
 use Rattle.vx_grid.specs.Places.{point_at}
 use Rattle.vx_mark.specs.Corner.{IsCorner}
 use Rattle.vx_mark.specs.Best.{IsBest}
@@ -27,41 +30,41 @@ point_at_own places p n all =
     rw (get_or-append_right places (p ∷ []) n n (record { u = pos 0; v = pos 0 }) all (omega arith), none) refl
 
 -- the places of the first n marks
-pub record AreFollowed (page : Page) (n : ℕ) (places : List Point) : Type 0 where
+pub record AreFollowed (page : Page) (last n : ℕ) (places : List Point) : Type 0 where
   pub all : length places ≡ n
-  pub followed : 0 < n → IsFollowed page n places
+  pub followed : 0 < n → IsFollowed page last n places
 
 -- a fault is the first mark that isn't found
-abbrev pub IsLackOf : Page → BorderFault → Type 0
-IsLackOf page NoCorner = (p : Point) → IsCorner page p → ⊥
-IsLackOf page (NoMark side index predicted) = LacksMark page side index predicted
-IsLackOf page (OpenBorder predicted found) = ⊥
+abbrev pub IsLackOf : Paper → Page → BorderFault → Type 0
+IsLackOf paper page NoCorner = (p : Point) → IsCorner page p → ⊥
+IsLackOf paper page (NoMark side index predicted) = LacksMark paper page side index predicted
+IsLackOf paper page (OpenBorder predicted found) = ⊥
 
 -- the places of the first n marks, or the first that isn't found
-abbrev pub AreMarksOf : Page → ℕ → Result (List Point) BorderFault → Type 0
-AreMarksOf page n (Ok places) = AreFollowed page n places
-AreMarksOf page n (Err fault) = IsLackOf page fault
+abbrev pub AreMarksOf : Paper → Page → ℕ → Result (List Point) BorderFault → Type 0
+AreMarksOf paper page n (Ok places) = AreFollowed page (last_row paper) n places
+AreMarksOf paper page n (Err fault) = IsLackOf paper page fault
 
-module _ (corner_is_followed : CornerIsFollowed) (followed_grows : FollowedGrows) where
+module _ (corner_is_followed : CornerIsFollowed) (followed_grows : FollowedGrows) (paper : Paper) (page : Page) where
   -- a followed list with one place more
-  followed_push : (page : Page) (n : ℕ) (places : List Point) (p : Point) → 0 < n → length places ≡ n → IsFollowed page n places → IsBest page (prediction_of places n) p → IsFollowed page (n + 1) (places ++ p ∷ [])
-  followed_push page n places p some all f best =
-      let Own : Point → Type 0 = λ x. IsBest page (prediction_of places n) x in
-      followed_grows page n places (places ++ p ∷ []) some f (λ k before. point_at_before places p k (omega arith)) (subst Own (sym (point_at_own places p n all)) best)
+  followed_push : (last n : ℕ) (places : List Point) (p : Point) → 0 < n → length places ≡ n → IsFollowed page last n places → IsBest page (prediction_of last places n) p → IsFollowed page last (n + 1) (places ++ p ∷ [])
+  followed_push last n places p some all f best =
+      let Own : Point → Type 0 = λ x. IsBest page (prediction_of last places n) x in
+      followed_grows page last n places (places ++ p ∷ []) some f (λ k before. point_at_before places p k (omega arith)) (subst Own (sym (point_at_own places p n all)) best)
 
   -- the corner comes first
-  first_mark : (page : Page) (places : List Point) (found : Option Point) → length places ≡ 0 → IsCornerOf page found → AreMarksOf page 1 (with_found places NoCorner found)
-  first_mark page places None all none = none
-  first_mark page places (Some p) all corner =
+  first_mark : (places : List Point) (found : Option Point) → length places ≡ 0 → IsCornerOf page found → AreMarksOf paper page 1 (with_found places NoCorner found)
+  first_mark places None all none = none
+  first_mark places (Some p) all corner =
       let Corner : Point → Type 0 = λ x. IsCorner page x in
       record {
         all = omega (arith, length-append places (p ∷ []));
-        followed = λ h. corner_is_followed page (places ++ p ∷ []) (subst Corner (sym (point_at_own places p 0 all)) corner);
+        followed = λ h. corner_is_followed page (last_row paper) (places ++ p ∷ []) (subst Corner (sym (point_at_own places p 0 all)) corner);
       }
 
   -- and each other mark after those before it
-  later_mark : (page : Page) (n : ℕ) (places : List Point) (found : Option Point) → 0 < n → n < 146 → AreFollowed page n places → IsBestOf page (prediction_of places n) found → AreMarksOf page (suc n) (with_found places (NoMark (side_of n) (index_of n) (prediction_of places n)) found)
-  later_mark page n places None some few before none = record {
+  later_mark : (n : ℕ) (places : List Point) (found : Option Point) → 0 < n → n < marks paper → AreFollowed page (last_row paper) n places → IsBestOf page (prediction_of (last_row paper) places n) found → AreMarksOf paper page (suc n) (with_found places (NoMark (side_of (last_row paper) n) (index_of (last_row paper) n) (prediction_of (last_row paper) places n)) found)
+  later_mark n places None some few before none = record {
     mark = n;
     later = some;
     number = few;
@@ -72,21 +75,22 @@ module _ (corner_is_followed : CornerIsFollowed) (followed_grows : FollowedGrows
     predicted_is = refl;
     none = none;
   }
-  later_mark page n places (Some p) some few before best = record {
+  later_mark n places (Some p) some few before best = record {
     all = omega (arith, length-append places (p ∷ []), before.all);
-    followed = λ h. let Followed : ℕ → Type 0 = λ m. IsFollowed page m (places ++ p ∷ []) in subst Followed (add-one n) (followed_push page n places p some before.all (before.followed some) best);
+    followed = λ h. let Followed : ℕ → Type 0 = λ m. IsFollowed page (last_row paper) m (places ++ p ∷ []) in subst Followed (add-one n) (followed_push (last_row paper) n places p some before.all (before.followed some) best);
   }
 
   -- with one mark more
-  marks_more : (page : Page) (n : ℕ) (marks : Result (List Point) BorderFault) → n < 146 → AreMarksOf page n marks → AreMarksOf page (suc n) (with_mark page n marks)
-  marks_more page n (Err fault) few h = h
-  marks_more page zero (Ok places) few h = first_mark page places (corner_of page) h.all (IsCornerOf-corner_of page)
-  marks_more page (suc k) (Ok places) few h =
+  marks_more : (n : ℕ) (found : Result (List Point) BorderFault) → n < marks paper → AreMarksOf paper page n found → AreMarksOf paper page (suc n) (with_mark page (last_row paper) n found)
+  marks_more n (Err fault) few h = h
+  marks_more zero (Ok places) few h = first_mark places (corner_of page) h.all (IsCornerOf-corner_of page)
+  marks_more (suc k) (Ok places) few h =
       let later : (suc k == 0) ≡ false = ne_eqb (suc k) 0 (λ e. omega arith) in
-      rw later (later_mark page (suc k) places (best_of page (prediction_of places (suc k))) (omega arith) few h (IsBestOf-best_of page (prediction_of places (suc k))))
+      let predicted : Point = prediction_of (last_row paper) places (suc k) in
+      rw later (later_mark (suc k) places (best_of page predicted) (omega arith) few h (IsBestOf-best_of page predicted))
 
   -- the marks that are found one after the other are followed
-  pub AreMarksOf-marks_of : (page : Page) (n : ℕ) → n ≤ 146 → AreMarksOf page n (marks_of page n)
+  pub AreMarksOf-marks_of : (n : ℕ) → n ≤ marks paper → AreMarksOf paper page n (marks_of page (last_row paper) n)
   unfolding marks_of
-  AreMarksOf-marks_of page zero few = record { all = refl; followed = λ h. absurd (omega arith) }
-  AreMarksOf-marks_of page (suc n) few = marks_more page n (marks_of page n) (omega arith) (AreMarksOf-marks_of page n (omega arith))
+  AreMarksOf-marks_of zero few = record { all = refl; followed = λ h. absurd (omega arith) }
+  AreMarksOf-marks_of (suc n) few = marks_more n (marks_of page (last_row paper) n) (omega arith) (AreMarksOf-marks_of n (omega arith))

@@ -11,7 +11,8 @@ use vx_grid::Side;
 /// Why a scan can't be read: its first fault, in this order.
 #[derive(Clone, Copy, Debug, PartialEq, Eq)]
 pub enum PageFault {
-    /// A scan has 1600 to 2000 columns and 2100 to 2400 rows, and this one has so many of each.
+    /// A scan has 1600 to 2000 columns and 2100 to 2400 rows, or 2700 to 3000 on legal paper, and this
+    /// one has so many of each.
     FrameSize(u32, u32),
     /// Its border of timing marks can't be followed.
     Border(BorderFault),

@@ -11,12 +11,15 @@ pub type Scores = ListOf<u32>;
 pub struct PageReading {
     /// What the page says of itself.
     pub code: PageCode,
-    /// The places of its timing marks, in pixels of the scan.
+    /// The places of its timing marks, in pixels of the scan, and the paper that has them.
     pub border: Border,
     /// The scores of its bubbles, in the plan's order.
     pub scores: Scores,
     /// What its bubbles are read as, in the plan's order.
     pub states: States,
+    /// Whether the scan is the page turned by 180 degrees; the places are then those of the scan
+    /// turned back.
+    pub turned: bool,
 }
 
 fn crosses_threads<T: Send + Sync>() {}

@@ -5,9 +5,9 @@ use Rattle.vx_layout.specs.declared.plan.CardPlan.{CardPlan}
 use Rattle.vx_layout.specs.Faults.{is_no_memory}
 use Rattle.vx_layout.specs.Plan.{plan_of}
 use Rattle.vx_layout.specs.Options.{ShowsEachOption, GivesEachContestAPage}
-use Rattle.vx_layout.specs.Pages.{IsNumbered, StandsOnGrid}
+use Rattle.vx_layout.specs.Pages.{IsNumbered, HasPaper, StandsOnGrid}
 use Rattle.vx_layout.specs.Zones.{IsClearPlan, AreApartInPlan}
-use Rattle.vx_layout.proofs.Clear.{clear-plan, planned-on_grid}
+use Rattle.vx_layout.proofs.Clear.{clear-plan, planned-paper, planned-on_grid}
 use Rattle.vx_layout.proofs.Made.{holds-each}
 use Rattle.vx_layout.proofs.OnePage.{page-for_contests}
 use Rattle.vx_layout.proofs.Order.{apart-plan}
@@ -23,6 +23,9 @@ holds c P each = Gives-holds is_no_memory c.planned.result c.planned.ensures (ho
 pub returns-clause-numbered : goal.returns-clause-numbered
 returns-clause-numbered c =
     holds c (IsNumbered c.args.card) (λ plan h. planned-numbered c.args.election.now c.args.card plan (c.cards_are_few.ensures c.args.election.now c.requires) c.requires h)
+
+pub returns-clause-paper : goal.returns-clause-paper
+returns-clause-paper c = holds c (HasPaper c.args.election.now.paper) (λ plan h. planned-paper c.args.election.now c.args.card plan c.requires h)
 
 pub returns-clause-on_grid : goal.returns-clause-on_grid
 returns-clause-on_grid c = holds c (StandsOnGrid c.args.election.now) (λ plan h. planned-on_grid c.args.election.now c.args.card plan c.requires h)

@@ -12,21 +12,23 @@ use Rattle.vx_layout.proofs.planning.plan_flow.Goals as goal
 
 pub lay_pages-requires-clause-placed : goal.lay_pages-requires-clause-placed
 lay_pages-requires-clause-placed c =
+    let paper = c.args.election.now.paper in
     let contests = c.args.election.now.contests in
-    let Placed : List Block → Type 0 = All (IsPlaced contests) in
-    let blocks = c.as_slice-2.ensures.value ∙ c.in_ok-flow.ensures.blocks ∙ ap (λ (list : List Contest). blocks_from list top c.args.numbers.now) c.as_slice.ensures in
-    subst Placed (sym blocks) (All-placed contests top c.args.numbers.now c.requires.stand)
+    let Placed : List Block → Type 0 = All (IsPlaced paper contests) in
+    let blocks = c.as_slice-2.ensures.value ∙ c.in_ok-flow.ensures.blocks ∙ ap (λ (list : List Contest). blocks_from paper list top c.args.numbers.now) c.as_slice.ensures in
+    subst Placed (sym blocks) (All-placed paper contests top c.args.numbers.now c.requires.stand)
 
 pub hollow_on-hollow-requires-clause-modest : goal.hollow_on-hollow-requires-clause-modest
 hollow_on-hollow-requires-clause-modest c =
+    let paper = c.args.election.now.paper in
     let contests = c.args.election.now.contests in
-    let Placed : List Block → Type 0 = All (IsPlaced contests) in
-    let blocks = c.as_slice-2.ensures.value ∙ c.in_ok-flow.ensures.blocks ∙ ap (λ (list : List Contest). blocks_from list top c.args.numbers.now) c.as_slice.ensures in
+    let Placed : List Block → Type 0 = All (IsPlaced paper contests) in
+    let blocks = c.as_slice-2.ensures.value ∙ c.in_ok-flow.ensures.blocks ∙ ap (λ (list : List Contest). blocks_from paper list top c.args.numbers.now) c.as_slice.ensures in
     let Modest : List PagePlan → Type 0 = All IsModest in
-    let few : length c.as_slice-2.result.now ≤ 500 = omega (arith, ap length blocks, length-blocks_from contests top c.args.numbers.now, c.requires.few) in
+    let few : length c.as_slice-2.result.now ≤ 500 = omega (arith, ap length blocks, length-blocks_from paper contests top c.args.numbers.now, c.requires.few) in
     subst Modest (sym (c.as_slice-3.ensures ∙ c.in_ok-pages.ensures))
     (modest-pages c.args.election.now c.args.card c.as_slice-2.result.now c.even_up-of.result c.requires.sizes
-    (subst Placed (sym blocks) (All-placed contests top c.args.numbers.now c.requires.stand)) few)
+    (subst Placed (sym blocks) (All-placed paper contests top c.args.numbers.now c.requires.stand)) few)
 
 pub hollow_on-hollow-requires-clause-few : goal.hollow_on-hollow-requires-clause-few
 hollow_on-hollow-requires-clause-few c =
