@@ -9,3 +9,4 @@ pub mod Windows
 pub mod Numbers
 pub mod Chains
 pub mod Places
+pub mod Finds

@@ -142,7 +142,7 @@ module _ (s : Slant) (scan : Page) (paper : Paper) (marks : Pixels) (shows : Sho
         outside_is_zone paper (paper_column s u v) (paper_row s u v) (left-of-inner paper (paper_column s u v) (paper_row s u v) (shows-left u v across down));
   }
 
-  first-in-region : IsInCornerRegion first
+  pub first-in-region : IsInCornerRegion first
   first-in-region = record {
     left = omega (arith, ints, start.left);
     right = omega (arith, ints, start.right);
@@ -150,7 +150,7 @@ module _ (s : Slant) (scan : Page) (paper : Paper) (marks : Pixels) (shows : Sho
     bottom = omega (arith, ints, start.bottom);
   }
 
-  first-accepted : IsAccepted scan first
+  pub first-accepted : IsAccepted scan first
   first-accepted = image-accepted s shows.slant_is scan paper marks shows.marks_are shows.shows 0 0 first-point (shows.in_frame 0 0 first-point)
 
   -- a mark to which a place near the first mark's image belongs, with no greater sum, is the first

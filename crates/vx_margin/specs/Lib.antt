@@ -3,3 +3,4 @@ pub mod Flips
 pub mod Shown
 pub mod Deficits
 pub mod Chains
+pub mod Laws
