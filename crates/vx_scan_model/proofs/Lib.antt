@@ -4,3 +4,4 @@ pub mod Corners
 pub mod Bests
 pub mod Marks
 pub mod Borders
+pub mod Printed
