@@ -5,3 +5,4 @@ pub mod Bests
 pub mod Marks
 pub mod Borders
 pub mod Printed
+pub mod Inks
