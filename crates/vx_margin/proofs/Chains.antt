@@ -14,9 +14,9 @@ use Rattle.vx_mark.specs.Mark.{IsAccepted}
 use Rattle.vx_mark.specs.Best.{IsNear, IsBest}
 use Rattle.vx_border.specs.Border.{is_in_row, leader_of, right_of, below, expected_from, prediction_of, IsFollowed, end_of, right_end_of, Closes}
 use Rattle.vx_geom.specs.Slants.{Slant, IsSlant}
-use Rattle.vx_margin.specs.Marks.{IsBorderPoint, AreMarks, image_of, LiesNear}
+use Rattle.vx_margin.specs.Marks.{mark_image, IsBorderPoint, AreMarks, image_of, LiesNear}
 use Rattle.vx_margin.specs.Shown.{ShowsMarks, ShowsBorder, IsInStartRegion}
-use Rattle.vx_margin.specs.Chains.{IsChain, mark_image, LieAtMarks}
+use Rattle.vx_margin.specs.Chains.{IsChain, LieAtMarks}
 use Rattle.vx_margin.proofs.Images.{many_rows}
 use Rattle.vx_margin.proofs.Steps.{right-predicted, below-predicted, accepted-at, accepted-near, corner-near}
 use Rattle.vx_margin.proofs.Numbers.{mark-right, mark-below, mark-point}
@@ -115,5 +115,5 @@ module _ (s : Slant) (scan : Page) (paper : Paper) (marks : Pixels) (shows : Sho
   next-accepted n places some few near =
       let lead : leader_of (last_row paper) n < n = leader-before (last_row paper) n some in
       let point : IsBorderPoint paper (mark_of (last_row paper) n).0 (mark_of (last_row paper) n).1 = mark-point paper n few in
-      accepted-near s shows.slant_is scan paper marks shows.marks_are shows.shows _ _ point (shows.in_frame _ _ point) (prediction_of (last_row paper) places n)
+      accepted-near s shows.slant_is scan paper marks shows.marks_are shows.shows _ _ point (shows.in_frame n few) (prediction_of (last_row paper) places n)
       (predicted-near s scan paper marks shows.slant_is shows.marks_are shows.shows places n some (near.each (leader_of (last_row paper) n) lead))

@@ -13,7 +13,7 @@ use Rattle.vx_grid.specs.Places.{point_at}
 use Rattle.vx_fit.specs.Fit.{left_mark, right_mark, place_of}
 use Rattle.vx_geom.specs.Slants.{Slant, IsSlant}
 use Rattle.vx_margin.specs.Marks.{IsBorderPoint, IsInMark, AreMarks, image_of, LiesNear}
-use Rattle.vx_margin.specs.Chains.{mark_image, LieAtMarks}
+use Rattle.vx_margin.specs.Chains.{LieAtMarks}
 use Rattle.vx_margin.proofs.Images.{many_rows}
 use Rattle.vx_margin.proofs.Numbers.{mark-point, number-at, left-end, right-end}
 use Rattle.vx_margin.proofs.Grids.{grid-near}

@@ -151,7 +151,7 @@ module _ (s : Slant) (scan : Page) (paper : Paper) (marks : Pixels) (shows : Sho
   }
 
   pub first-accepted : IsAccepted scan first
-  first-accepted = image-accepted s shows.slant_is scan paper marks shows.marks_are shows.shows 0 0 first-point (shows.in_frame 0 0 first-point)
+  first-accepted = image-accepted s shows.slant_is scan paper marks shows.marks_are shows.shows 0 0 first-point (shows.in_frame 0 (omega arith))
 
   -- a mark to which a place near the first mark's image belongs, with no greater sum, is the first
   sums : (c r : ℕ) (p : Point) → LiesNear 86 86 p first → LiesNear 4 2 p (image_of s paper c r) → (p.u +ℤ p.v) ≤ℤ (first.u +ℤ first.v) → (c ≡ 0) × (r ≡ 0)

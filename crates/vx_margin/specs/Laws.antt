@@ -16,9 +16,9 @@ use Rattle.vx_mark.specs.Best.{IsNear}
 use Rattle.vx_border.specs.Border.{prediction_of, IsFollowed, Closes}
 use Rattle.vx_fit.specs.Fit.{place_of}
 use Rattle.vx_geom.specs.Slants.{Slant, IsSlant}
-use Rattle.vx_margin.specs.Marks.{AreMarks, image_of, LiesNear, Belongs}
+use Rattle.vx_margin.specs.Marks.{mark_image, AreMarks, image_of, LiesNear, Belongs}
 use Rattle.vx_margin.specs.Shown.{ShowsMarks, ShowsBorder, IsInZone, IsInStartRegion, ShowsZone, count_round, dark_round}
-use Rattle.vx_margin.specs.Chains.{IsChain, mark_image, LieAtMarks}
+use Rattle.vx_margin.specs.Chains.{IsChain, LieAtMarks}
 
 -- the timing marks of a page are those at its border points
 abbrev pub TimingMarksAreMarks : Type 0

@@ -5,6 +5,7 @@ use Rattle.vx_grid.specs.declared.paper.Paper.{Paper}
 use Rattle.vx_grid.specs.declared.places.Point.{Point}
 use Rattle.vx_grid.specs.Paper.{last_row}
 use Rattle.vx_grid.specs.Grid.{last_column, x_of, y_of}
+use Rattle.vx_grid.specs.Marks.{mark_of}
 use Rattle.vx_grid.specs.Places.{IsWithin}
 use Rattle.vx_grid.specs.Sizes.{mark}
 use Rattle.vx_geom.specs.Slants.{Slant, to_scan_of}
@@ -30,6 +31,10 @@ pub record AreMarks (paper : Paper) (marks : Pixels) : Type 0 where
 -- where a slant takes the centre of a grid point
 abbrev pub image_of : Slant → Paper → ℕ → ℕ → Point
 image_of s paper c r = to_scan_of s (record { u = pos (x_of c); v = pos (y_of paper r) })
+
+-- where a slant takes the centre of a timing mark
+abbrev pub mark_image : Slant → Paper → ℕ → Point
+mark_image s paper k = image_of s paper (mark_of (last_row paper) k).0 (mark_of (last_row paper) k).1
 
 -- a place within n columns and m rows of another
 pub record LiesNear (n m : ℕ) (p q : Point) : Type 0 where

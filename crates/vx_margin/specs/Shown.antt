@@ -1,5 +1,5 @@
 -- What a scan has to show of a page's marks, boxes and bubbles, so that they are found.
-use Rattle.std.specs.Prelude.{◌≡◌, ◌≤◌, ◌+◌, ℕ, true, ℤ, pos, ◌-ℤ◌, ◌≤ℤ◌}
+use Rattle.std.specs.Prelude.{◌≡◌, ◌<◌, ◌≤◌, ◌+◌, ℕ, true, ℤ, pos, ◌-ℤ◌, ◌≤ℤ◌}
 use Rattle.vx_plane.specs.Plane.{Pixels, Page, rectangle, dark_at}
 use Rattle.vx_plane.specs.Count.{count_in}
 use Rattle.vx_grid.specs.declared.paper.Paper.{Paper}
@@ -11,7 +11,8 @@ use Rattle.vx_grid.specs.Sizes.{round}
 use Rattle.vx_mark.specs.Mark.{footprint, most_wrong, IsInFrame}
 use Rattle.vx_geom.specs.Slants.{Slant, IsSlant, scan_column, scan_row}
 use Rattle.vx_geom.specs.Seen.{seen}
-use Rattle.vx_margin.specs.Marks.{IsBorderPoint, AreMarks, image_of}
+use Rattle.vx_grid.specs.Marks.{marks as marks_of}
+use Rattle.vx_margin.specs.Marks.{AreMarks, mark_image}
 use Rattle.vx_margin.specs.Flips.{flips, flips_in, flips_on, frame_of}
 
 -- the number of places of a set in the footprint of a place
@@ -37,7 +38,7 @@ pub record ShowsBorder (s : Slant) (scan : Page) (paper : Paper) (marks : Pixels
   pub slant_is : IsSlant s
   pub marks_are : AreMarks paper marks
   pub shows : ShowsMarks s scan paper marks
-  pub in_frame : (c r : ℕ) → IsBorderPoint paper c r → IsInFrame scan (image_of s paper c r)
+  pub in_frame : (k : ℕ) → k < marks_of paper → IsInFrame scan (mark_image s paper k)
 
 -- where the image of the first mark may be: columns 30 to 112, rows 18 to 100
 pub record IsInStartRegion (p : Point) : Type 0 where
