@@ -6,3 +6,4 @@ pub mod Marks
 pub mod Borders
 pub mod Printed
 pub mod Inks
+pub mod Found

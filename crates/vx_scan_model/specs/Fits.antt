@@ -19,6 +19,7 @@ use Rattle.vx_mark.specs.Mark.{IsInFrame, most_wrong}
 use Rattle.vx_geom.specs.declared.shear.Shear.{Shear}
 use Rattle.vx_geom.specs.Slants.{Slant, IsSlant, slant_of}
 
+use Rattle.vx_margin.specs.Marks.{mark_image}
 use Rattle.vx_margin.specs.Flips.{flips_in, flips_on}
 use Rattle.vx_margin.specs.Shown.{count_at, count_round, IsInStartRegion, ShowsZone}
 use Rattle.vx_scan_model.specs.declared.reading.PageReading.{PageReading}
