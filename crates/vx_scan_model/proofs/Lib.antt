@@ -7,3 +7,4 @@ pub mod Borders
 pub mod Printed
 pub mod Inks
 pub mod Found
+pub mod Read

@@ -24,7 +24,7 @@ use Rattle.vx_margin.specs.Marks.{IsBorderPoint, IsInMark, AreMarks}
 use Rattle.vx_margin.specs.Laws.{TimingMarksAreMarks}
 use Rattle.vx_scan_model.specs.Ink.{bubble_at}
 
-many_rows : (paper : Paper) → 40 ≤ last_row paper
+pub many_rows : (paper : Paper) → 40 ≤ last_row paper
 many_rows Letter = omega arith
 many_rows Legal = omega arith
 

@@ -25,7 +25,8 @@ use Rattle.vx_margin.specs.Shown.{count_at, count_round, IsInStartRegion, ShowsZ
 use Rattle.vx_scan_model.specs.declared.reading.PageReading.{PageReading}
 use Rattle.vx_scan_model.specs.declared.fault.PageFault.{PageFault}
 use Rattle.vx_scan_model.specs.Faults.{is_no_memory}
-use Rattle.vx_scan_model.specs.Reading.{is_allowed, reading_of}
+use Rattle.vx_election.specs.Valid.{IsValid}
+use Rattle.vx_scan_model.specs.Reading.{is_allowed, upright_reading_of, reading_of}
 use Rattle.vx_scan_model.specs.Ink.{IsInked, bubble_at}
 
 -- the most flips in the zone of a bubble
@@ -94,3 +95,15 @@ abbrev pub FittingScansAreRead : Type 0
 FittingScansAreRead =
     (election : Election) (scan : Page) (printed : PrintedPage) (plan : PagePlan) (marks : List Bool)
     → Fits election scan printed plan marks → IsReadAs election scan printed marks
+
+-- a scan is read as that page as it lies
+pub record IsReadUpright (election : Election) (scan : Page) (printed : PrintedPage) (marks : List Bool) : Type 0 where
+  pub reading : PageReading
+  pub is_read : upright_reading_of election scan ≡ Ok reading
+  pub says : Says election printed marks reading
+
+-- every scan that fits as it lies is read so
+abbrev pub UprightScansAreRead : Type 0
+UprightScansAreRead =
+    (election : Election) (scan : Page) (printed : PrintedPage) (plan : PagePlan) (marks : List Bool) → IsValid election
+    → FitsUpright election scan printed plan marks → IsReadUpright election scan printed marks
