@@ -119,3 +119,11 @@ code_shown_by-BadPair paper counts result size is n left right = (
   λ e. first_bad_from paper counts (position is_none (shown_by counts)) n left right size refl (sym is ∙ e),
   λ bad. is ∙ first_bad_to paper counts n left right size bad,
 )
+
+-- a first pair that is no bit is refused
+pub code_shown_by-no_bit : (paper : Paper) (counts : List ℕ) → length counts ≡ 84 → bit_of (slice_index counts 0) (slice_index counts 1) ≡ None
+    → code_shown_by paper counts ≡ Err (BadPair 0 (slice_index counts 0) (slice_index counts 1))
+unfolding code_shown_by bits_shown_by
+code_shown_by-no_bit paper counts size none =
+    first_bad_to paper counts 0 (slice_index counts 0) (slice_index counts 1) size
+    (record { stands = omega arith; left_count = refl; right_count = refl; is_no_bit = none; earlier = λ m h. absurd (omega (arith, h)) })

@@ -1,5 +1,5 @@
 -- The page code: 42 bits that are printed as 42 pairs of boxes. This project's own code.
-use Rattle.std.specs.Prelude.{◌≡◌, ℕ, ◌+◌, ◌*◌, ◌/◌, ◌%◌, ◌^◌, ◌<◌, ◌≤◌, ◌==◌, ◌&&◌, List, [], ◌∷◌, Bool, true, false, not, Option, Some, None, Result, Ok, Err, is_none, IsSome, unwrap_or, map, position, take, slice_index, slice_index_or, nat_le, if◌then◌else◌}
+use Rattle.std.specs.Prelude.{◌≡◌, ℕ, ◌+◌, ◌*◌, ◌/◌, ◌%◌, ◌^◌, ◌<◌, ◌≤◌, ◌==◌, ◌&&◌, List, [], ◌∷◌, Bool, true, false, not, Option, Some, None, Result, Ok, Err, is_none, IsSome, length, unwrap_or, map, position, take, slice_index, slice_index_or, nat_le, if◌then◌else◌}
 use Rattle.std.specs.Int.{from_bool}
 use Rattle.std.specs.List.{flat_map, zip}
 use Rattle.vx_grid.specs.declared.paper.Paper.{Paper}
@@ -148,3 +148,16 @@ place_of_box paper box = place_from (first_code_row paper) box
 -- where it is seen on a page that is turned by 180 degrees, but for its order: the reserved rows
 abbrev pub reserved_place : ℕ → ℕ × ℕ
 reserved_place box = place_from first_reserved_row box
+
+-- counts that show the boxes of a code of the paper's version give that code back
+abbrev pub CodesAreGivenBack : Type 0
+CodesAreGivenBack =
+    (paper : Paper) (counts : List ℕ) (code : PageCode) → length counts ≡ 84 → IsInRange code
+    → code.version ≡ version_of paper → Shows counts (boxes_of code) → code_shown_by paper counts ≡ Ok code
+
+-- where the first two counts show no bit, no code is shown
+abbrev pub NoBitIsRefused : Type 0
+NoBitIsRefused =
+    (paper : Paper) (counts : List ℕ) → length counts ≡ 84
+    → bit_of (slice_index counts 0) (slice_index counts 1) ≡ None
+    → code_shown_by paper counts ≡ Err (BadPair 0 (slice_index counts 0) (slice_index counts 1))

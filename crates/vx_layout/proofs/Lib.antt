@@ -17,3 +17,4 @@ pub mod Printed
 pub mod Shown
 pub mod Sizes
 pub mod Standing
+pub mod Keeping

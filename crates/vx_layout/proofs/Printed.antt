@@ -1,6 +1,6 @@
 -- Pages of planned cards are printed pages, with codes in their ranges.
-use Rattle.std.proofs.Common.{◌≡◌, ◌+◌, ◌-◌, ◌<◌, ◌≤◌, ℕ, Some, arith, ap, sym, ◌∙◌, subst, lit<}
-use Rattle.std.specs.Prelude.{slice_get}
+use Rattle.std.proofs.Common.{◌≡◌, List, ◌+◌, ◌-◌, ◌<◌, ◌≤◌, ℕ, Some, arith, ap, sym, ◌∙◌, subst, lit<}
+use Rattle.std.specs.Prelude.{All, slice_get}
 use Rattle.std.proofs.lemmas.Option.{slice_get_within, get_or_from_slice_get}
 use Rattle.vx_grid.specs.declared.paper.Paper.{Paper}
 use Rattle.vx_grid.specs.declared.paper.Paper.TheVariants.{Letter, Legal}
@@ -48,3 +48,7 @@ printed-codes numbered tags election printed plan valid is =
         tag_fits = tags election.digest;
       },
     )
+
+-- what holds of all pages holds of one
+pub of-page : (pages : List PagePlan) (i : ℕ) (plan : PagePlan) → slice_get pages i ≡ Some plan → (P : PagePlan → Type 0) → All P pages → P plan
+of-page pages i plan at P all = subst P (get_or_from_slice_get pages i plan plan at) (all i plan (slice_get_within pages i plan at))

@@ -1,5 +1,5 @@
 -- Printed pages: the plan, the code and the print of each.
-use Rattle.std.specs.Prelude.{◌≡◌, ◌≤◌, ℕ, ◌-◌, Bool, Ok, Some, slice_get}
+use Rattle.std.specs.Prelude.{All, ◌≡◌, ◌≤◌, ℕ, ◌-◌, Bool, Ok, Some, slice_get}
 use Rattle.vx_plane.specs.Plane.{Pixels, Page, page_of}
 use Rattle.vx_grid.specs.declared.kind.Kind.{Kind}
 use Rattle.vx_grid.specs.Paper.{page_width, page_height}
@@ -11,6 +11,8 @@ use Rattle.vx_layout.specs.declared.pages.PagePlan.{PagePlan}
 use Rattle.vx_layout.specs.declared.plan.CardPlan.{CardPlan}
 use Rattle.vx_layout.specs.Plan.{plan_of}
 use Rattle.vx_layout.specs.Print.{print_of}
+use Rattle.vx_layout.specs.Pages.{IsOnGrid}
+use Rattle.vx_layout.specs.Zones.{IsClear, AreApart}
 
 -- a page that is printed: its card, its number on the card, the ballot's kind, and whether it is a
 -- test ballot's
@@ -64,3 +66,15 @@ abbrev pub PrintedHaveCodes : Type 0
 PrintedHaveCodes =
     (election : Election) (printed : PrintedPage) (plan : PagePlan) → IsValid election
     → IsPlanned election printed plan → (plan.page ≡ printed.page) × IsInRange (code_of election printed)
+
+-- a page on which all keeps clear of what it has to: zones, boxes and texts, and bubbles on the grid
+pub record KeepsClear (plan : PagePlan) : Type 0 where
+  pub clear : IsClear plan
+  pub apart : AreApart plan
+  pub on_grid : All (IsOnGrid plan.paper) plan.bubbles
+
+-- a printed page is such a page
+abbrev pub PrintedKeepClear : Type 0
+PrintedKeepClear =
+    (election : Election) (printed : PrintedPage) (plan : PagePlan) → IsValid election
+    → IsPlanned election printed plan → KeepsClear plan

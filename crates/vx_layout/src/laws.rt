@@ -2,7 +2,7 @@
 
 ghost use Rattle.vx_layout.specs.Pages.{PlansAreNumbered, PlansHavePaper, PlansStandOnGrid};
 ghost use Rattle.vx_layout.specs.Plans.{PlansAreThose};
-ghost use Rattle.vx_layout.specs.Printed.{PagesArePlanned, PrintedHaveCodes, PrintedHavePaper};
+ghost use Rattle.vx_layout.specs.Printed.{PagesArePlanned, PrintedHaveCodes, PrintedHavePaper, PrintedKeepClear};
 
 use vx_code::tags_are_in_range;
 use vx_styles::cards_are_few;
@@ -43,3 +43,10 @@ pub fn planned_pages_can_be_printed()
     plans_have_the_elections_paper();
     tags_are_in_range();
 }
+
+/// On a printed page the zones of bubbles keep clear of texts, of the page code, of the reserved rows and
+/// of the frame, and of each other's boxes; and texts keep clear of the page code, the reserved rows and
+/// the frame.
+pub fn printed_pages_keep_clear()
+    ensures { PrintedKeepClear }
+{}

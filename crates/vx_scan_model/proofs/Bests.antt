@@ -148,3 +148,14 @@ numbers-many = omega arith
 pub IsBestOf-best_of : (page : Page) (predicted : Point) → IsBestOf page predicted (best_of page predicted)
 unfolding best_of
 IsBestOf-best_of page predicted = first-best page predicted near_numbers _ numbers-many (find-first (may_be_best page predicted) 0 near_numbers near_numbers (omega arith))
+
+-- where an accepted place lies near a predicted one, there is a best one
+best-some : (page : Page) (predicted : Point) (end : ℕ) (first : Option ℕ) → 21504 ≤ end → IsFirstOf (may_be_best page predicted) 0 end first
+    → (p : Point) → IsAccepted page p → IsNear predicted p → (q : Point) × IsBest page predicted q
+best-some page predicted end None most h p good close =
+    let ranked = rank-of_place page predicted p good close in
+    absurd (h ranked.0 (omega arith) (omega (arith, ranked.1.below)) (place-passes page predicted p ranked.0 ranked.1 good close))
+best-some page predicted end (Some n) most h p good close = (near_place predicted n, first-best page predicted end (Some n) most h)
+
+pub best-exists : (page : Page) (predicted p : Point) → IsAccepted page p → IsNear predicted p → (q : Point) × IsBest page predicted q
+best-exists page predicted = best-some page predicted near_numbers _ numbers-many (find-first (may_be_best page predicted) 0 near_numbers near_numbers (omega arith))

@@ -97,3 +97,14 @@ numbers-many = omega arith
 pub IsCornerOf-corner_of : (page : Page) → IsCornerOf page (corner_of page)
 unfolding corner_of
 IsCornerOf-corner_of page = first-corner page corner_numbers _ numbers-many (find-first (may_be_corner page) 0 corner_numbers corner_numbers (omega arith))
+
+-- where an accepted place lies in the region, there is a corner
+corner-some : (page : Page) (end : ℕ) (first : Option ℕ) → 28288 ≤ end → IsFirstOf (may_be_corner page) 0 end first
+    → (p : Point) → IsAccepted page p → IsInCornerRegion p → (q : Point) × IsCorner page q
+corner-some page end None most h p good region =
+    let numbered = number-of_place p region in
+    absurd (h numbered.0 (omega arith) (omega (arith, numbered.2)) (place-passes page p numbered.0 numbered.1 good region))
+corner-some page end (Some n) most h p good region = (corner_place n, first-corner page end (Some n) most h)
+
+pub corner-exists : (page : Page) (p : Point) → IsAccepted page p → IsInCornerRegion p → (q : Point) × IsCorner page q
+corner-exists page = corner-some page corner_numbers _ numbers-many (find-first (may_be_corner page) 0 corner_numbers corner_numbers (omega arith))

@@ -4,3 +4,7 @@ pub mod Corners
 pub mod Bests
 pub mod Marks
 pub mod Borders
+pub mod Printed
+pub mod Inks
+pub mod Found
+pub mod Read

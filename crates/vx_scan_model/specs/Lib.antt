@@ -3,3 +3,5 @@ pub mod Reading
 pub mod FaultTexts
 pub mod Named
 pub mod Faults
+pub mod Ink
+pub mod Fits

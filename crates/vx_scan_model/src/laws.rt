@@ -1,8 +1,12 @@
-//! Laws of borders. These functions do nothing; their contracts are the laws.
+//! Laws of borders and of scans that fit. These functions do nothing; their contracts are the laws.
 
 ghost use Rattle.vx_scan_model.specs.Border.{BorderIsGiven, EachScanHasItsBorder};
+ghost use Rattle.vx_scan_model.specs.Fits.{UprightScansAreRead};
 
 use vx_border::{a_list_is_followed, borders_are_one};
+use vx_code::codes_are_given_back;
+use vx_layout::{planned_pages_can_be_printed, printed_pages_keep_clear};
+use vx_margin::{borders_are_found, grid_places_lie_near, timing_marks_are_marks, windows_hold};
 
 /// What is the border of a scan, or its first fault, is what the function of its page gives: so
 /// there is one answer for each scan.
@@ -19,4 +23,19 @@ pub fn every_scan_has_its_border()
     ensures { EachScanHasItsBorder }
 {
     a_list_is_followed();
+}
+
+/// Every scan that fits a printed page with its marks, as it lies, is read as that page: its marked
+/// bubbles are Marked and all others Clear.
+pub fn fitting_scans_are_read()
+    ensures { UprightScansAreRead }
+{
+    a_list_is_followed();
+    codes_are_given_back();
+    planned_pages_can_be_printed();
+    printed_pages_keep_clear();
+    timing_marks_are_marks();
+    borders_are_found();
+    grid_places_lie_near();
+    windows_hold();
 }

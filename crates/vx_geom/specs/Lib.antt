@@ -1,0 +1,3 @@
+pub mod Slants
+pub mod Seen
+pub mod Laws

@@ -1,0 +1,23 @@
+-- What a printed page keeps clear.
+use Rattle.std.proofs.Common.{◌≡◌, ℕ, ◌-◌, subst, Ok}
+use Rattle.std.specs.Prelude.{All}
+use Rattle.std.proofs.lemmas.Option.{get_or_from_slice_get}
+use Rattle.std.proofs.lemmas.List.Elements.{All-get_or}
+use Rattle.vx_election.specs.declared.election.Election.{Election}
+use Rattle.vx_election.specs.Valid.{IsValid}
+use Rattle.vx_layout.specs.declared.pages.PagePlan.{PagePlan}
+use Rattle.vx_layout.specs.Pages.{IsOnGrid}
+use Rattle.vx_layout.specs.Zones.{IsClear, AreApart}
+use Rattle.vx_layout.specs.Printed.{PrintedPage, IsPlanned, KeepsClear, PrintedKeepClear}
+use Rattle.vx_layout.proofs.Clear.{clear-plan, planned-on_grid}
+use Rattle.vx_layout.proofs.Order.{apart-plan}
+use Rattle.vx_layout.proofs.Printed.{of-page}
+
+-- on a printed page all keeps clear of what it has to
+pub printed-clear : PrintedKeepClear
+printed-clear election printed plan valid is = record {
+  clear = of-page is.card.pages (printed.page - 1) plan is.page_is (λ (page : PagePlan). IsClear page) (clear-plan election printed.card is.card valid is.card_is);
+  apart = of-page is.card.pages (printed.page - 1) plan is.page_is (λ (page : PagePlan). AreApart page) (apart-plan election printed.card is.card valid is.card_is);
+  on_grid = of-page is.card.pages (printed.page - 1) plan is.page_is (λ (page : PagePlan). All (IsOnGrid page.paper) page.bubbles)
+      (planned-on_grid election printed.card is.card valid is.card_is).on_grid;
+}

@@ -1,0 +1,12 @@
+pub mod Parts
+pub mod Deficits
+pub mod Found
+pub mod Images
+pub mod Steps
+pub mod Weights
+pub mod Grids
+pub mod Windows
+pub mod Numbers
+pub mod Chains
+pub mod Places
+pub mod Finds

@@ -1,0 +1,83 @@
+-- Where marks, boxes and bubbles are found in a scan that shows them.
+use Rattle.std.specs.Prelude.{◌≡◌, ◌≤◌, ◌<◌, ◌+◌, ℕ, List, true}
+use Rattle.vx_plane.specs.Plane.{Pixels, Page}
+use Rattle.vx_grid.specs.declared.paper.Paper.{Paper}
+use Rattle.vx_grid.specs.declared.places.Point.{Point}
+use Rattle.vx_grid.specs.declared.sizes.HalfSides.{HalfSides}
+use Rattle.vx_grid.specs.Paper.{last_row}
+use Rattle.vx_grid.specs.Grid.{last_column}
+use Rattle.vx_grid.specs.Marks.{marks as marks_of, timing_marks}
+use Rattle.vx_grid.specs.Borders.{MarkPlaces}
+use Rattle.vx_grid.specs.Places.{point_at}
+use Rattle.vx_grid.specs.Sizes.{bubble, window_of, zone_of}
+use Rattle.vx_mark.specs.Mark.{IsAccepted}
+use Rattle.vx_mark.specs.Corner.{IsInCornerRegion}
+use Rattle.vx_mark.specs.Best.{IsNear}
+use Rattle.vx_border.specs.Border.{prediction_of, IsFollowed, Closes}
+use Rattle.vx_fit.specs.Fit.{place_of}
+use Rattle.vx_geom.specs.Slants.{Slant, IsSlant}
+use Rattle.vx_margin.specs.Marks.{mark_image, AreMarks, image_of, LiesNear, Belongs}
+use Rattle.vx_margin.specs.Shown.{ShowsMarks, ShowsBorder, IsInZone, IsInStartRegion, ShowsZone, count_round, dark_round}
+use Rattle.vx_margin.specs.Chains.{IsChain, LieAtMarks}
+
+-- the timing marks of a page are those at its border points
+abbrev pub TimingMarksAreMarks : Type 0
+TimingMarksAreMarks = (paper : Paper) → AreMarks paper (timing_marks paper)
+
+-- an accepted place whose footprint is seen in the frame zone belongs to a timing mark: it lies within 4 columns
+-- and 2 rows of the image of its centre
+abbrev pub AcceptedBelong : Type 0
+AcceptedBelong =
+    (s : Slant) (scan : Page) (paper : Paper) (marks : Pixels) (p : Point) → IsSlant s → AreMarks paper marks
+    → ShowsMarks s scan paper marks → IsInZone s paper p → IsAccepted scan p → Belongs s paper p
+
+-- the border is found: the image of the first mark is where a corner may be, followed places lie at their marks,
+-- the next mark is accepted where it is expected, and all of them close
+pub record FindsBorder (s : Slant) (scan : Page) (paper : Paper) : Type 0 where
+  pub first_accepted : IsAccepted scan (mark_image s paper 0)
+  pub first_in_region : IsInCornerRegion (mark_image s paper 0)
+  pub at_marks :
+      (n : ℕ) (places : List Point) → n ≤ marks_of paper → IsFollowed scan (last_row paper) n places
+      → LieAtMarks s paper n places
+  pub next_accepted :
+      (n : ℕ) (places : List Point) → 0 < n → n < marks_of paper → LieAtMarks s paper n places
+      → IsAccepted scan (mark_image s paper n)
+  pub next_near :
+      (n : ℕ) (places : List Point) → 0 < n → n < marks_of paper → LieAtMarks s paper n places
+      → IsNear (prediction_of (last_row paper) places n) (mark_image s paper n)
+  pub closes :
+      (places : List Point) → LieAtMarks s paper (marks_of paper) places → Closes (last_row paper) places
+
+-- so it is in a scan that shows its marks
+abbrev pub BordersAreFound : Type 0
+BordersAreFound =
+    (s : Slant) (scan : Page) (paper : Paper) (marks : Pixels) → ShowsBorder s scan paper marks
+    → IsInStartRegion (mark_image s paper 0) → FindsBorder s scan paper
+
+-- a chain of accepted places that begins at the first mark lies at the marks
+abbrev pub ChainsLieAtMarks : Type 0
+ChainsLieAtMarks =
+    (s : Slant) (scan : Page) (paper : Paper) (marks : Pixels) (n : ℕ) (places : List Point) → IsSlant s
+    → AreMarks paper marks → ShowsMarks s scan paper marks → n ≤ marks_of paper
+    → IsChain scan (last_row paper) n places → LiesNear 4 2 (point_at places 0) (mark_image s paper 0)
+    → LieAtMarks s paper n places
+
+-- a grid place between places at the marks lies within 6 columns and 4 rows of the image of its grid point
+abbrev pub GridPlacesLieNear : Type 0
+GridPlacesLieNear =
+    (s : Slant) (border : MarkPlaces) (c r : ℕ) → IsSlant s
+    → LieAtMarks s border.paper (marks_of border.paper) border.places → c ≤ last_column → r ≤ last_row border.paper
+    → LiesNear 6 4 (place_of border c r) (image_of s border.paper c r)
+
+-- the window at a place counts at most what the zone has and its flips, and at least what the box has less the
+-- flips of the zone
+pub record HoldsWindow (scan : Page) (paper : Paper) (set : Pixels) (half : HalfSides) (c r most : ℕ) (p : Point) : Type 0 where
+  pub at_most : dark_round scan (window_of half) p ≤ count_round paper (zone_of half) c r set + most
+  pub at_least : count_round paper half c r set ≤ dark_round scan (window_of half) p + most
+
+-- so it does near the image of a grid point, for boxes no larger than a bubble's
+abbrev pub WindowsHold : Type 0
+WindowsHold =
+    (s : Slant) (scan : Page) (paper : Paper) (set : Pixels) (half : HalfSides) (c r most : ℕ) (p : Point) → IsSlant s
+    → half.across ≤ bubble.across → half.down ≤ bubble.down → ShowsZone s scan paper set (zone_of half) c r most
+    → LiesNear 6 4 p (image_of s paper c r) → HoldsWindow scan paper set half c r most p

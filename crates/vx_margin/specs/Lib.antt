@@ -1,0 +1,6 @@
+pub mod Marks
+pub mod Flips
+pub mod Shown
+pub mod Deficits
+pub mod Chains
+pub mod Laws

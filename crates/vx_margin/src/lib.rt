@@ -1,0 +1,14 @@
+//! What a scan shows of a page's timing marks, boxes and bubbles under a slant, and where they are then
+//! found. It knows no election.
+//!
+//! `specs/Marks.antt`, `Flips.antt` and `Shown.antt` say what a scan has to show; `specs/Laws.antt` says where
+//! things are found, each a law that a function here carries: what is accepted lies within (4, 2) of a mark's
+//! image, predictions within (5, 3), grid places within (6, 4), and windows there hold their boxes.
+#![tactic(auto)]
+
+mod laws;
+
+pub use laws::{
+    accepted_places_belong, borders_are_found, chains_lie_at_marks, grid_places_lie_near, timing_marks_are_marks,
+    windows_hold,
+};
