@@ -12,16 +12,18 @@ ghost use Rattle.vx_command_print.specs.Outcome.{printed_page, page_text as page
 use crate::ballot::Ballot;
 use std::alloc::Global;
 use vx_base::Bytes;
-use vx_code::{PageCode, tag_of};
+use vx_code::{PageCode, tag_of, version_of};
 use vx_command::{Halt, acts_in_order, steps_in_order, write_text};
 use vx_election::Election;
+use vx_grid::page_height;
 use vx_io::Sink;
 use vx_layout::PagePlan;
 use vx_pbm::write_p4;
 use vx_raster::paint;
 
-/// How many bytes the raw bitmap of a printed page has: 13 of the header, 213 for each row.
-const PAGE_BYTES: usize = 468_613;
+/// How many bytes a printed page's raw bitmap has before its rows, and for each row.
+const HEADER_BYTES: usize = 13;
+const ROW_BYTES: usize = 213;
 
 /// The code of a ballot's page with a number.
 fn code_for(election: &Election, ballot: Ballot, page: u32) -> PageCode
@@ -32,7 +34,7 @@ fn code_for(election: &Election, ballot: Ballot, page: u32) -> PageCode
     ensures in_range { IsInRange result }
 {
     PageCode {
-        version: 1,
+        version: version_of(election.paper),
         test: ballot.test,
         kind: ballot.kind,
         card: ballot.card,
@@ -55,7 +57,8 @@ fn page_text(
 {
     let code = code_for(election, ballot, plan.page);
     let page = paint(alloc, election, plan, &code)?;
-    let mut text = Bytes::with_capacity(alloc, PAGE_BYTES)?;
+    let rows = page_height(plan.paper) as usize;
+    let mut text = Bytes::with_capacity(alloc, HEADER_BYTES + ROW_BYTES * rows)?;
     write_p4(&page.view(), &mut text)?;
     Ok(text)
 }

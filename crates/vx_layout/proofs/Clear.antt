@@ -16,9 +16,9 @@ use Rattle.vx_layout.specs.declared.plan.CardPlan.{CardPlan}
 use Rattle.vx_layout.specs.Pages.{IsOnGrid, NamesOption, HasPaper, StandsOnGrid}
 use Rattle.vx_layout.specs.Plan.{foot_y, plan_of}
 use Rattle.vx_layout.specs.Print.{line_pixels}
-use Rattle.vx_layout.specs.Zones.{bubble_zone_of, code_zones, reserved_zones, Apart, IsClear, IsClearPlan}
+use Rattle.vx_layout.specs.Zones.{bubble_zone_of, code_zones, reserved_zones, Apart, ZonesKeepClearOf, IsClear, IsClearPlan}
 use Rattle.vx_layout.proofs.Extents.{apart-lies, apart-frame, lies-zone, lies-code, lies-reserved}
-use Rattle.vx_layout.proofs.Papers.{last-row_low, first-y_low}
+use Rattle.vx_layout.proofs.Papers.{last-row_low}
 use Rattle.vx_layout.proofs.Parts.{blocks_of, count_of, page_at, parts-of_plan, All-pages}
 use Rattle.vx_layout.proofs.Sizes.{sizes-from_valid}
 use Rattle.vx_layout.proofs.Standing.{IsLaid, grid-page, names-page, laid-page}
@@ -65,9 +65,8 @@ clear-page page on laid =
     All-weaker (IsLaid page.paper) (λ (line : TextLine). Apart (line_pixels line) set) clear page.texts laid in
     record {
       zones_from_text =
-          All-weaker (IsOnGrid page.paper) (λ (bubble : Bubble). All (λ (line : TextLine). Apart (zone bubble) (line_pixels line)) page.texts)
-          (λ bubble is. All-weaker (IsLaid page.paper) (λ (line : TextLine). Apart (zone bubble) (line_pixels line)) (λ line at. zone-line page.paper bubble line is at) page.texts laid)
-          page.bubbles on;
+          All-weaker (IsLaid page.paper) (λ (line : TextLine). ZonesKeepClearOf page (line_pixels line))
+          (λ line at. each-zone (line_pixels line) (λ bubble is. zone-line page.paper bubble line is at)) page.texts laid;
       zones_from_code = each-zone (code_zones page.paper) (zone-code page.paper);
       zones_from_reserved = each-zone (reserved_zones page.paper) (zone-reserved page.paper);
       zones_from_frame = each-zone (frame_zone page.paper) (zone-frame page.paper);

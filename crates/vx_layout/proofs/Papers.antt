@@ -1,5 +1,5 @@
 -- What both papers have in common.
-use Rattle.std.proofs.Common.{ℕ, ◌≤◌, lit≤}
+use Rattle.std.proofs.Common.{◌≤◌, lit≤}
 use Rattle.vx_grid.specs.declared.paper.Paper.{Paper}
 use Rattle.vx_grid.specs.declared.paper.Paper.TheVariants.{Letter, Legal}
 use Rattle.vx_grid.specs.Paper.{last_row, first_y}

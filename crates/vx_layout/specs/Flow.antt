@@ -1,4 +1,4 @@
--- Where blocks stand: they flow through text columns, three on each page, which have the paper's rows of contests.
+-- Where blocks stand: they flow through text columns with the paper's rows, three on each page.
 use Rattle.std.specs.Prelude.{◌<◌, ◌≤◌, ℕ, ◌+◌, ◌*◌, ◌/◌, ◌%◌, List, [], ◌∷◌, length, false, None, nat_le, if◌then◌else◌, slice_index_or}
 use Rattle.vx_grid.specs.declared.paper.Paper.{Paper}
 use Rattle.vx_grid.specs.Grid.{first_contest_row, contest_rows}

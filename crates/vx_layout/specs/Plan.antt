@@ -65,7 +65,9 @@ page_plan election card blocks pages page = record {
   of = pages;
   paper = election.paper;
   bubbles = flat_map (bubbles_of election.contests) (on_page page blocks);
-  texts = flat_map (texts_of election.paper election.contests) (on_page page blocks) ++ foot_line election card page pages ∷ [];
+  texts =
+      flat_map (texts_of election.paper election.contests) (on_page page blocks)
+      ++ foot_line election card page pages ∷ [];
 }
 
 -- all pages of a card
@@ -87,7 +89,8 @@ long_in choices = find (λ size. nat_lt 58 size) (map (λ (choice : Choice). siz
 -- a contest whose block fits a column
 abbrev pub height_checked : Paper → Contest → Result (Unit {0}) LayoutFault
 height_checked paper contest =
-    if nat_lt (contest_rows paper) (height_of contest) then Err (ContestTooTall contest.id (height_of contest)) else Ok tt
+    if nat_lt (contest_rows paper) (height_of contest) then Err (ContestTooTall contest.id (height_of contest))
+    else Ok tt
 
 -- a contest, unless one of its names is too long: then its height is looked at
 abbrev pub names_checked : Paper → Contest → Option ℕ → Result (Unit {0}) LayoutFault
@@ -116,7 +119,9 @@ card_plan number pages = record { card = number; pages = pages; hollow = hollow_
 abbrev pub plan_with : Election → ℕ → Card → List ℕ → ℕ → Result CardPlan LayoutFault
 plan_with election number card numbers pages =
     if nat_lt 63 pages then Err (TooManyPages pages)
-    else Ok (card_plan number (page_plans election card (blocks_from election.paper election.contests top numbers) pages))
+    else
+      Ok (card_plan number
+      (page_plans election card (blocks_from election.paper election.contests top numbers) pages))
 
 -- a card of those contests, if each of them can be printed
 abbrev pub plan_checked : Election → ℕ → Card → List ℕ → Result CardPlan LayoutFault

@@ -1,5 +1,5 @@
 -- What is printed on a page, as a set of pixels: this project's own geometry.
-use Rattle.std.specs.Prelude.{ℕ, ◌+◌, ◌-◌, ◌*◌, List, length, chars, slice_index, slice_index_or, Bool, false, ◌&&◌, not, if◌then◌else◌, pos, negsuc, ◌+ℤ◌, ◌*ℤ◌, int_le}
+use Rattle.std.specs.Prelude.{ℕ, ◌+◌, ◌-◌, ◌*◌, List, length, chars, slice_index, slice_index_or, Bool, false, ◌&&◌, not, if◌then◌else◌, pos, ◌+ℤ◌, ◌*ℤ◌, int_le}
 use Rattle.vx_plane.specs.Plane.{Pixels, nowhere, union, rectangle, in_any, any_of, placed}
 use Rattle.vx_grid.specs.declared.paper.Paper.{Paper}
 use Rattle.vx_grid.specs.Grid.{x_of, y_of}

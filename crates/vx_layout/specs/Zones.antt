@@ -37,28 +37,31 @@ reserved_zones paper = in_any 84 (λ n. box_zone_at paper (reserved_place n))
 pub record Apart (a b : Pixels) : Type 0 where
   pub apart : (u v : ℤ) → a u v ≡ true → b u v ≡ true → ⊥
 
+-- the zones of a page's bubbles keep clear of a set
+abbrev pub ZonesKeepClearOf : PagePlan → Pixels → Type 0
+ZonesKeepClearOf page set = All (λ (bubble : Bubble). Apart (bubble_zone_of page.paper bubble) set) page.bubbles
+
+-- the dark dots of a page's texts keep clear of a set
+abbrev pub DotsKeepClearOf : PagePlan → Pixels → Type 0
+DotsKeepClearOf page set = All (λ (line : TextLine). Apart (line_pixels line) set) page.texts
+
 -- the zones of bubbles keep clear of the dark dots of texts, of the zones of the page code, of the
 -- reserved zones and of the frame zone, and the dark dots of texts keep clear of those three
 pub record IsClear (page : PagePlan) : Type 0 where
-  pub zones_from_text :
-      All (λ (bubble : Bubble). All (λ (line : TextLine). Apart (bubble_zone_of page.paper bubble) (line_pixels line)) page.texts)
-      page.bubbles
-  pub zones_from_code :
-      All (λ (bubble : Bubble). Apart (bubble_zone_of page.paper bubble) (code_zones page.paper)) page.bubbles
-  pub zones_from_reserved :
-      All (λ (bubble : Bubble). Apart (bubble_zone_of page.paper bubble) (reserved_zones page.paper)) page.bubbles
-  pub zones_from_frame :
-      All (λ (bubble : Bubble). Apart (bubble_zone_of page.paper bubble) (frame_zone page.paper)) page.bubbles
-  pub text_from_code : All (λ (line : TextLine). Apart (line_pixels line) (code_zones page.paper)) page.texts
-  pub text_from_reserved : All (λ (line : TextLine). Apart (line_pixels line) (reserved_zones page.paper)) page.texts
-  pub text_from_frame : All (λ (line : TextLine). Apart (line_pixels line) (frame_zone page.paper)) page.texts
+  pub zones_from_text : All (λ (line : TextLine). ZonesKeepClearOf page (line_pixels line)) page.texts
+  pub zones_from_code : ZonesKeepClearOf page (code_zones page.paper)
+  pub zones_from_reserved : ZonesKeepClearOf page (reserved_zones page.paper)
+  pub zones_from_frame : ZonesKeepClearOf page (frame_zone page.paper)
+  pub text_from_code : DotsKeepClearOf page (code_zones page.paper)
+  pub text_from_reserved : DotsKeepClearOf page (reserved_zones page.paper)
+  pub text_from_frame : DotsKeepClearOf page (frame_zone page.paper)
 
 -- the zone of each bubble keeps clear of the box of every other bubble of its page
 pub record AreApart (page : PagePlan) : Type 0 where
   pub each :
       (i j : ℕ) (d : Bubble) → i < length page.bubbles → j < length page.bubbles → i ≢ j
       → Apart (bubble_zone_of page.paper (slice_index_or page.bubbles i d))
-        (bubble_box_of page.paper (slice_index_or page.bubbles j d))
+      (bubble_box_of page.paper (slice_index_or page.bubbles j d))
 
 -- so on every page of a plan
 abbrev pub AreApartInPlan : CardPlan → Type 0

@@ -114,14 +114,7 @@ pub(crate) fn lay_block(
     let seated = described + rows_of(description_of(contest));
     let seats = seats_of(alloc, contest)?;
     lay_text(alloc, texts, paper, col, row, contest.title.as_str())?;
-    lay_text(
-        alloc,
-        texts,
-        paper,
-        col,
-        described,
-        description_of(contest),
-    )?;
+    lay_text(alloc, texts, paper, col, described, description_of(contest))?;
     lay_text(alloc, texts, paper, col, seated, seats.as_str())?;
     lay_options(alloc, texts, paper, contest, col, row)
 }

@@ -46,7 +46,8 @@ fn plan_flow(
     requires stand { All (CanStand election.now.paper election.now.contests) numbers.now }
     requires few { length numbers.now ≤ 500 }
     ensures { Gives is_no_memory result
-        (plan_with election.now number card numbers.now (pages_of election.now.paper election.now.contests numbers.now)) }
+        (plan_with election.now number card numbers.now
+        (pages_of election.now.paper election.now.contests numbers.now)) }
 {
     let flow = flow_of(alloc, election.paper, election.contests.as_slice(), numbers)?;
     let of = even_up(flow.end.page());
@@ -117,8 +118,9 @@ fn planned(alloc: Global, election: &Election, card: u32) -> Result<CardPlan, La
 /// The plan of the card with a number, or why it can't be printed.
 ///
 /// `NoCard` where the election has no such card. Then the card's contests are tested in order, each
-/// for an option's name of more than 58 characters (`TextTooLong`) and next for a block of more rows
-/// than the election's paper has rows of contests, 28 or 39 (`ContestTooTall`). Last, the even number of pages may be above 63 (`TooManyPages`).
+/// for an option's name of more than 58 characters (`TextTooLong`) and next for a block of more
+/// rows than the paper has rows of contests, 28 or 39 on legal paper (`ContestTooTall`). Last, the
+/// even number of pages may be above 63 (`TooManyPages`).
 /// Time and memory are in proportion to the text that is laid out, besides one look at each
 /// contest's block for each of the at most 62 pages.
 pub fn plan_card(alloc: Global, election: &Election, card: u32) -> Result<CardPlan, LayoutFault>

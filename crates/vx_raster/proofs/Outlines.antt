@@ -5,7 +5,7 @@ use Rattle.std.proofs.lemmas.Bool.Decides.{nat_tests}
 use Rattle.std.proofs.lemmas.Int.{ints}
 use Rattle.vx_plane.specs.Plane.{Page, rows_of, page_of, dark_at, rectangle, any_of, placed}
 use Rattle.vx_plane.proofs.Pages.{dark_at-inside}
-use Rattle.vx_layout.specs.Print.{ellipse, bubble_box, outline}
+use Rattle.vx_layout.specs.Print.{outer_ellipse, inner_ellipse, bubble_box, outline}
 use Rattle.vx_raster.specs.declared.stamp.Patch.{Patch}
 use Rattle.vx_raster.specs.declared.outline.TheConstants.{OUTLINE}
 use Rattle.vx_raster.specs.Shape.{patch_pixels}
@@ -65,7 +65,7 @@ unfolding outline
 outline-outside a b out =
     let i = a -ℤ pos 20 in
     let j = b -ℤ pos 13 in
-    ap (λ (t : Bool). t && (ellipse 40 26 i j && not (ellipse 36 22 i j))) (box-outside a b out)
+    ap (λ (t : Bool). t && (outer_ellipse i j && not (inner_ellipse i j))) (box-outside a b out)
 
 apart : (a b : ℤ) → IsOutside 40 26 a b → any_of OUTLINE (patch_pixels 0 0) a b ≡ outline (a -ℤ pos 20) (b -ℤ pos 13)
 apart a b out = shape-outside 40 26 OUTLINE a b refl out ∙ sym (outline-outside a b out)

@@ -9,6 +9,7 @@ mod boxes;
 mod marks;
 mod outline;
 mod painting;
+mod round;
 mod stamp;
 #[cfg(test)]
 mod tests;

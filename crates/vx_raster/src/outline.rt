@@ -4,11 +4,10 @@ ghost use Rattle.vx_layout.specs.Print.{bubble_pixels};
 
 use crate::stamp::{Patch, stamp};
 use vx_bits::BitPage;
-use vx_grid::{centre_x, centre_y};
+use vx_grid::{BUBBLE, Paper, centre_x, centre_y};
 use vx_layout::Bubble;
 
-/// The outline of a bubble in its box of 40 by 26 pixels, which begins 20 pixels to the left of its
-/// grid point and 13 above it: what lies between two ellipses, row by row.
+/// The outline of a bubble in its box of 40 by 26 pixels: what lies between two ellipses, row by row.
 #[rattlefmt::skip]
 static OUTLINE: [Patch; 38] = [
     Patch { left: 15, top: 0, width: 10, height: 1 },
@@ -52,21 +51,21 @@ static OUTLINE: [Patch; 38] = [
 ];
 
 /// Paints the outline of a bubble.
-fn paint_bubble(page: &mut BitPage, bubble: &Bubble)
-    ensures { page.new ≡ painted page.old (bubble_pixels bubble.now) }
+fn paint_bubble(page: &mut BitPage, paper: Paper, bubble: &Bubble)
+    ensures { page.new ≡ painted page.old (bubble_pixels paper bubble.now) }
 {
-    let left = centre_x(bubble.col) - 20;
-    let top = centre_y(bubble.row) - 13;
+    let left = centre_x(bubble.col) - u64::from(BUBBLE.across);
+    let top = centre_y(paper, bubble.row) - u64::from(BUBBLE.down);
     stamp(page, left, top, &OUTLINE);
 }
 
 /// Paints the outlines of bubbles.
-pub(crate) fn paint_bubbles(page: &mut BitPage, bubbles: &[Bubble])
-    ensures { page.new ≡ painted page.old (any_of bubbles.now bubble_pixels) }
+pub(crate) fn paint_bubbles(page: &mut BitPage, paper: Paper, bubbles: &[Bubble])
+    ensures { page.new ≡ painted page.old (any_of bubbles.now (bubble_pixels paper)) }
 {
     // For the proof alone: what this call's clause says of the page.
     let _columns = page.width();
     for bubble in bubbles {
-        paint_bubble(page, bubble);
+        paint_bubble(page, paper, bubble);
     }
 }

@@ -4,7 +4,7 @@ use std::test::Fail;
 use vx_bits::BitPage;
 use vx_code::{PageCode, tag_of};
 use vx_election::{Election, read_election};
-use vx_grid::Kind;
+use vx_grid::{Kind, Paper};
 use vx_layout::{Bubble, Bubbles, PagePlan, TextLine, TextLines};
 
 // One contest of two candidates.
@@ -40,6 +40,7 @@ fn plan_of(alloc: Global, election: &Election) -> Result<PagePlan, Fail> {
     Ok(PagePlan {
         page: 1,
         of: 2,
+        paper: Paper::Letter,
         bubbles: Bubbles::from_vec(bubbles),
         texts: TextLines::from_vec(vec![in alloc; near, far]?),
     })

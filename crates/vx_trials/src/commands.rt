@@ -1,7 +1,7 @@
 //! Commands over devices in memory: what they write, and what stands where a device fails.
 
 use crate::readings::BORDER;
-use crate::town::TOWN;
+use crate::town::{TOWN, on_legal};
 use std::alloc::AllocError;
 use std::test::Fail;
 use std::thread::Threads;
@@ -14,6 +14,9 @@ const PAGE: u64 = 468_613;
 
 /// How many bytes both pages of the town's card have.
 const WHOLE: u64 = 937_226;
+
+/// How many bytes a page on legal paper has.
+const LEGAL_PAGE: usize = 596_413;
 
 /// The words that print the town's card.
 const PRINT: &[&str] = &["print", "e", "0", "precinct"];
@@ -28,12 +31,14 @@ struct Answer {
     text: Vec<u8>,
 }
 
-/// The files of a command: the town's election as `e`, one that is refused as `b`, one scan as `s`
-/// and a small one as `t`.
-fn files_with<R: AllocGlobal>(rt: &R, scan: &[u8]) -> Result<NamedBytes, AllocError> {
+/// The files of a command: the town's election as `e`, on legal paper as `l`, one that is refused as
+/// `b`, one scan as `s` and a small one as `t`.
+fn files_with<R: AllocGlobal>(rt: &R, scan: &[u8]) -> Result<NamedBytes, Fail> {
     let alloc = rt.alloc();
     let mut files = NamedBytes::new(alloc);
     files.push("e", Bytes::from_slice(alloc, TOWN.as_bytes())?)?;
+    let legal = on_legal(alloc, TOWN)?;
+    files.push("l", Bytes::from_slice(alloc, legal.as_bytes())?)?;
     files.push("b", Bytes::from_slice(alloc, b"[]")?)?;
     files.push("s", Bytes::from_slice(alloc, scan)?)?;
     files.push("t", Bytes::from_slice(alloc, SMALL)?)?;
@@ -59,7 +64,7 @@ fn attempt<R: Threads + Sync + AllocGlobal>(
     read_fails: &[u64],
     write_fails: &[u64],
     room: u64,
-) -> Result<Answer, AllocError> {
+) -> Result<Answer, Fail> {
     let alloc = rt.alloc();
     let words = words_of(rt, line)?;
     let read_calls = Calls::from_vec(Vec::from_slice(alloc, read_fails)?);
@@ -75,7 +80,7 @@ fn attempt<R: Threads + Sync + AllocGlobal>(
 }
 
 /// What `print` writes of the town.
-fn printed<R: Threads + Sync + AllocGlobal>(rt: &R) -> Result<Vec<u8>, AllocError> {
+fn printed<R: Threads + Sync + AllocGlobal>(rt: &R) -> Result<Vec<u8>, Fail> {
     Ok(attempt(rt, &[], PRINT, &[], &[], WHOLE)?.text)
 }
 
@@ -109,6 +114,36 @@ fn the_town_s_card_is_printed(rt: HostRuntime) -> Result<(), Fail> {
         (236, 1870, false),
     ] {
         assert!(rt; is_dark(text.as_slice(), x, y) == dark, "{x} {y}");
+    }
+    Ok(())
+}
+
+#[test]
+fn the_town_s_card_is_printed_on_legal_paper(rt: HostRuntime) -> Result<(), Fail> {
+    let line: &[&str] = &["print", "l", "0", "precinct"];
+    let answer = attempt(&rt, &[], line, &[], &[], 2 * LEGAL_PAGE as u64)?;
+    let text = answer.text.as_slice();
+    let second = text.get(LEGAL_PAGE..).ok_or("one page")?;
+    assert_eq!(rt; text.len(), 2 * LEGAL_PAGE);
+    assert!(rt; text.starts_with(b"P4\n1700 2800\n"));
+    assert!(rt; second.starts_with(b"P4\n1700 2800\n"));
+    // Corners of the first and the last mark, of the first bubble's outline, a dot of the title, code
+    // boxes; and what is light beside them.
+    for (x, y, dark) in [
+        (40, 68, true),
+        (1659, 2731, true),
+        (245, 477, true),
+        (290, 368, true),
+        (188, 2456, true),
+        (332, 2456, true),
+        (39, 68, false),
+        (1660, 2731, false),
+        (244, 477, false),
+        (292, 368, false),
+        (236, 2456, false),
+        (284, 2456, false),
+    ] {
+        assert!(rt; is_dark(text, x, y) == dark, "{x} {y}");
     }
     Ok(())
 }

@@ -105,6 +105,13 @@ const ROWS: &str = r#""title":"Town", ->  -> 2 title
 "vxReasons":["Overvote","WriteIn"] -> "vxReasons":[7] -> 3 vxReasons[0]
 "vxReasons":["Overvote","WriteIn"] -> "vxReasons":["Overvote","overvote"] -> 4 vxReasons[1]
 "vxReasons":[ -> "vxReasons":["Overvote","Overvote","Undervote","MarginalMark","BlankBallot"],"was":[ -> ok
+"vxReasons":[ -> "vxPaper":"letter","vxReasons":[ -> ok
+"vxReasons":[ -> "vxPaper":"legal","vxReasons":[ -> ok
+"vxReasons":[ -> "vxPaper":"a4","vxReasons":[ -> 4 vxPaper
+"vxReasons":[ -> "vxPaper":"Legal","vxReasons":[ -> 4 vxPaper
+"vxReasons":[ -> "vxPaper":14,"vxReasons":[ -> 3 vxPaper
+"vxReasons":[ -> "vxPaper":null,"vxReasons":[ -> 3 vxPaper
+"vxReasons":[ -> "vxPaper":"a4","vxReasons":["none"],"was":[ -> 4 vxReasons[0]
 "title":"Town","date":"2024-11-05" -> "title":7 -> 3 title
 "vxReasons":[ -> "vxReasons":7,"vxMarkThousandths":{"definite":20,"marginal":20},"was":[ -> 7 13 13
 "Town" -> "\ud800" -> 1
@@ -183,7 +190,7 @@ fn each_rule_of_each_member(rt: HostRuntime) -> Result<(), Fail> {
         assert!(rt; holds(rt.alloc(), row)?, "{row}");
         count = count.saturating_add(1);
     }
-    assert_eq!(rt; count, 91);
+    assert_eq!(rt; count, 98);
     Ok(())
 }
 

@@ -1,5 +1,5 @@
 // Cards as planned pages. What is expected was worked out by hand from the rules of the page.
-use crate::town::TOWN;
+use crate::town::{TOWN, on_legal};
 use std::alloc::{AllocError, Global};
 use std::test::*;
 use vx_election::read_election;
@@ -206,6 +206,30 @@ fn contests_flow_through_columns_and_pages(rt: HostRuntime) -> Result<(), Fail> 
     ];
     for (made, wanted) in rows {
         let text = definition(rt.alloc(), made, 1)?;
+        let found = answer(rt.alloc(), text.as_bytes(), 0)?;
+        assert!(rt; found.as_str().contains(wanted), "{wanted}");
+    }
+    Ok(())
+}
+
+#[test]
+fn legal_paper_has_39_rows_of_contests(rt: HostRuntime) -> Result<(), Fail> {
+    let rows = [
+        (councils(1, 37, "Ada"), "\n0.0 4 8\n0.1 4 9\n"),
+        (
+            councils(1, 37, "Ada"),
+            "\n0.36 4 44\n290 368 Council\n290 420 Vote for 1\n",
+        ),
+        (
+            councils(1, 37, "Ada"),
+            "\n290 2396 T - 2024-11-05 - P - page 1 of 2\npage 2 of 2\n290 2396 T - 2024-11-05 - P - page 2 of 2\n",
+        ),
+        (councils(1, 38, "Ada"), "fault 1 k0 40"),
+        (councils(2, 20, "Ada"), "\n0.19 4 27\n1.0 13 8\n"),
+    ];
+    for (made, wanted) in rows {
+        let letter = definition(rt.alloc(), made, 1)?;
+        let text = on_legal(rt.alloc(), letter.as_str())?;
         let found = answer(rt.alloc(), text.as_bytes(), 0)?;
         assert!(rt; found.as_str().contains(wanted), "{wanted}");
     }

@@ -11,6 +11,12 @@ use vx_election::{Election, read_election};
 pub(crate) const TOWN: &str =
     r#"{"title":"Town","date":"2024-11-05","districts":[{"id":"d","name":"Town"}],"precincts":[{"id":"p","name":"North"}],"contests":[{"id":"mayor","type":"candidate","districtId":"d","title":"Mayor","seats":1,"candidates":[{"id":"a","name":"Ada"},{"id":"b","name":"Bo"}]}],"ballotStyles":[{"id":"s","precincts":["p"],"districts":["d"]}]}"#;
 
+/// A definition, on legal paper.
+pub(crate) fn on_legal(alloc: Global, definition: &str) -> Result<String, Fail> {
+    let front = definition.strip_suffix("}").ok_or("no object")?;
+    Ok(format!(in alloc; "{front},\"vxPaper\":\"legal\"}}")?)
+}
+
 /// The town's election, read.
 pub(crate) fn town(alloc: Global) -> Result<Election, Fail>
     ensures { IfOk result (λ election. IsValid election) }

@@ -11,12 +11,12 @@ loop-n-init c = painted-begun c.args.page.now c.width-columns.ensures.whole
 pub loop-n-preserved : goal.loop-n-preserved
 loop-n-preserved c =
     elim c.if-printed-n.branch [
-      | then-printed-n w ↦ painted-next_chosen c.args.page.now c.loop-n.page _ c.loop-n.n (λ n. get_or c.args.printed.now n false) box_pixels w.if-printed-n.true c.loop-n.invariant (w.page-is ∙ w.paint_box.ensures)
-      | else-printed-n w ↦ painted-not_chosen c.args.page.now c.loop-n.page _ c.loop-n.n (λ n. get_or c.args.printed.now n false) box_pixels w.if-printed-n.false c.loop-n.invariant w.page-is
+      | then-printed-n w ↦ painted-next_chosen c.args.page.now c.loop-n.page _ c.loop-n.n (λ n. get_or c.args.printed.now n false) (box_pixels c.args.paper) w.if-printed-n.true c.loop-n.invariant (w.page-is ∙ w.paint_box.ensures)
+      | else-printed-n w ↦ painted-not_chosen c.args.page.now c.loop-n.page _ c.loop-n.n (λ n. get_or c.args.printed.now n false) (box_pixels c.args.paper) w.if-printed-n.false c.loop-n.invariant w.page-is
     ]
 
 pub returns : goal.returns
 unfolding code_pixels
 returns c =
     let all : c.loop-n.n ≡ 84 = omega arith in
-    c.loop-n.invariant ∙ ap (λ n. painted c.args.page.now (in_any n (printed_box c.args.printed.now))) all
+    c.loop-n.invariant ∙ ap (λ n. painted c.args.page.now (in_any n (printed_box c.args.paper c.args.printed.now))) all

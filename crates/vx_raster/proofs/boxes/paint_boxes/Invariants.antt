@@ -5,4 +5,4 @@ use Rattle.vx_raster.proofs.boxes.paint_boxes.Given as goal
 
 -- of the boxes so far those that are printed are painted
 abbrev pub invariant-loop-n : goal.invariant-loop-n
-invariant-loop-n l = l.page ≡ painted l.fn.page (in_any l.n (printed_box l.printed))
+invariant-loop-n l = l.page ≡ painted l.fn.page (in_any l.n (printed_box l.paper l.printed))

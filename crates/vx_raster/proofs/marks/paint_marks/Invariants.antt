@@ -5,4 +5,4 @@ use Rattle.vx_raster.proofs.marks.paint_marks.Given as goal
 
 -- the marks so far are painted
 abbrev pub invariant-loop-k : goal.invariant-loop-k
-invariant-loop-k l = l.page ≡ painted l.fn.page (in_any l.k mark_pixels)
+invariant-loop-k l = l.page ≡ painted l.fn.page (in_any l.k (mark_pixels l.paper))

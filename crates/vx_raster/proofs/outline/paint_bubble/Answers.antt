@@ -9,5 +9,5 @@ pub returns : goal.returns
 unfolding bubble_pixels
 returns c =
     let bubble = c.args.bubble.now in
-    (rw (c.centre_x-left.ensures.exact, c.centre_y-top.ensures.exact) at c.stamp.ensures)
-    ∙ painted-same c.args.page.now _ _ (λ u v l h. any_of-outline (x_of bubble.col) (y_of bubble.row) (pos u) (pos v) (omega arith) (omega arith))
+    (rw (c.centre_x.ensures.exact, c.centre_y.ensures.exact, c.from.ensures, c.from-2.ensures) at c.stamp.ensures)
+    ∙ painted-same c.args.page.now _ _ (λ u v l h. any_of-outline (x_of bubble.col) (y_of c.args.paper bubble.row) (pos u) (pos v) (omega arith) (omega arith))

@@ -5,4 +5,4 @@ use Rattle.vx_raster.proofs.outline.paint_bubbles.Given as goal
 
 -- the bubbles so far are painted
 abbrev pub invariant-loop-bubble : goal.invariant-loop-bubble
-invariant-loop-bubble l = l.page ≡ painted l.fn.page (any_of (take l.bubble-index l.bubbles) bubble_pixels)
+invariant-loop-bubble l = l.page ≡ painted l.fn.page (any_of (take l.bubble-index l.bubbles) (bubble_pixels l.paper))
