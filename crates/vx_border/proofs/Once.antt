@@ -1,5 +1,5 @@
 -- A scan has one border at most, or one first fault.
-use Rattle.std.proofs.Common.{◌≡◌, ◌∙◌, ◌<◌, ◌≤◌, ◌-◌, ◌+◌, ◌*◌, inl, inr, ℕ, zero, suc, List, Result, Ok, Err, pos, arith, refl, sym, ap, ap₂, subst}
+use Rattle.std.proofs.Common.{◌≡◌, ◌∙◌, ◌<◌, ◌≤◌, ◌-◌, inl, inr, ℕ, zero, suc, List, Result, Ok, Err, pos, arith, refl, sym, ap, ap₂, subst}
 use Rattle.std.proofs.lemmas.Bool.{cases_order}
 use Rattle.std.proofs.lemmas.List.{ext_get_or}
 use Rattle.vx_plane.specs.Plane.{Page}
@@ -7,7 +7,7 @@ use Rattle.vx_grid.specs.declared.paper.Paper.{Paper}
 use Rattle.vx_grid.specs.declared.places.Point.{Point}
 use Rattle.vx_grid.specs.declared.side.Side.{Side}
 use Rattle.vx_grid.specs.Paper.{last_row}
-use Rattle.vx_grid.specs.Marks.{first_left, marks_to, marks}
+use Rattle.vx_grid.specs.Marks.{first_left, marks}
 use Rattle.vx_grid.specs.Borders.{MarkPlaces}
 use Rattle.vx_grid.specs.Places.{point_at}
 use Rattle.vx_mark.specs.Corner.{CornerIsOne}

@@ -3,7 +3,7 @@ use std::alloc::{AllocError, Global};
 use std::test::Fail;
 use vx_bits::BitPage;
 use vx_count::Counter;
-use vx_grid::{Paper, Point, Side, marks, mark_of};
+use vx_grid::{Paper, Point, Side, mark_of, marks};
 
 /// A page with the timing marks, moved by some columns and rows.
 fn page_with_marks(

@@ -1,5 +1,5 @@
 -- Images that are read one after another.
-use Rattle.std.proofs.Common.{◌≡◌, ◌+◌, ◌<◌, ◌≤◌, ℕ, List, [], ◌∷◌, length, Option, Some, None, Result, Ok, Err, refl, sym, ap, subst, ◌∙◌, arith}
+use Rattle.std.proofs.Common.{◌≡◌, ◌+◌, ◌<◌, ◌≤◌, ℕ, List, [], ◌∷◌, length, Some, None, Ok, Err, refl, sym, ap, subst, arith}
 use Rattle.vx_plane.specs.Plane.{Page}
 use Rattle.vx_election.specs.declared.election.Election.{Election}
 use Rattle.vx_pbm.specs.declared.fault.PbmFault.{PbmFault}

@@ -42,7 +42,10 @@ fn push_page(
     let (card, page) = (code.card, code.page);
     let kind = kind_word(code.kind, code.test);
     if turned {
-        write!(text, "page {number} card {card} side {page} kind {kind} turned\n")
+        write!(
+            text,
+            "page {number} card {card} side {page} kind {kind} turned\n"
+        )
     } else {
         write!(text, "page {number} card {card} side {page} kind {kind}\n")
     }

@@ -115,7 +115,13 @@ fn read_turned<'a>(
         (either_way (Err first) (upright_reading_of election.now counter.now)) result }
 {
     match read_upright(alloc, election, plans, counter) {
-        Ok((reading, plan)) => Ok((PageReading { turned: true, ..reading }, plan)),
+        Ok((reading, plan)) => {
+            let over = PageReading {
+                turned: true,
+                ..reading
+            };
+            Ok((over, plan))
+        }
         Err(other) => {
             if is_no_memory(other) {
                 return Err(other);

@@ -4,15 +4,15 @@
 ghost use Rattle.std.specs.Prelude.{◌<◌, ◌^◌, IfOk};
 ghost use Rattle.vx_election.specs.Valid.{IsValid};
 
-use crate::town::{TOWN, town};
+use crate::town::{TOWN, on_legal};
 use std::alloc::Global;
 use std::test::Fail;
 use vx_base::Bytes;
-use vx_bits::BitPage;
-use vx_code::{PageCode, tag_of};
+use vx_bits::{BitPage, BitView};
+use vx_code::{PageCode, tag_of, version_of};
 use vx_command_read::read;
-use vx_election::Election;
-use vx_grid::Kind;
+use vx_election::{Election, read_election};
+use vx_grid::{Kind, Paper};
 use vx_io::{Calls, MemInputs, MemSink, NamedBytes};
 use vx_json::{Text, Texts};
 use vx_layout::plan_card;
@@ -23,12 +23,18 @@ use vx_raster::paint;
 pub(crate) const BORDER: &str =
     "border 56,59 105,59 153,59 201,59 249,59 297,59 345,59 393,59 441,59 489,59 537,59 585,59 633,59 681,59 729,59 777,59 825,59 873,59 921,59 969,59 1017,59 1065,59 1113,59 1161,59 1209,59 1257,59 1305,59 1353,59 1401,59 1449,59 1497,59 1545,59 1593,59 1641,59 1641,111 1641,163 1641,215 1641,267 1641,319 1641,371 1641,423 1641,475 1641,527 1641,579 1641,631 1641,683 1641,735 1641,787 1641,839 1641,891 1641,943 1641,995 1641,1047 1641,1099 1641,1151 1641,1203 1641,1255 1641,1307 1641,1359 1641,1411 1641,1463 1641,1515 1641,1567 1641,1619 1641,1671 1641,1723 1641,1775 1641,1827 1641,1879 1641,1931 1641,1983 1641,2035 1641,2087 1641,2139 57,111 57,163 57,215 57,267 57,319 57,371 57,423 57,475 57,527 57,579 57,631 57,683 57,735 57,787 57,839 57,891 57,943 57,995 57,1047 57,1099 57,1151 57,1203 57,1255 57,1307 57,1359 57,1411 57,1463 57,1515 57,1567 57,1619 57,1671 57,1723 57,1775 57,1827 57,1879 57,1931 57,1983 57,2035 57,2087 57,2139 105,2139 153,2139 201,2139 249,2139 297,2139 345,2139 393,2139 441,2139 489,2139 537,2139 585,2139 633,2139 681,2139 729,2139 777,2139 825,2139 873,2139 921,2139 969,2139 1017,2139 1065,2139 1113,2139 1161,2139 1209,2139 1257,2139 1305,2139 1353,2139 1401,2139 1449,2139 1497,2139 1545,2139 1593,2139\n";
 
+/// The timing marks of a clean page on legal paper.
+const LEGAL_BORDER: &str =
+    "border 56,73 105,73 153,73 201,73 249,73 297,73 345,73 393,73 441,73 489,73 537,73 585,73 633,73 681,73 729,73 777,73 825,73 873,73 921,73 969,73 1017,73 1065,73 1113,73 1161,73 1209,73 1257,73 1305,73 1353,73 1401,73 1449,73 1497,73 1545,73 1593,73 1641,73 1641,125 1641,177 1641,229 1641,281 1641,333 1641,385 1641,437 1641,489 1641,541 1641,593 1641,645 1641,697 1641,749 1641,801 1641,853 1641,905 1641,957 1641,1009 1641,1061 1641,1113 1641,1165 1641,1217 1641,1269 1641,1321 1641,1373 1641,1425 1641,1477 1641,1529 1641,1581 1641,1633 1641,1685 1641,1737 1641,1789 1641,1841 1641,1893 1641,1945 1641,1997 1641,2049 1641,2101 1641,2153 1641,2205 1641,2257 1641,2309 1641,2361 1641,2413 1641,2465 1641,2517 1641,2569 1641,2621 1641,2673 1641,2725 57,125 57,177 57,229 57,281 57,333 57,385 57,437 57,489 57,541 57,593 57,645 57,697 57,749 57,801 57,853 57,905 57,957 57,1009 57,1061 57,1113 57,1165 57,1217 57,1269 57,1321 57,1373 57,1425 57,1477 57,1529 57,1581 57,1633 57,1685 57,1737 57,1789 57,1841 57,1893 57,1945 57,1997 57,2049 57,2101 57,2153 57,2205 57,2257 57,2309 57,2361 57,2413 57,2465 57,2517 57,2569 57,2621 57,2673 57,2725 105,2725 153,2725 201,2725 249,2725 297,2725 345,2725 393,2725 441,2725 489,2725 537,2725 585,2725 633,2725 681,2725 729,2725 777,2725 825,2725 873,2725 921,2725 969,2725 1017,2725 1065,2725 1113,2725 1161,2725 1209,2725 1257,2725 1305,2725 1353,2725 1401,2725 1449,2725 1497,2725 1545,2725 1593,2725\n";
+
 /// The first page without a mark.
 const CLEAR: &str = "bubble 0 0 0 0 clear\nbubble 1 0 1 0 clear\n";
 
-/// What is painted on a page: which page of the card, and the card, the page and the tag of its code.
+/// What is painted on a page: its paper, which page of the card, and the card, the page and the tag of
+/// its code.
 #[derive(Clone, Copy)]
 struct Painted {
+    paper: Paper,
     page: usize,
     card: u32,
     number: u32,
@@ -37,6 +43,7 @@ struct Painted {
 
 /// The first page.
 const FIRST: Painted = Painted {
+    paper: Paper::Letter,
     page: 0,
     card: 0,
     number: 1,
@@ -54,13 +61,29 @@ fn tag_on(election: &Election, is_other: bool) -> u32
     }
 }
 
+/// The town's definition on a paper.
+fn definition_on(alloc: Global, paper: Paper) -> Result<String, Fail> {
+    match paper {
+        Paper::Letter => Ok(String::from_str(alloc, TOWN)?),
+        Paper::Legal => on_legal(alloc, TOWN),
+    }
+}
+
+/// The town's election on a paper, read.
+fn election_on(alloc: Global, paper: Paper) -> Result<Election, Fail>
+    ensures { IfOk result (λ election. IsValid election) }
+{
+    let definition = definition_on(alloc, paper)?;
+    Ok(read_election(alloc, definition.as_bytes())?)
+}
+
 /// A page of the town's card.
 fn paint_page(alloc: Global, painted: Painted) -> Result<BitPage, Fail> {
-    let election = town(alloc)?;
+    let election = election_on(alloc, painted.paper)?;
     let plan = plan_card(alloc, &election, 0).map_err(|_| "no plan")?;
     let page = plan.pages.as_slice().get(painted.page).ok_or("no page")?;
     let code = PageCode {
-        version: 1,
+        version: version_of(painted.paper),
         test: false,
         kind: Kind::Precinct,
         card: painted.card % 1024,
@@ -70,12 +93,18 @@ fn paint_page(alloc: Global, painted: Painted) -> Result<BitPage, Fail> {
     Ok(paint(alloc, &election, page, &code)?)
 }
 
-/// The text that `read` writes of a page of the town.
+/// The text that `read` writes of a page of the town on letter paper.
 fn read_text(alloc: Global, page: &BitPage) -> Result<Vec<u8>, Fail> {
+    read_on(alloc, Paper::Letter, page)
+}
+
+/// The text that `read` writes of a page of the town on a paper.
+fn read_on(alloc: Global, paper: Paper, page: &BitPage) -> Result<Vec<u8>, Fail> {
+    let definition = definition_on(alloc, paper)?;
     let mut scan = Bytes::new(alloc);
     write_p4(&page.view(), &mut scan)?;
     let mut files = NamedBytes::new(alloc);
-    files.push("e", Bytes::from_slice(alloc, TOWN.as_bytes())?)?;
+    files.push("e", Bytes::from_slice(alloc, definition.as_bytes())?)?;
     files.push("s", scan)?;
     let mut inputs = MemInputs::new(files, Calls::new(alloc));
     let mut out = MemSink::new(alloc, 10_000, Calls::new(alloc))?;
@@ -202,5 +231,91 @@ fn the_first_fault_of_a_scan_is_said(rt: HostRuntime) -> Result<(), Fail> {
             "{fault}"
         );
     }
+    Ok(())
+}
+
+/// Darkens the pixels of a page that stand opposite to the dark ones in row `y` of another.
+fn turn_row(page: &BitView<'_>, y: u32, back: &mut BitPage)
+    requires { y < 4096 }
+{
+    let (width, height) = (back.width(), back.height());
+    for x in 0..width {
+        if page.dark(x as i32, y as i32) {
+            let top = (height - 1).saturating_sub(y);
+            back.darken(u64::from(width - 1 - x), u64::from(top), 1, 1);
+        }
+    }
+}
+
+/// A page turned by 180 degrees.
+fn turned(alloc: Global, page: &BitPage) -> Result<BitPage, Fail> {
+    let (width, height) = (page.width(), page.height());
+    let mut back = BitPage::new(alloc, width, height)?;
+    for y in 0..height {
+        turn_row(&page.view(), y, &mut back);
+    }
+    Ok(back)
+}
+
+#[test]
+fn a_page_is_read_upside_down(rt: HostRuntime) -> Result<(), Fail> {
+    let alloc = rt.alloc();
+    let over = turned(alloc, &marked_within(alloc)?)?;
+    let bubbles = "bubble 0 0 0 0 clear\nbubble 1 0 1 75 marked\n";
+    let wanted = format!(in alloc; "page 1 card 0 side 1 kind precinct turned\n{BORDER}{bubbles}end\n")?;
+    assert_eq!(rt; read_text(alloc, &over)?.as_slice(), wanted.as_bytes());
+    // Where it has a fault both ways, the one of the scan as it lies is told: its code rows are blank.
+    let unclear = turned(alloc, &paired(alloc)?)?;
+    assert_eq!(rt;
+        read_text(alloc, &unclear)?.as_slice(),
+        b"page 1 fault 3.1 BadPair 0 0 0\n"
+    );
+    Ok(())
+}
+
+#[test]
+fn legal_pages_are_read(rt: HostRuntime) -> Result<(), Fail> {
+    let alloc = rt.alloc();
+    let legal = Painted {
+        paper: Paper::Legal,
+        ..FIRST
+    };
+    let back = Painted {
+        page: 1,
+        number: 2,
+        ..legal
+    };
+    let first = paint_page(alloc, legal)?;
+    for (page, line, bubbles) in [
+        (turned(alloc, &first)?, "side 1 kind precinct turned", CLEAR),
+        (first, "side 1 kind precinct", CLEAR),
+        (paint_page(alloc, back)?, "side 2 kind precinct", ""),
+    ] {
+        let wanted = format!(in alloc; "page 1 card 0 {line}\n{LEGAL_BORDER}{bubbles}end\n")?;
+        assert_eq!(rt;
+            read_on(alloc, Paper::Legal, &page)?.as_slice(),
+            wanted.as_bytes(),
+            "{line}"
+        );
+    }
+    Ok(())
+}
+
+#[test]
+fn a_page_of_the_other_paper_is_no_frame(rt: HostRuntime) -> Result<(), Fail> {
+    let alloc = rt.alloc();
+    let letter = paint_page(alloc, FIRST)?;
+    assert_eq!(rt;
+        read_on(alloc, Paper::Legal, &letter)?.as_slice(),
+        b"page 1 fault 1 FrameSize 1700 2200\n"
+    );
+    let legal = Painted {
+        paper: Paper::Legal,
+        ..FIRST
+    };
+    assert_eq!(rt;
+        read_text(alloc, &paint_page(alloc, legal)?)?.as_slice(),
+        b"page 1 fault 1 FrameSize 1700 2800\n"
+    );
     Ok(())
 }
