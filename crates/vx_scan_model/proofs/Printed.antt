@@ -199,7 +199,7 @@ module _ (are : TimingMarksAreMarks) (plan : PagePlan) (keeps : KeepsClear plan)
       (is_false _ (λ code. let k = in_any-some 84 (printed_box plan.paper boxes) x y code in
         (keeps.clear.zones_from_code n no_bubble few).apart x y zone (in_any-one 84 k.0 (λ m. box_zone_at plan.paper (place_of_box plan.paper m)) x y k.1 (code-zoned k.0 x y (box-of k.0 x y k.2)))))
       (is_false _ (λ some. let k = any_of-some plan.texts no_line line_pixels x y some in
-        ((keeps.clear.zones_from_text n no_bubble few) k.0 no_line k.1).apart x y zone k.2))
+        ((keeps.clear.zones_from_text k.0 no_line k.1) n no_bubble few).apart x y zone k.2))
       ∙ same_bool _ _ own (any_of-one plan.bubbles n no_bubble (bubble_pixels plan.paper) x y few)
     where
       code-zoned : (k : ℕ) (x y : ℤ) → round sizes.code_box (x_of (place_of_box plan.paper k).0) (y_of plan.paper (place_of_box plan.paper k).1) x y ≡ true → box_zone_at plan.paper (place_of_box plan.paper k) x y ≡ true
