@@ -1,7 +1,7 @@
 -- The election that a command takes first, and the plans of its cards.
 use Rattle.std.specs.Prelude.{ℕ, List, Option, Result, Ok, Err}
 use Rattle.vx_base.specs.Results.{◌>>=◌}
-use Rattle.vx_election.specs.declared.election.Election.{Election}
+use Rattle.vx_election_model.specs.declared.election.Election.{Election}
 use Rattle.vx_election.specs.declared.fault.ElectionFault.{ElectionFault}
 use Rattle.vx_election.specs.Reading.{election_of}
 use Rattle.vx_layout.specs.declared.plan.CardPlan.{CardPlan}

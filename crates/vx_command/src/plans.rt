@@ -1,6 +1,6 @@
 ghost use Rattle.std.specs.Prelude.{IfOk};
 ghost use Rattle.vx_base.specs.Refusals.{Gives};
-ghost use Rattle.vx_election.specs.Valid.{IsValid};
+ghost use Rattle.vx_election_model.specs.Valid.{IsValid};
 ghost use Rattle.vx_layout.specs.Plans.{ArePlansOf};
 ghost use Rattle.vx_command.specs.Devices.{TouchesNothing};
 ghost use Rattle.vx_command.specs.Elections.{plans_in};
@@ -8,7 +8,7 @@ ghost use Rattle.vx_command.specs.Steps.{is_no_memory};
 
 use crate::halt::{Halt, halt_of_card};
 use std::alloc::Global;
-use vx_election::Election;
+use vx_election_model::Election;
 use vx_layout::{CardPlans, plan_cards};
 
 /// The plans of all cards of an election, in order, or why a command that needs them halts.

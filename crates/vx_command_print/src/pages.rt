@@ -1,7 +1,7 @@
 ghost use Rattle.std.specs.Prelude.{◌≡◌, ◌<◌, false, All, Bool, Ok};
 ghost use Rattle.vx_base.specs.Refusals.{Gives};
 ghost use Rattle.vx_code.specs.Code.{IsInRange};
-ghost use Rattle.vx_election.specs.Valid.{IsValid};
+ghost use Rattle.vx_election_model.specs.Valid.{IsValid};
 ghost use Rattle.vx_layout.specs.Printed.{code_of};
 ghost use Rattle.vx_command.specs.Acts.{writing};
 ghost use Rattle.vx_command.specs.Devices.{TouchesSink, writes_nothing};
@@ -14,7 +14,7 @@ use std::alloc::Global;
 use vx_base::Bytes;
 use vx_code::{PageCode, tag_of, version_of};
 use vx_command::{Halt, acts_in_order, steps_in_order, write_text};
-use vx_election::Election;
+use vx_election_model::Election;
 use vx_grid::page_height;
 use vx_io::Sink;
 use vx_layout::PagePlan;

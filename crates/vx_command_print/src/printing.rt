@@ -1,7 +1,7 @@
 ghost use Rattle.std.specs.Prelude.{◌≡◌, true, false, IfOk};
 ghost use Rattle.std.specs.Option.{ForSome};
 ghost use Rattle.vx_base.specs.Refusals.{Gives};
-ghost use Rattle.vx_election.specs.Valid.{IsValid};
+ghost use Rattle.vx_election_model.specs.Valid.{IsValid};
 ghost use Rattle.vx_layout.specs.Pages.{IsNumbered};
 ghost use Rattle.vx_layout.specs.Plan.{plan_of};
 ghost use Rattle.vx_command.specs.Devices.{is_keeper_fault, LeavesInputs, LeavesSink, TouchesNothing, TouchesSink, writes_nothing};
@@ -13,7 +13,7 @@ use crate::ballot::Ballot;
 use crate::pages::print_pages;
 use std::alloc::Global;
 use vx_command::{Halt, halt_of_card, steps_in_order, take_election};
-use vx_election::Election;
+use vx_election_model::Election;
 use vx_io::{Inputs, Sink};
 use vx_layout::{CardFault, CardPlan, plan_card};
 

@@ -1,7 +1,7 @@
 -- Images that are read one after another.
 use Rattle.std.proofs.Common.{◌≡◌, ◌+◌, ◌<◌, ◌≤◌, ℕ, List, [], ◌∷◌, length, Some, None, Ok, Err, refl, sym, ap, subst, arith}
 use Rattle.vx_plane.specs.Plane.{Page}
-use Rattle.vx_election.specs.declared.election.Election.{Election}
+use Rattle.vx_election_model.specs.declared.election.Election.{Election}
 use Rattle.vx_pbm.specs.declared.fault.PbmFault.{PbmFault}
 use Rattle.vx_pbm.specs.declared.fault.PbmFault.TheVariants.{OutOfMemory}
 use Rattle.vx_pbm.specs.Images.{Unread, whole, Images, with_page, ended, images_left, images_of, Walks}

@@ -1,6 +1,6 @@
 -- Scans that are read one after another.
 use Rattle.std.proofs.Common.{◌≡◌, ◌+◌, ℕ, List, length, Result, Ok, Err, subst}
-use Rattle.vx_election.specs.declared.election.Election.{Election}
+use Rattle.vx_election_model.specs.declared.election.Election.{Election}
 use Rattle.vx_io.specs.Outside.{Files}
 use Rattle.vx_pbm.specs.Images.{images_of}
 use Rattle.vx_command.specs.declared.halt.Halt.{Halt}

@@ -1,7 +1,7 @@
 -- What `read` does: it takes its election, and then scan after scan, each of which it reads image after image.
 use Rattle.std.specs.Prelude.{ℕ, ◌+◌, ◌∷◌, [], List, length, Option, Some, None}
 use Rattle.vx_plane.specs.Plane.{Page}
-use Rattle.vx_election.specs.declared.election.Election.{Election}
+use Rattle.vx_election_model.specs.declared.election.Election.{Election}
 use Rattle.vx_io.specs.Outside.{Files}
 use Rattle.vx_pbm.specs.declared.fault.PbmFault.{PbmFault}
 use Rattle.vx_pbm.specs.Images.{Images, images_of}

@@ -1,6 +1,6 @@
 -- How far `read` has come behind one scan.
 use Rattle.std.specs.Prelude.{◌≡◌, ℕ, ◌+◌, ◌∷◌, List, length, Result, Ok, Err}
-use Rattle.vx_election.specs.declared.election.Election.{Election}
+use Rattle.vx_election_model.specs.declared.election.Election.{Election}
 use Rattle.vx_io.specs.Outside.{Files}
 use Rattle.vx_pbm.specs.Images.{Images}
 use Rattle.vx_command.specs.declared.halt.Halt.{Halt}

@@ -1,5 +1,5 @@
 ghost use Rattle.std.specs.Prelude.{◌≡◌, ◌≤◌, ◌<◌, ◌+◌, ◌^◌, false, length, Bool, IfOk};
-ghost use Rattle.vx_election.specs.Valid.{IsValid};
+ghost use Rattle.vx_election_model.specs.Valid.{IsValid};
 ghost use Rattle.vx_layout.specs.Plans.{ArePlansOf};
 ghost use Rattle.vx_pbm.specs.Images.{images_of};
 ghost use Rattle.vx_command.specs.Acts.{writing};
@@ -12,7 +12,7 @@ use crate::reading_text::image_text;
 use std::alloc::Global;
 use vx_base::Bytes;
 use vx_command::{Halt, acts_in_order, halt_of_bitmap, steps_in_order, write_text};
-use vx_election::Election;
+use vx_election_model::Election;
 use vx_io::Sink;
 use vx_layout::CardPlans;
 use vx_pbm::{Image, PbmReader};

@@ -1,6 +1,6 @@
 ghost use Rattle.std.specs.Prelude.{◌≡◌, ◌≤◌, true, false, length};
 ghost use Rattle.std.specs.Option.{ForSome};
-ghost use Rattle.vx_election.specs.Valid.{IsValid};
+ghost use Rattle.vx_election_model.specs.Valid.{IsValid};
 ghost use Rattle.vx_command.specs.Devices.{is_keeper_fault, LeavesInputs, LeavesSink, writes_nothing};
 ghost use Rattle.vx_command.specs.Done.{IsWritten};
 ghost use Rattle.vx_command.specs.Elections.{once_planned};
@@ -9,7 +9,7 @@ ghost use Rattle.vx_command_read.specs.Outcome.{scans_outcome, read_outcome};
 use crate::scans::read_scans;
 use std::alloc::Global;
 use vx_command::{Halt, plan_all, steps_in_order, take_election};
-use vx_election::Election;
+use vx_election_model::Election;
 use vx_io::{Inputs, Sink};
 use vx_json::Texts;
 use vx_layout::CardPlans;

@@ -1,6 +1,6 @@
 ghost use Rattle.std.specs.Prelude.{◌≡◌, ◌++◌, false, Ok, OnOk, length, string_bytes};
 ghost use Rattle.vx_base.specs.Refusals.{Gives};
-ghost use Rattle.vx_election.specs.Valid.{IsValid};
+ghost use Rattle.vx_election_model.specs.Valid.{IsValid};
 ghost use Rattle.vx_layout.specs.Plans.{ArePlansOf};
 ghost use Rattle.vx_scan_model.specs.Faults.{is_no_memory as is_page_no_memory};
 ghost use Rattle.vx_command.specs.Steps.{is_no_memory};
@@ -12,7 +12,7 @@ use vx_base::{Bytes, OutOfMemory};
 use vx_bits::BitView;
 use vx_code::PageCode;
 use vx_command::{Halt, kind_word};
-use vx_election::Election;
+use vx_election_model::Election;
 use vx_grid::{Border, State, marks};
 use vx_layout::{Bubble, CardPlans};
 use vx_page::read_planned;

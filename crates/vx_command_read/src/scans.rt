@@ -1,6 +1,6 @@
 ghost use Rattle.std.specs.Prelude.{◌≡◌, ◌≤◌, ◌<◌, ◌+◌, ◌^◌, false, length, map, IfOk};
 ghost use Rattle.std.specs.Option.{ForSome};
-ghost use Rattle.vx_election.specs.Valid.{IsValid};
+ghost use Rattle.vx_election_model.specs.Valid.{IsValid};
 ghost use Rattle.vx_layout.specs.Plans.{ArePlansOf};
 ghost use Rattle.vx_command.specs.Devices.{is_keeper_fault, LeavesInputs, LeavesSink, writes_nothing};
 ghost use Rattle.vx_command.specs.Done.{IsWritten};
@@ -11,7 +11,7 @@ use crate::images::read_scan;
 use std::alloc::Global;
 use vx_base::Bytes;
 use vx_command::{Halt, INPUT_LIMIT, acts_in_order, steps_in_order, take_input};
-use vx_election::Election;
+use vx_election_model::Election;
 use vx_io::{Inputs, Sink};
 use vx_json::Text;
 use vx_layout::CardPlans;

@@ -12,9 +12,10 @@ use Rattle.vx_json.specs.Reading.{need_in, string_in, text_in, whole_in, list_in
 use Rattle.vx_election.specs.declared.fault.ElectionFault.{ElectionFault}
 use Rattle.vx_election.specs.declared.fault.ElectionFault.TheVariants.{UnknownId}
 use Rattle.vx_election.specs.Faults.{of_json}
-use Rattle.vx_election.specs.Ids.{is_id, place_in, is_among, id_in, new_id_in, reference_in, new_reference_in}
+use Rattle.vx_election_model.specs.Ids.{is_id}
+use Rattle.vx_election.specs.Ids.{place_in, is_among, id_in, new_id_in, reference_in, new_reference_in}
 use Rattle.vx_election.specs.Members.{optional, text_member, optional_text, whole_member, id_member, reference_member, optional_reference, list_up_to, list_member, optional_list, each_of}
-use Rattle.vx_election.specs.Valid.{IsText}
+use Rattle.vx_election_model.specs.Valid.{IsText}
 
 -- of a value of JSON
 read : {A : Type 0} (P : A → Type 0) (r : Result A JsonFault) → IfOk r P → IfOk (of_json r) P

@@ -19,27 +19,33 @@ use Rattle.vx_grid.specs.Sizes.{inner_pixels}
 use Rattle.vx_json.specs.Reading.{need_in, string_in}
 use Rattle.vx_election.specs.declared.fault.ElectionFault.{ElectionFault}
 use Rattle.vx_election.specs.declared.fault.ElectionFault.TheVariants.{WrongKind}
-use Rattle.vx_election.specs.declared.named.Named.{Named}
-use Rattle.vx_election.specs.declared.choice.Choice.{Choice}
-use Rattle.vx_election.specs.declared.contest.Contest.{Contest}
+use Rattle.vx_election_model.specs.declared.named.Named.{Named}
+use Rattle.vx_election_model.specs.declared.choice.Choice.{Choice}
+use Rattle.vx_election_model.specs.declared.contest.Contest.{Contest}
 use Rattle.vx_election.specs.declared.contests.Heading.{Heading}
 use Rattle.vx_election.specs.declared.contests.Voting.{Voting}
 use Rattle.vx_election.specs.declared.contests.Question.{Question}
-use Rattle.vx_election.specs.declared.style.Style.{Style}
-use Rattle.vx_election.specs.declared.reason.Reason.TheVariants.{MarginalMark}
+use Rattle.vx_election_model.specs.declared.style.Style.{Style}
+use Rattle.vx_election_model.specs.declared.reason.Reason.TheVariants.{MarginalMark}
 use Rattle.vx_election.specs.Names as names
-use Rattle.vx_election.specs.Ids.{is_id, place_in, is_among}
-use Rattle.vx_election.specs.Dates.{is_date, date_in}
+use Rattle.vx_election_model.specs.Ids.{is_id}
+use Rattle.vx_election.specs.Ids.{place_in, is_among}
+use Rattle.vx_election_model.specs.Dates.{is_date}
+use Rattle.vx_election.specs.Dates.{date_in}
 use Rattle.vx_election.specs.Faults.{of_json}
 use Rattle.vx_election.specs.Members.{optional_text, optional_flag, whole_member, list_up_to, each_of}
-use Rattle.vx_election.specs.Parts.{named_ids, named_at, named_in, named_list_in, next_new_reference_in, new_references_in}
-use Rattle.vx_election.specs.Contests.{with_parties, label_limit, label_of, choice_ids, contest_ids, candidate_at, candidate_in, candidate_list_in, candidates_in, affiliations_in, kind_in, heading_in, leave_in, voting_in, candidate_contest, answer_of, label_in, answer_label_in, answer_in, answers_in, question_in, yes_no_contest, contest_at, contest_in, contests_in}
-use Rattle.vx_election.specs.Styles.{style_ids, style_places_in, style_at, style_in, styles_in, card_count}
+use Rattle.vx_election_model.specs.Lists.{named_ids}
+use Rattle.vx_election.specs.Parts.{named_at, named_in, named_list_in, next_new_reference_in, new_references_in}
+use Rattle.vx_election.specs.Contests.{with_parties, label_of, candidate_at, candidate_in, candidate_list_in, candidates_in, affiliations_in, kind_in, heading_in, leave_in, voting_in, candidate_contest, label_in, answer_label_in, answer_in, answers_in, question_in, yes_no_contest, contest_at, contest_in, contests_in}
+use Rattle.vx_election_model.specs.Labels.{label_limit, answer_of}
+use Rattle.vx_election_model.specs.Lists.{choice_ids, contest_ids}
+use Rattle.vx_election_model.specs.Lists.{style_ids, card_count}
+use Rattle.vx_election.specs.Styles.{style_places_in, style_at, style_in, styles_in}
 use Rattle.vx_election.specs.Settings.{pixels_of, are_in_order, default_thresholds, stated_thresholds_in, thresholds_in, default_reasons, reason_list_in, stated_reasons_in, reasons_in}
-use Rattle.vx_election.specs.Reasons.{has_reason}
+use Rattle.vx_election_model.specs.Reasons.{has_reason}
 use Rattle.vx_election.specs.Papers.{paper_in}
 use Rattle.vx_election.specs.Reading.{date_member, parties_in, named_member, contests_member, styles_member, election_in}
-use Rattle.vx_election.specs.Valid.{IsText, AreDistinct, IsNamed, AreNamed, IsCandidate, IsContest, ArePlaces, IsStyle, AreThresholds, AreContests, AreStyles, IsValid}
+use Rattle.vx_election_model.specs.Valid.{IsText, AreDistinct, IsNamed, AreNamed, IsCandidate, IsContest, ArePlaces, IsStyle, AreThresholds, AreContests, AreStyles, IsValid}
 use Rattle.vx_election.proofs.Places.{none-parts}
 use Rattle.vx_election.proofs.Readings.{optional_holds, text_member_holds, optional_text_holds, whole_member_holds, id_member_holds, reference_member_holds, optional_reference_holds, new_reference_in_holds, list_member_holds, optional_list_holds, each_holds}
 

@@ -7,9 +7,9 @@ use Rattle.vx_base.specs.Results.{◌>>=◌}
 use Rattle.vx_json.specs.Reading.{need_in, string_in}
 use Rattle.vx_election.specs.declared.fault.ElectionFault.{ElectionFault}
 use Rattle.vx_election.specs.declared.fault.ElectionFault.TheVariants.{WrongKind, OutOfRange}
-use Rattle.vx_election.specs.declared.named.Named.{Named}
-use Rattle.vx_election.specs.declared.choice.Choice.{Choice}
-use Rattle.vx_election.specs.declared.contest.Contest.{Contest}
+use Rattle.vx_election_model.specs.declared.named.Named.{Named}
+use Rattle.vx_election_model.specs.declared.choice.Choice.{Choice}
+use Rattle.vx_election_model.specs.declared.contest.Contest.{Contest}
 use Rattle.vx_election.specs.declared.contests.Heading.{Heading}
 use Rattle.vx_election.specs.declared.contests.Leave.{Leave}
 use Rattle.vx_election.specs.declared.contests.Voting.{Voting}
@@ -17,7 +17,10 @@ use Rattle.vx_election.specs.declared.contests.Question.{Question}
 use Rattle.vx_election.specs.Names as names
 use Rattle.vx_election.specs.Faults.{of_json}
 use Rattle.vx_election.specs.Members.{optional, id_member, text_member, whole_member, reference_member, optional_text, optional_flag, optional_reference, list_member, optional_list, each_of}
-use Rattle.vx_election.specs.Parts.{named_ids, references_in}
+use Rattle.vx_election_model.specs.Lists.{named_ids}
+use Rattle.vx_election.specs.Parts.{references_in}
+use Rattle.vx_election_model.specs.Lists.{choice_ids, contest_ids}
+use Rattle.vx_election_model.specs.Labels.{label_limit, answer_of}
 
 -- the name of the party at a place
 abbrev pub name_at : List Named → ℕ → List ℕ
@@ -28,21 +31,9 @@ abbrev pub with_parties : List Named → List ℕ → List ℕ → List ℕ
 with_parties parties name [] = name
 with_parties parties name (place ∷ places) = with_parties parties (name ++ 44 ∷ 32 ∷ name_at parties place) places
 
--- how many characters a label may have
-abbrev pub label_limit : ℕ
-label_limit = 58
-
 -- a candidate's label: the name with its parties where that has at most 58 characters, else the name alone
 unfoldable pub label_of : List Named → List ℕ → List ℕ → List ℕ
 label_of parties name places = if nat_le (length (chars (with_parties parties name places))) label_limit then with_parties parties name places else name
-
--- the ids of a contest's choices
-abbrev pub choice_ids : List Choice → List (List ℕ)
-choice_ids choices = map (λ choice. choice.id) choices
-
--- the ids of the contests
-abbrev pub contest_ids : List Contest → List (List ℕ)
-contest_ids contests = map (λ contest. contest.id) contests
 
 -- the parties of a candidate
 unfoldable pub affiliations_in : List Named → Data → List ℕ → Result (List ℕ) ElectionFault
@@ -110,10 +101,6 @@ voting_in parties value path = do
 -- a contest of candidates
 abbrev pub candidate_contest : Heading → Voting → Contest
 candidate_contest heading voting = record { id = heading.id; title = heading.title; description = []; district = heading.district; party = voting.leave.party; seats = voting.seats; choices = voting.choices; write_ins = voting.leave.write_ins; is_yes_no = false }
-
--- an answer of a yes/no contest
-abbrev pub answer_of : List ℕ → List ℕ → Choice
-answer_of id label = record { id = id; label = label; name = label }
 
 -- the label in an object
 unfoldable pub label_in : List ℕ → Data → List ℕ → Result (List ℕ) ElectionFault

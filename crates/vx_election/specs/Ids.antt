@@ -7,14 +7,7 @@ use Rattle.vx_json.specs.Reading.{string_in, is_within}
 use Rattle.vx_election.specs.declared.fault.ElectionFault.{ElectionFault}
 use Rattle.vx_election.specs.declared.fault.ElectionFault.TheVariants.{OutOfRange, RepeatedId, UnknownId}
 use Rattle.vx_election.specs.Faults.{of_json}
-
--- one of A-Z a-z 0-9 - _ .
-abbrev pub is_id_character : ℕ → Bool
-is_id_character b = is_within 65 90 b || is_within 97 122 b || is_within 48 57 b || b == 45 || b == 95 || b == 46
-
--- 1 to 64 of these characters
-unfoldable pub is_id : List ℕ → Bool
-is_id text = is_within 1 64 (length text) && list_all is_id_character text
+use Rattle.vx_election_model.specs.Ids.{is_id}
 
 -- the first place of an id in a list of ids
 abbrev pub place_in : List ℕ → List (List ℕ) → Option ℕ

@@ -1,5 +1,3 @@
-pub mod Options
-pub mod Reasons
 pub mod Faults
 pub mod Names
 pub mod Ids
@@ -12,4 +10,3 @@ pub mod Settings
 pub mod Papers
 pub mod Reading
 pub mod FaultTexts
-pub mod Valid

@@ -4,13 +4,10 @@ use Rattle.serde_json.specs.Data.{Data}
 use Rattle.vx_json.specs.Paths.{element_path}
 use Rattle.vx_base.specs.Results.{◌>>=◌}
 use Rattle.vx_election.specs.declared.fault.ElectionFault.{ElectionFault}
-use Rattle.vx_election.specs.declared.named.Named.{Named}
+use Rattle.vx_election_model.specs.declared.named.Named.{Named}
 use Rattle.vx_election.specs.Ids.{reference_in, new_reference_in}
 use Rattle.vx_election.specs.Members.{id_member, text_member, each_of}
-
--- the ids of a list
-abbrev pub named_ids : List Named → List (List ℕ)
-named_ids list = map (λ named. named.id) list
+use Rattle.vx_election_model.specs.Lists.{named_ids}
 
 -- a party, a district or a precinct, with an id that none of those has
 unfoldable pub named_at : List ℕ → List (List ℕ) → Data → Result Named ElectionFault

@@ -6,19 +6,20 @@ use Rattle.serde_json.specs.Read.{read}
 use Rattle.sha2.specs.Sha256.{sha256}
 use Rattle.vx_base.specs.Results.{◌>>=◌}
 use Rattle.vx_json.specs.Reading.{need_in}
-use Rattle.vx_election.specs.declared.election.Election.{Election}
+use Rattle.vx_election_model.specs.declared.election.Election.{Election}
 use Rattle.vx_election.specs.declared.fault.ElectionFault.{ElectionFault}
 use Rattle.vx_election.specs.declared.fault.ElectionFault.TheVariants.{NotJson, TooManyCards}
-use Rattle.vx_election.specs.declared.named.Named.{Named}
-use Rattle.vx_election.specs.declared.style.Style.{Style}
-use Rattle.vx_election.specs.declared.contest.Contest.{Contest}
+use Rattle.vx_election_model.specs.declared.named.Named.{Named}
+use Rattle.vx_election_model.specs.declared.style.Style.{Style}
+use Rattle.vx_election_model.specs.declared.contest.Contest.{Contest}
 use Rattle.vx_election.specs.Names as names
 use Rattle.vx_election.specs.Faults.{of_json}
 use Rattle.vx_election.specs.Dates.{date_in}
 use Rattle.vx_election.specs.Members.{text_member, optional_text, list_member, optional_list}
 use Rattle.vx_election.specs.Parts.{named_list_in}
 use Rattle.vx_election.specs.Contests.{contests_in}
-use Rattle.vx_election.specs.Styles.{styles_in, card_count}
+use Rattle.vx_election.specs.Styles.{styles_in}
+use Rattle.vx_election_model.specs.Lists.{card_count}
 use Rattle.vx_election.specs.Settings.{thresholds_in, reasons_in}
 use Rattle.vx_election.specs.Papers.{paper_in}
 

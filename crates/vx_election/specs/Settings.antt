@@ -10,13 +10,13 @@ use Rattle.vx_base.specs.Results.{◌>>=◌}
 use Rattle.vx_json.specs.Reading.{string_in}
 use Rattle.vx_election.specs.declared.fault.ElectionFault.{ElectionFault}
 use Rattle.vx_election.specs.declared.fault.ElectionFault.TheVariants.{OutOfRange, BadThresholds}
-use Rattle.vx_election.specs.declared.reason.Reason.{Reason}
-use Rattle.vx_election.specs.declared.reason.Reason.TheVariants.{Overvote, Undervote, MarginalMark, BlankBallot, WriteIn}
-use Rattle.vx_election.specs.declared.reason.ReasonSet.{ReasonSet}
+use Rattle.vx_election_model.specs.declared.reason.Reason.{Reason}
+use Rattle.vx_election_model.specs.declared.reason.Reason.TheVariants.{Overvote, Undervote, MarginalMark, BlankBallot, WriteIn}
+use Rattle.vx_election_model.specs.declared.reason.ReasonSet.{ReasonSet}
 use Rattle.vx_election.specs.Names as names
 use Rattle.vx_election.specs.Faults.{of_json}
 use Rattle.vx_election.specs.Members.{optional, whole_member, list_up_to, each_of}
-use Rattle.vx_election.specs.Reasons.{reason_place}
+use Rattle.vx_election_model.specs.Reasons.{reason_place}
 
 -- thousandths of the pixels inside a bubble's outline, rounded up
 abbrev pub pixels_of : ℕ → ℕ

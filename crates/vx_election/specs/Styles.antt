@@ -4,14 +4,12 @@ use Rattle.serde_json.specs.Data.{Data}
 use Rattle.vx_json.specs.Paths.{member_path, element_path}
 use Rattle.vx_base.specs.Results.{◌>>=◌}
 use Rattle.vx_election.specs.declared.fault.ElectionFault.{ElectionFault}
-use Rattle.vx_election.specs.declared.named.Named.{Named}
-use Rattle.vx_election.specs.declared.style.Style.{Style}
+use Rattle.vx_election_model.specs.declared.named.Named.{Named}
+use Rattle.vx_election_model.specs.declared.style.Style.{Style}
 use Rattle.vx_election.specs.Members.{id_member, optional_reference, list_member, each_of}
-use Rattle.vx_election.specs.Parts.{named_ids, new_references_in}
-
--- the ids of the styles
-abbrev pub style_ids : List Style → List (List ℕ)
-style_ids styles = map (λ style. style.id) styles
+use Rattle.vx_election_model.specs.Lists.{named_ids}
+use Rattle.vx_election.specs.Parts.{new_references_in}
+use Rattle.vx_election_model.specs.Lists.{style_ids}
 
 -- the places that a style names under a member, each once
 unfoldable pub style_places_in : List Named → Data → List ℕ → List ℕ → Result (List ℕ) ElectionFault
@@ -35,7 +33,3 @@ style_in parties districts precincts path found value = style_at parties distric
 -- the styles
 unfoldable pub styles_in : List Named → List Named → List Named → List ℕ → List Data → Result (List Style) ElectionFault
 styles_in parties districts precincts path list = each_of (style_in parties districts precincts path) [] list
-
--- one card for each style and each of its precincts
-abbrev pub card_count : List Style → ℕ
-card_count styles = sum_by (λ style. length style.precincts) styles

@@ -6,11 +6,12 @@ ghost use Rattle.vx_base.specs.Refusals.{Gives};
 ghost use Rattle.vx_election.specs.Faults.{is_no_memory};
 ghost use Rattle.vx_election.specs.Ids.{place_in};
 ghost use Rattle.vx_election.specs.Members.{whole_member};
-ghost use Rattle.vx_election.specs.Contests.{kind_of, kind_in, heading_in, leave_in, voting_in, candidate_contest, label_in, answer_label_in, answer_of, answer_in, answers_in, question_in, yes_no_contest, contest_at, contests_in};
+ghost use Rattle.vx_election.specs.Contests.{kind_of, kind_in, heading_in, leave_in, voting_in, candidate_contest, label_in, answer_label_in, answer_in, answers_in, question_in, yes_no_contest, contest_at, contests_in};
+ghost use Rattle.vx_election_model.specs.Labels.{answer_of};
 
 use crate::candidates::candidates_of;
-use crate::choice::{Choice, Choices};
-use crate::contest::{Contest, Contests};
+use vx_election_model::{Choice, Choices};
+use vx_election_model::{Contest, Contests};
 use crate::directory::Directory;
 use crate::fault::ElectionFault;
 use crate::ids::Ids;

@@ -4,7 +4,8 @@ ghost use Rattle.std.specs.Prelude.{◌≡◌, ◌+◌, ◌<◌, ◌≤◌, ◌*
 ghost use Rattle.serde_json.specs.View.{view};
 ghost use Rattle.vx_base.specs.Refusals.{Gives};
 ghost use Rattle.vx_election.specs.Faults.{is_no_memory};
-ghost use Rattle.vx_election.specs.Dates.{are_digits, number_at, has_date_form, is_calendar_day, is_date, date_in};
+ghost use Rattle.vx_election_model.specs.Dates.{are_digits, number_at, has_date_form, is_calendar_day, is_date};
+ghost use Rattle.vx_election.specs.Dates.{date_in};
 
 use crate::fault::ElectionFault;
 use jiff::civil::Date;
@@ -49,7 +50,7 @@ fn is_calendar_day(year: u32, month: u32, day: u32) -> bool
     Date::new(year as i16, month as i8, day as i8).is_ok()
 }
 
-#[tactic(auto, unfolding(crate::specs::Dates::is_date))]
+#[tactic(auto, unfolding(vx_election_model::specs::Dates::is_date))]
 fn is_date(text: &str) -> bool
     ensures { result ≡ is_date text.now }
 {

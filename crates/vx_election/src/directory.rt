@@ -10,7 +10,7 @@ ghost use Rattle.vx_election.specs.Parts.{named_at, named_list_in};
 use crate::fault::ElectionFault;
 use crate::ids::Ids;
 use crate::members::{id_member, text_member};
-use crate::named::{Named, NamedList};
+use vx_election_model::{Named, NamedList};
 use serde_json::Value;
 use std::alloc::Global;
 use std::marker::Model;
@@ -25,8 +25,8 @@ pub(crate) struct Directory {
 
 impl Model for Directory {
     ghost use Rattle.std.specs.Prelude.{◌≡◌, List};
-    ghost use Rattle.vx_election.specs.declared.named.Named.{Named};
-    ghost use Rattle.vx_election.specs.Parts.{named_ids};
+    ghost use Rattle.vx_election_model.specs.declared.named.Named.{Named};
+    ghost use Rattle.vx_election_model.specs.Lists.{named_ids};
 
     ghost Value = { List Named };
 
@@ -36,7 +36,7 @@ impl Model for Directory {
 }
 
 impl Directory {
-    ghost use Rattle.vx_election.specs.Parts.{named_ids};
+    ghost use Rattle.vx_election_model.specs.Lists.{named_ids};
 
     /// The ids of the list.
     pub(crate) fn ids(&self) -> &Ids

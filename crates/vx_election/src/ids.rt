@@ -1,7 +1,8 @@
 //! The ids of a list, each with its place.
 
 ghost use Rattle.std.specs.Prelude.{◌≡◌, ◌<◌, ◌^◌, ◌++◌, ◌∷◌, [], length, None, IfOk, is_ok, if◌then◌else◌};
-ghost use Rattle.vx_election.specs.Ids.{is_id_character, is_id, place_in, id_in, new_id_in, reference_in};
+ghost use Rattle.vx_election_model.specs.Ids.{is_id_character, is_id};
+ghost use Rattle.vx_election.specs.Ids.{place_in, id_in, new_id_in, reference_in};
 ghost use Rattle.vx_base.specs.Refusals.{Gives, GivesAs};
 ghost use Rattle.vx_election.specs.Faults.{is_no_memory};
 ghost use Rattle.serde_json.specs.View.{view};
@@ -81,7 +82,7 @@ fn are_id_characters(bytes: &[u8]) -> bool
     bytes.iter().all(|byte| is_id_character(*byte))
 }
 
-#[tactic(auto, unfolding(crate::specs::Ids::is_id))]
+#[tactic(auto, unfolding(vx_election_model::specs::Ids::is_id))]
 fn is_id(text: &str) -> bool
     ensures { result ≡ is_id text.now }
 {

@@ -7,32 +7,21 @@
 #![tactic(auto)]
 
 mod candidates;
-mod choice;
-mod contest;
 mod contests;
 mod date;
 mod directory;
-mod election;
 mod fault;
 mod ids;
-mod indexes;
 mod members;
-mod named;
 mod names;
 mod paper;
 mod reading;
-mod reason;
 mod references;
 mod settings;
-mod style;
 mod styles;
 
-pub use choice::{Choice, Choices};
-pub use contest::{Contest, Contests};
-pub use election::Election;
 pub use fault::ElectionFault;
-pub use indexes::Indexes;
-pub use named::{Named, NamedList};
 pub use reading::read_election;
-pub use reason::{Reason, ReasonSet};
-pub use style::{Style, Styles};
+pub use vx_election_model::{
+    Choice, Choices, Contest, Contests, Election, Indexes, Named, NamedList, Reason, ReasonSet, Style, Styles,
+};

@@ -9,7 +9,7 @@ ghost use Rattle.vx_election.specs.Parts.{references_in, new_references_in};
 
 use crate::fault::ElectionFault;
 use crate::ids::{Ids, id_of, reference_of};
-use crate::indexes::Indexes;
+use vx_election_model::Indexes;
 use serde_json::Value;
 use std::alloc::Global;
 use std::collections::BTreeSet;

@@ -2,9 +2,9 @@
 use Rattle.std.proofs.Common.{ℕ, suc, ◌+◌, ◌≤◌, ◌<◌, List, [], ◌∷◌, length, get_or, Bool, true, false, cond, arith}
 use Rattle.std.specs.Prelude.{All}
 use Rattle.std.proofs.lemmas.List.Elements.{All-nil, All-cons, All-weaker}
-use Rattle.vx_election.specs.declared.contest.Contest.{Contest}
-use Rattle.vx_election.specs.declared.style.Style.{Style}
-use Rattle.vx_election.specs.declared.election.Election.{Election}
+use Rattle.vx_election_model.specs.declared.contest.Contest.{Contest}
+use Rattle.vx_election_model.specs.declared.style.Style.{Style}
+use Rattle.vx_election_model.specs.declared.election.Election.{Election}
 use Rattle.vx_styles.specs.Cards.{has_contest, no_style, card_at, contests_from, contests_of_card}
 
 -- numbers that rise

@@ -6,7 +6,7 @@ use Rattle.std.specs.Fmt.{decimal}
 use Rattle.std.proofs.lemmas.Str.{chars-nil, chars-IsAscii}
 use Rattle.std.proofs.lemmas.Str.Ascii.{IsAscii-cons}
 use Rattle.std.proofs.lemmas.Fmt.{IsAscii-decimal, length-decimal-le}
-use Rattle.vx_election.specs.declared.contest.Contest.{Contest}
+use Rattle.vx_election_model.specs.declared.contest.Contest.{Contest}
 use Rattle.vx_layout.specs.Lines.{size_of}
 use Rattle.vx_layout.specs.Blocks.{seats_line}
 

@@ -7,10 +7,10 @@ use Rattle.std.proofs.lemmas.List.Elements.{All-head, All-tail}
 use Rattle.std.proofs.lemmas.List.FromFn.{length-map-range_with_len, length-range_with_len}
 use Rattle.vx_base.proofs.Lists.{length-flat_map_le}
 use Rattle.vx_grid.specs.declared.paper.Paper.{Paper}
-use Rattle.vx_election.specs.declared.choice.Choice.{Choice}
-use Rattle.vx_election.specs.declared.contest.Contest.{Contest}
-use Rattle.vx_election.specs.declared.election.Election.{Election}
-use Rattle.vx_election.specs.Options.{options_of}
+use Rattle.vx_election_model.specs.declared.choice.Choice.{Choice}
+use Rattle.vx_election_model.specs.declared.contest.Contest.{Contest}
+use Rattle.vx_election_model.specs.declared.election.Election.{Election}
+use Rattle.vx_election_model.specs.Options.{options_of}
 use Rattle.vx_styles.specs.declared.card.Card.{Card}
 use Rattle.vx_layout.specs.Lines.{size_of, rows_of, lines_of, line_of, placed_line, lines_at}
 use Rattle.vx_layout.specs.Blocks.{HasSizes, LabelsFit, description_of, seats_line, label_at, heading_rows, option_lines, block_lines}

@@ -6,7 +6,7 @@ use Rattle.std.proofs.lemmas.Bool.{cases_lt}
 use Rattle.std.proofs.lemmas.List.{get_or_append_left, get_or_push}
 use Rattle.vx_base.specs.Results.{◌>>=◌}
 use Rattle.vx_base.proofs.Results.{bind_ok}
-use Rattle.vx_election.specs.declared.election.Election.{Election}
+use Rattle.vx_election_model.specs.declared.election.Election.{Election}
 use Rattle.vx_styles.specs.Cards.{cards_of}
 use Rattle.vx_layout.specs.declared.plan.CardPlan.{CardPlan}
 use Rattle.vx_layout.specs.declared.fault.CardFault.{CardFault}

@@ -6,10 +6,10 @@ use Rattle.std.proofs.lemmas.List.Elements.{All-nil, All-cons, All-head, All-tai
 use Rattle.vx_base.proofs.Lists.{All-flat_map}
 use Rattle.vx_base.proofs.Numbers.{equal-yes, equal-no, equal-from_yes}
 use Rattle.vx_grid.specs.declared.paper.Paper.{Paper}
-use Rattle.vx_election.specs.declared.contest.Contest.{Contest}
-use Rattle.vx_election.specs.declared.election.Election.{Election}
-use Rattle.vx_election.specs.Options.{options_of}
-use Rattle.vx_election.specs.Valid.{IsValid}
+use Rattle.vx_election_model.specs.declared.contest.Contest.{Contest}
+use Rattle.vx_election_model.specs.declared.election.Election.{Election}
+use Rattle.vx_election_model.specs.Options.{options_of}
+use Rattle.vx_election_model.specs.Valid.{IsValid}
 use Rattle.vx_styles.specs.Cards.{contests_of_card}
 use Rattle.vx_layout.specs.declared.bubbles.Bubble.{Bubble}
 use Rattle.vx_layout.specs.declared.pages.PagePlan.{PagePlan}

@@ -8,10 +8,10 @@ use Rattle.vx_base.proofs.Lists.{All-flat_map}
 use Rattle.vx_base.proofs.Numbers.{equal-from_yes}
 use Rattle.vx_grid.specs.declared.paper.Paper.{Paper}
 use Rattle.vx_grid.specs.Grid.{contest_rows}
-use Rattle.vx_election.specs.declared.contest.Contest.{Contest}
-use Rattle.vx_election.specs.declared.election.Election.{Election}
-use Rattle.vx_election.specs.Options.{options_of}
-use Rattle.vx_election.specs.Valid.{IsValid}
+use Rattle.vx_election_model.specs.declared.contest.Contest.{Contest}
+use Rattle.vx_election_model.specs.declared.election.Election.{Election}
+use Rattle.vx_election_model.specs.Options.{options_of}
+use Rattle.vx_election_model.specs.Valid.{IsValid}
 use Rattle.vx_styles.specs.Cards.{contests_of_card}
 use Rattle.vx_layout.specs.declared.bubbles.Bubble.{Bubble}
 use Rattle.vx_layout.specs.declared.plan.CardPlan.{CardPlan}

@@ -6,8 +6,8 @@ use Rattle.std.proofs.lemmas.List.FromFn.{length-map-range_with_len}
 use Rattle.vx_base.proofs.Booleans.{chosen-if}
 use Rattle.vx_base.proofs.Numbers.{below-yes, below-no, below-from_yes, below-from_no}
 use Rattle.vx_base.proofs.Results.{bind_ok}
-use Rattle.vx_election.specs.declared.election.Election.{Election}
-use Rattle.vx_election.specs.Valid.{IsValid}
+use Rattle.vx_election_model.specs.declared.election.Election.{Election}
+use Rattle.vx_election_model.specs.Valid.{IsValid}
 use Rattle.vx_styles.specs.Cards.{cards_of, card_at, contests_of_card}
 use Rattle.vx_layout.specs.declared.pages.PagePlan.{PagePlan}
 use Rattle.vx_layout.specs.declared.plan.CardPlan.{CardPlan}

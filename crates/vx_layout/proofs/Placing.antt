@@ -5,7 +5,7 @@ use Rattle.std.proofs.lemmas.List.Elements.{All-nil, All-cons, All-head, All-tai
 use Rattle.std.proofs.lemmas.Bool.Decides.{nat_tests}
 use Rattle.vx_grid.specs.declared.paper.Paper.{Paper}
 use Rattle.vx_grid.specs.Grid.{contest_rows}
-use Rattle.vx_election.specs.declared.contest.Contest.{Contest}
+use Rattle.vx_election_model.specs.declared.contest.Contest.{Contest}
 use Rattle.vx_layout.specs.declared.flow.Spot.{Spot}
 use Rattle.vx_layout.specs.Blocks.{height_of}
 use Rattle.vx_layout.specs.Flow.{start_of, contest_at, block_at, end_of_block, blocks_from, CanStand, IsPlaced}

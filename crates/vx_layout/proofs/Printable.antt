@@ -5,8 +5,8 @@ use Rattle.std.proofs.lemmas.List.Elements.{All-nil, All-cons, All-head, All-tai
 use Rattle.vx_base.proofs.Booleans.{chosen-none, chosen-unless}
 use Rattle.vx_base.proofs.Numbers.{below-from_no}
 use Rattle.vx_base.proofs.Results.{bind_ok}
-use Rattle.vx_election.specs.declared.choice.Choice.{Choice}
-use Rattle.vx_election.specs.declared.contest.Contest.{Contest}
+use Rattle.vx_election_model.specs.declared.choice.Choice.{Choice}
+use Rattle.vx_election_model.specs.declared.contest.Contest.{Contest}
 use Rattle.vx_grid.specs.declared.paper.Paper.{Paper}
 use Rattle.vx_grid.specs.Grid.{contest_rows}
 use Rattle.vx_layout.specs.declared.fault.LayoutFault.TheVariants.{ContestTooTall}

@@ -4,10 +4,10 @@ use Rattle.std.specs.List.{flat_map, range_with_len}
 use Rattle.std.proofs.lemmas.List.Folds.{flat_map-map}
 use Rattle.vx_base.proofs.Lists.{map-map, map-flat_map, flat_map-same}
 use Rattle.vx_grid.specs.declared.paper.Paper.{Paper}
-use Rattle.vx_election.specs.declared.contest.Contest.{Contest}
-use Rattle.vx_election.specs.declared.election.Election.{Election}
-use Rattle.vx_election.specs.Options.{options_of}
-use Rattle.vx_election.specs.Valid.{IsValid}
+use Rattle.vx_election_model.specs.declared.contest.Contest.{Contest}
+use Rattle.vx_election_model.specs.declared.election.Election.{Election}
+use Rattle.vx_election_model.specs.Options.{options_of}
+use Rattle.vx_election_model.specs.Valid.{IsValid}
 use Rattle.vx_styles.specs.Cards.{contests_of_card}
 use Rattle.vx_layout.specs.declared.bubbles.Bubble.{Bubble}
 use Rattle.vx_layout.specs.declared.pages.PagePlan.{PagePlan}

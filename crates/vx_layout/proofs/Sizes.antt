@@ -2,11 +2,11 @@
 use Rattle.std.proofs.Common.{◌≡◌, ℕ, ◌≤◌, ◌⊎◌, inr, List, [], ◌∷◌, length, Bool, true, false, refl, ap, arith}
 use Rattle.std.specs.Prelude.{All, codes}
 use Rattle.std.proofs.lemmas.List.Elements.{All-nil, All-cons, All-same, All-weaker}
-use Rattle.vx_election.specs.declared.choice.Choice.{Choice}
-use Rattle.vx_election.specs.declared.contest.Contest.{Contest}
-use Rattle.vx_election.specs.declared.election.Election.{Election}
-use Rattle.vx_election.specs.Contests.{answer_of}
-use Rattle.vx_election.specs.Valid.{IsValid, IsContest, IsCandidate, HasChoices, HasCandidates, HasAnswers}
+use Rattle.vx_election_model.specs.declared.choice.Choice.{Choice}
+use Rattle.vx_election_model.specs.declared.contest.Contest.{Contest}
+use Rattle.vx_election_model.specs.declared.election.Election.{Election}
+use Rattle.vx_election_model.specs.Labels.{answer_of}
+use Rattle.vx_election_model.specs.Valid.{IsValid, IsContest, IsCandidate, HasChoices, HasCandidates, HasAnswers}
 use Rattle.vx_layout.specs.Lines.{size_of}
 use Rattle.vx_layout.specs.Blocks.{HasSizes}
 use Rattle.vx_layout.proofs.Labels.{size-nil}

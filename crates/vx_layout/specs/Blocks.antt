@@ -5,9 +5,9 @@ use Rattle.std.specs.List.{flat_map, range_with_len}
 use Rattle.std.specs.Option.{option_map_or}
 use Rattle.vx_grid.specs.declared.paper.Paper.{Paper}
 use Rattle.vx_grid.specs.Grid.{contest_rows}
-use Rattle.vx_election.specs.declared.choice.Choice.{Choice}
-use Rattle.vx_election.specs.declared.contest.Contest.{Contest}
-use Rattle.vx_election.specs.Options.{options_of}
+use Rattle.vx_election_model.specs.declared.choice.Choice.{Choice}
+use Rattle.vx_election_model.specs.declared.contest.Contest.{Contest}
+use Rattle.vx_election_model.specs.Options.{options_of}
 use Rattle.vx_layout.specs.declared.bubbles.Bubble.{Bubble}
 use Rattle.vx_layout.specs.declared.lines.TextLine.{TextLine}
 use Rattle.vx_layout.specs.Lines.{size_of, rows_of, lines_at}

@@ -1,9 +1,9 @@
 -- Which options a card's bubbles stand for, and on which page.
 use Rattle.std.specs.Prelude.{◌≡◌, ℕ, All, List, map}
 use Rattle.std.specs.List.{flat_map, range_with_len}
-use Rattle.vx_election.specs.declared.contest.Contest.{Contest}
-use Rattle.vx_election.specs.declared.election.Election.{Election}
-use Rattle.vx_election.specs.Options.{options_of}
+use Rattle.vx_election_model.specs.declared.contest.Contest.{Contest}
+use Rattle.vx_election_model.specs.declared.election.Election.{Election}
+use Rattle.vx_election_model.specs.Options.{options_of}
 use Rattle.vx_styles.specs.Cards.{contests_of_card}
 use Rattle.vx_layout.specs.declared.bubbles.Bubble.{Bubble}
 use Rattle.vx_layout.specs.declared.pages.PagePlan.{PagePlan}

@@ -5,10 +5,10 @@ use Rattle.std.specs.List.{flat_map, range_with_len}
 use Rattle.vx_base.specs.Results.{◌>>=◌}
 use Rattle.vx_grid.specs.declared.paper.Paper.{Paper}
 use Rattle.vx_grid.specs.Grid.{y_of, contest_rows, foot_row}
-use Rattle.vx_election.specs.declared.named.Named.{Named}
-use Rattle.vx_election.specs.declared.choice.Choice.{Choice}
-use Rattle.vx_election.specs.declared.contest.Contest.{Contest}
-use Rattle.vx_election.specs.declared.election.Election.{Election}
+use Rattle.vx_election_model.specs.declared.named.Named.{Named}
+use Rattle.vx_election_model.specs.declared.choice.Choice.{Choice}
+use Rattle.vx_election_model.specs.declared.contest.Contest.{Contest}
+use Rattle.vx_election_model.specs.declared.election.Election.{Election}
 use Rattle.vx_styles.specs.declared.card.Card.{Card}
 use Rattle.vx_styles.specs.Cards.{cards_of, card_at, contests_of_card}
 use Rattle.vx_layout.specs.declared.bubbles.Bubble.{Bubble}

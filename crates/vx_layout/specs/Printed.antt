@@ -3,8 +3,8 @@ use Rattle.std.specs.Prelude.{All, ◌≡◌, ◌≤◌, ℕ, ◌-◌, Bool, Ok,
 use Rattle.vx_plane.specs.Plane.{Pixels, Page, page_of}
 use Rattle.vx_grid.specs.declared.kind.Kind.{Kind}
 use Rattle.vx_grid.specs.Paper.{page_width, page_height}
-use Rattle.vx_election.specs.declared.election.Election.{Election}
-use Rattle.vx_election.specs.Valid.{IsValid}
+use Rattle.vx_election_model.specs.declared.election.Election.{Election}
+use Rattle.vx_election_model.specs.Valid.{IsValid}
 use Rattle.vx_code.specs.declared.code.PageCode.{PageCode}
 use Rattle.vx_code.specs.Code.{tag_of, boxes_of, version_of, IsInRange}
 use Rattle.vx_layout.specs.declared.pages.PagePlan.{PagePlan}

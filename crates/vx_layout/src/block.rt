@@ -9,7 +9,7 @@ use crate::lines::TextLines;
 use crate::typing::{lay_text, rows_of};
 use std::alloc::Global;
 use vx_base::OutOfMemory;
-use vx_election::Contest;
+use vx_election_model::Contest;
 use vx_grid::Paper;
 
 /// What stands beside the bubble of a write-in slot.

@@ -1,5 +1,5 @@
 ghost use Rattle.std.specs.Prelude.{◌≡◌, ◌<◌, ◌≤◌, All, length, OnOk};
-ghost use Rattle.vx_election.specs.declared.choice.Choice.{Choice};
+ghost use Rattle.vx_election_model.specs.declared.choice.Choice.{Choice};
 ghost use Rattle.vx_layout.specs.Lines.{size_of};
 ghost use Rattle.vx_layout.specs.Blocks.{HasSizes};
 ghost use Rattle.vx_layout.specs.Flow.{CanStand};
@@ -10,7 +10,7 @@ ghost use Rattle.vx_layout.specs.Plan.{long_in, contest_checked, contests_checke
 use crate::block::height_of;
 use crate::fault::LayoutFault;
 use std::alloc::Global;
-use vx_election::{Choice, Contest};
+use vx_election_model::{Choice, Contest};
 use vx_grid::{Paper, contest_rows};
 use vx_json::characters_of;
 

@@ -5,7 +5,7 @@ ghost use Rattle.vx_layout.specs.Flow.{top, blocks_from, end_from, CanStand, IsP
 use crate::block::height_of;
 use std::alloc::Global;
 use vx_base::OutOfMemory;
-use vx_election::Contest;
+use vx_election_model::Contest;
 use vx_grid::{FIRST_CONTEST_ROW, Paper, contest_rows};
 
 /// A place in the text columns, before any page is made.

@@ -13,7 +13,7 @@ use crate::pages::{PagePlan, PagePlans};
 use crate::typing::front_of;
 use std::alloc::Global;
 use vx_base::OutOfMemory;
-use vx_election::{Contest, Election};
+use vx_election_model::{Contest, Election};
 use vx_grid::{Paper, centre_y, foot_row};
 use vx_styles::Card;
 

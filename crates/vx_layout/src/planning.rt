@@ -1,5 +1,5 @@
 ghost use Rattle.std.specs.Prelude.{◌≡◌, ◌<◌, ◌≤◌, All, IfOk, length};
-ghost use Rattle.vx_election.specs.Valid.{IsValid};
+ghost use Rattle.vx_election_model.specs.Valid.{IsValid};
 ghost use Rattle.vx_layout.specs.Blocks.{HasSizes};
 ghost use Rattle.vx_layout.specs.Flow as flow;
 ghost use Rattle.vx_layout.specs.Flow.{CanStand};
@@ -19,7 +19,7 @@ use crate::flow::flow_of;
 use crate::paging::lay_pages;
 use crate::plan::{CardPlan, CardPlans};
 use std::alloc::Global;
-use vx_election::Election;
+use vx_election_model::Election;
 use vx_styles::{Card, cards, cards_are_few, contests_of, each_card_has_its_precinct};
 
 /// The greatest number of a page.

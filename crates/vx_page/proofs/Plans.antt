@@ -8,8 +8,8 @@ use Rattle.vx_grid.specs.declared.paper.Paper.{Paper}
 use Rattle.vx_grid.specs.declared.paper.Paper.TheVariants.{Letter, Legal}
 use Rattle.vx_grid.specs.Paper.{last_row}
 use Rattle.vx_grid.specs.Grid.{first_code_row, first_contest_row, contest_rows}
-use Rattle.vx_election.specs.declared.election.Election.{Election}
-use Rattle.vx_election.specs.Valid.{IsValid}
+use Rattle.vx_election_model.specs.declared.election.Election.{Election}
+use Rattle.vx_election_model.specs.Valid.{IsValid}
 use Rattle.vx_code.specs.declared.code.PageCode.{PageCode}
 use Rattle.vx_code.specs.Code.{tag_of}
 use Rattle.vx_styles.specs.Cards.{cards_of}

@@ -3,7 +3,7 @@ use Rattle.std.specs.Prelude.{◌≡◌, length, Result, Ok, Err}
 use Rattle.std.specs.Borrow.{Bor}
 use Rattle.vx_base.specs.Refusals.{Unless}
 use Rattle.vx_plane.specs.Plane.{Page}
-use Rattle.vx_election.specs.declared.election.Election.{Election}
+use Rattle.vx_election_model.specs.declared.election.Election.{Election}
 use Rattle.vx_layout.specs.declared.pages.PagePlan.{PagePlan}
 use Rattle.vx_scan_model.specs.declared.reading.PageReading.{PageReading}
 use Rattle.vx_scan_model.specs.declared.fault.PageFault.{PageFault}

@@ -3,7 +3,7 @@ ghost use Rattle.vx_layout.specs.Plans.{ArePlansOf};
 ghost use Rattle.vx_scan_model.specs.Named.{named_plan};
 
 use vx_code::{PageCode, tag_of};
-use vx_election::Election;
+use vx_election_model::Election;
 use vx_layout::{CardPlans, PagePlan};
 use vx_scan_model::PageFault;
 

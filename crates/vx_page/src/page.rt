@@ -1,6 +1,6 @@
 ghost use Rattle.std.specs.Prelude.{◌≡◌, ◌↔◌, ℕ, true, false, Err, IfOk};
 ghost use Rattle.vx_base.specs.Refusals.{Gives};
-ghost use Rattle.vx_election.specs.Valid.{IsValid};
+ghost use Rattle.vx_election_model.specs.Valid.{IsValid};
 ghost use Rattle.vx_grid.specs.Places.{AreWithin};
 ghost use Rattle.vx_layout.specs.Plans.{ArePlansOf};
 ghost use Rattle.vx_scan_model.specs.Faults.{is_no_memory as is_want_of_memory};
@@ -15,7 +15,7 @@ use std::alloc::Global;
 use vx_bits::BitView;
 use vx_border::trace;
 use vx_count::Counter;
-use vx_election::Election;
+use vx_election_model::Election;
 use vx_grid::{Border, Paper};
 use vx_layout::{CardPlans, PagePlan, plans_have_the_elections_paper, plans_stand_on_the_grid};
 use vx_scan_model::{PageFault, PageReading, a_border_is_the_border};

@@ -3,7 +3,7 @@ ghost use Rattle.vx_plane.specs.Plane.{page_of};
 ghost use Rattle.vx_grid.specs.Paper.{page_width, page_height as page_height_of};
 ghost use Rattle.vx_code.specs.Code.{IsInRange, boxes_of};
 ghost use Rattle.vx_layout.specs.Print.{print_of};
-ghost use Rattle.vx_election.specs.Valid.{IsValid};
+ghost use Rattle.vx_election_model.specs.Valid.{IsValid};
 
 use crate::boxes::paint_boxes;
 use crate::marks::paint_marks;
@@ -12,7 +12,7 @@ use crate::text::paint_texts;
 use std::alloc::Global;
 use vx_bits::{BitPage, OutOfMemory};
 use vx_code::{PageCode, boxes_of};
-use vx_election::Election;
+use vx_election_model::Election;
 use vx_grid::{PAGE_WIDTH, page_height};
 use vx_layout::PagePlan;
 

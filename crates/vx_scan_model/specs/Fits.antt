@@ -12,7 +12,7 @@ use Rattle.vx_grid.specs.Sizes as sizes
 use Rattle.vx_grid.specs.Sizes.{zone_of}
 use Rattle.vx_count.specs.Turned.{turned_page}
 use Rattle.vx_code.specs.Code.{place_of_box, reserved_place}
-use Rattle.vx_election.specs.declared.election.Election.{Election}
+use Rattle.vx_election_model.specs.declared.election.Election.{Election}
 use Rattle.vx_layout.specs.declared.pages.PagePlan.{PagePlan}
 use Rattle.vx_layout.specs.Printed.{PrintedPage, IsPlanned, code_of, print_of_page}
 use Rattle.vx_mark.specs.Mark.{IsInFrame, most_wrong}
@@ -25,7 +25,7 @@ use Rattle.vx_margin.specs.Shown.{count_at, count_round, IsInStartRegion, ShowsZ
 use Rattle.vx_scan_model.specs.declared.reading.PageReading.{PageReading}
 use Rattle.vx_scan_model.specs.declared.fault.PageFault.{PageFault}
 use Rattle.vx_scan_model.specs.Faults.{is_no_memory}
-use Rattle.vx_election.specs.Valid.{IsValid}
+use Rattle.vx_election_model.specs.Valid.{IsValid}
 use Rattle.vx_scan_model.specs.Reading.{is_allowed, upright_reading_of, reading_of}
 use Rattle.vx_scan_model.specs.Ink.{IsInked, bubble_at}
 

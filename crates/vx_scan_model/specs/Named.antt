@@ -1,6 +1,6 @@
 -- The page that a code names.
 use Rattle.std.specs.Prelude.{ℕ, ◌-◌, ◌==◌, if◌then◌else◌, slice_get, Option, Some, None, Result, Ok, Err}
-use Rattle.vx_election.specs.declared.election.Election.{Election}
+use Rattle.vx_election_model.specs.declared.election.Election.{Election}
 use Rattle.vx_code.specs.declared.code.PageCode.{PageCode}
 use Rattle.vx_code.specs.Code.{tag_of}
 use Rattle.vx_layout.specs.declared.pages.PagePlan.{PagePlan}

@@ -8,7 +8,7 @@ use Rattle.vx_grid.specs.Borders.{MarkPlaces}
 use Rattle.vx_count.specs.Turned.{turned_page}
 use Rattle.vx_grid.specs.declared.state.State.{State}
 use Rattle.vx_grid.specs.declared.state.Thresholds.{Thresholds}
-use Rattle.vx_election.specs.declared.election.Election.{Election}
+use Rattle.vx_election_model.specs.declared.election.Election.{Election}
 use Rattle.vx_layout.specs.declared.bubbles.Bubble.{Bubble}
 use Rattle.vx_layout.specs.declared.pages.PagePlan.{PagePlan}
 use Rattle.vx_code.specs.declared.code.PageCode.{PageCode}

@@ -4,11 +4,11 @@ use Rattle.std.specs.List.{All}
 use Rattle.std.proofs.lemmas.List.{length-map, at_drop_more, get_or_append_left, get_or-map}
 use Rattle.std.proofs.lemmas.List.Elements.{All-nil, All-cons, All-head, All-tail, All-append, All-map, All-weaker, All-get_or}
 use Rattle.std.proofs.lemmas.List.Sums.{sum_by-cons}
-use Rattle.vx_election.specs.declared.contest.Contest.{Contest}
-use Rattle.vx_election.specs.declared.style.Style.{Style}
-use Rattle.vx_election.specs.declared.election.Election.{Election}
-use Rattle.vx_election.specs.Styles.{card_count}
-use Rattle.vx_election.specs.Valid.{IsValid, IsStyle}
+use Rattle.vx_election_model.specs.declared.contest.Contest.{Contest}
+use Rattle.vx_election_model.specs.declared.style.Style.{Style}
+use Rattle.vx_election_model.specs.declared.election.Election.{Election}
+use Rattle.vx_election_model.specs.Lists.{card_count}
+use Rattle.vx_election_model.specs.Valid.{IsValid, IsStyle}
 use Rattle.vx_styles.specs.declared.card.Card.{Card}
 use Rattle.vx_styles.specs.Cards.{cards_of_style, cards_from, cards_of, has_contest, no_card, card_at, style_of_card, contests_from, contests_of_card}
 

@@ -1,9 +1,9 @@
 -- The cards of an election, and the contests on a card.
 use Rattle.std.specs.Prelude.{ℕ, ◌+◌, ◌&&◌, ◌==◌, Bool, true, false, List, [], ◌∷◌, ◌++◌, map, slice_index_or, if◌then◌else◌, Option, Some, None}
 use Rattle.std.specs.List.{list_any}
-use Rattle.vx_election.specs.declared.contest.Contest.{Contest}
-use Rattle.vx_election.specs.declared.style.Style.{Style}
-use Rattle.vx_election.specs.declared.election.Election.{Election}
+use Rattle.vx_election_model.specs.declared.contest.Contest.{Contest}
+use Rattle.vx_election_model.specs.declared.style.Style.{Style}
+use Rattle.vx_election_model.specs.declared.election.Election.{Election}
 use Rattle.vx_styles.specs.declared.card.Card.{Card}
 
 -- the cards of a style: one for each of its precincts, in their order

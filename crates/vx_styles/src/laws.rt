@@ -2,8 +2,8 @@
 
 ghost use Rattle.std.specs.Prelude.{◌<◌, ◌≤◌, ℕ, length};
 ghost use Rattle.std.specs.List.{All};
-ghost use Rattle.vx_election.specs.Valid.{IsValid};
-ghost use Rattle.vx_election.specs.declared.election.Election.{Election};
+ghost use Rattle.vx_election_model.specs.Valid.{IsValid};
+ghost use Rattle.vx_election_model.specs.declared.election.Election.{Election};
 ghost use Rattle.vx_styles.specs.Cards.{cards_of, card_at, contests_of_card};
 
 /// A valid election has at most 1,024 cards.

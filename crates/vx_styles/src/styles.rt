@@ -1,12 +1,12 @@
 ghost use Rattle.std.specs.Prelude.{◌≡◌, ◌==◌, ◌<◌, ◌≤◌, ◌^◌, ◌+◌, ◌++◌, length, IfOk, OnOk};
 ghost use Rattle.std.specs.List.{All, list_any};
-ghost use Rattle.vx_election.specs.Valid.{IsValid};
+ghost use Rattle.vx_election_model.specs.Valid.{IsValid};
 ghost use Rattle.vx_styles.specs.Cards.{cards_of_style, cards_from, cards_of, is_open_to, has_contest, contests_from, style_of_card, contests_of_card};
 
 use crate::card::{Card, CardList};
 use std::alloc::Global;
 use vx_base::OutOfMemory;
-use vx_election::{Contest, Election, Indexes, Style};
+use vx_election_model::{Contest, Election, Indexes, Style};
 
 fn card_of(style: u32, precinct: u32) -> Card
     ensures style { result.style ≡ style }

@@ -1,6 +1,6 @@
 // Definitions of elections from outside: which fault comes first, and which cards there are.
 ghost use Rattle.std.specs.Prelude.{◌<◌, length};
-ghost use Rattle.vx_election.specs.Valid.{IsValid};
+ghost use Rattle.vx_election_model.specs.Valid.{IsValid};
 ghost use Rattle.vx_styles.specs.Cards.{cards_of};
 
 use crate::outside;

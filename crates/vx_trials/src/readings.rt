@@ -2,7 +2,7 @@
 //! out by hand from the rules of a scan, or made by another program.
 
 ghost use Rattle.std.specs.Prelude.{◌<◌, ◌^◌, IfOk};
-ghost use Rattle.vx_election.specs.Valid.{IsValid};
+ghost use Rattle.vx_election_model.specs.Valid.{IsValid};
 
 use crate::town::{TOWN, on_legal};
 use std::alloc::Global;

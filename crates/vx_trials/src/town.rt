@@ -1,7 +1,7 @@
 //! The town's election, with one contest on one card.
 
 ghost use Rattle.std.specs.Prelude.{IfOk};
-ghost use Rattle.vx_election.specs.Valid.{IsValid};
+ghost use Rattle.vx_election_model.specs.Valid.{IsValid};
 
 use std::alloc::Global;
 use std::test::Fail;

@@ -1,4 +1,4 @@
-use Rattle.vx_election.specs.declared.election.Election.{Election}
+use Rattle.vx_election_model.specs.declared.election.Election.{Election}
 use Rattle.vx_command.specs.Elections.{election_in}
 use Rattle.vx_command_print.specs.Outcome.{card_outcome}
 use Rattle.vx_command_print.proofs.printing.print.Goals as goal

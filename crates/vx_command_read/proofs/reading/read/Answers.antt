@@ -1,5 +1,5 @@
 use Rattle.std.proofs.Common.{◌∙◌}
-use Rattle.vx_election.specs.declared.election.Election.{Election}
+use Rattle.vx_election_model.specs.declared.election.Election.{Election}
 use Rattle.vx_command.specs.Elections.{election_in, once_planned}
 use Rattle.vx_command_read.specs.Outcome.{scans_outcome}
 use Rattle.vx_command_read.proofs.reading.read.Goals as goal

@@ -1,7 +1,8 @@
 use Rattle.std.proofs.Common.{◌≡◌, [], length, map, drop}
 use Rattle.serde_json.specs.View.{view}
 use Rattle.vx_election.specs.Members.{each_of}
-use Rattle.vx_election.specs.Contests.{candidate_in, choice_ids}
+use Rattle.vx_election.specs.Contests.{candidate_in}
+use Rattle.vx_election_model.specs.Lists.{choice_ids}
 use Rattle.vx_election.proofs.candidates.candidate_list_of.Given as goal
 
 abbrev pub invariant-loop-value : goal.invariant-loop-value

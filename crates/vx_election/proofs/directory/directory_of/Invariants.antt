@@ -1,7 +1,8 @@
 use Rattle.std.proofs.Common.{◌≡◌, [], length, map, drop}
 use Rattle.serde_json.specs.View.{view}
 use Rattle.vx_election.specs.Members.{each_of}
-use Rattle.vx_election.specs.Parts.{named_in, named_ids}
+use Rattle.vx_election.specs.Parts.{named_in}
+use Rattle.vx_election_model.specs.Lists.{named_ids}
 use Rattle.vx_election.proofs.directory.directory_of.Given as goal
 
 abbrev pub invariant-loop-value : goal.invariant-loop-value

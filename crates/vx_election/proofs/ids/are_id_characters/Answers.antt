@@ -1,7 +1,7 @@
 use Rattle.std.proofs.Common.{rules, tests}
 use Rattle.std.proofs.lemmas.Iterator.{YieldsList-from_slice}
 use Rattle.std.proofs.lemmas.Iterator.Search.{all_from_yields_List}
-use Rattle.vx_election.specs.Ids.{is_id_character}
+use Rattle.vx_election_model.specs.Ids.{is_id_character}
 use Rattle.vx_election.proofs.ids.are_id_characters.Goals as goal
 
 pub returns : goal.returns

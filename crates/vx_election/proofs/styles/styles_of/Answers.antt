@@ -1,8 +1,9 @@
 use Rattle.std.proofs.Common.{◌≡◌, ◌++◌, ◌+◌, ◌∷◌, [], length, Ok, rules, arith}
 use Rattle.std.proofs.lemmas.Grind.{common_steps}
-use Rattle.vx_election.specs.declared.style.Style.{Style}
+use Rattle.vx_election_model.specs.declared.style.Style.{Style}
 use Rattle.serde_json.specs.View.{view}
-use Rattle.vx_election.specs.Styles.{style_in, card_count}
+use Rattle.vx_election.specs.Styles.{style_in}
+use Rattle.vx_election_model.specs.Lists.{card_count}
 use Rattle.std.proofs.lemmas.List.Sums.{sum_by_push}
 use Rattle.vx_election.proofs.Each.{each-turn}
 use Rattle.vx_election.proofs.styles.styles_of.Goals as goal

@@ -1,6 +1,6 @@
 use Rattle.std.proofs.Common.{◌≡◌, ℕ, ◌+◌, ◌++◌, ◌∷◌, [], map, ap, ◌∙◌, arith}
 use Rattle.std.specs.List.{range_with_len}
-use Rattle.vx_election.specs.Options.{options_of}
+use Rattle.vx_election_model.specs.Options.{options_of}
 use Rattle.vx_layout.specs.declared.bubbles.Bubble.{Bubble}
 use Rattle.vx_layout.specs.Blocks.{option_bubble, block_bubbles}
 use Rattle.vx_base.proofs.Ranges.{map-laid}

@@ -1,7 +1,7 @@
 use Rattle.std.proofs.Common.{◌≡◌, ◌+◌, ℕ, List, ◌++◌, ap, ap₂, ◌∙◌, append_assoc}
 use Rattle.std.specs.List.{flat_map, range_with_len}
 use Rattle.std.proofs.lemmas.Result.{on_ok_weaker}
-use Rattle.vx_election.specs.Options.{options_of}
+use Rattle.vx_election_model.specs.Options.{options_of}
 use Rattle.vx_layout.specs.Lines.{rows_of, lines_at}
 use Rattle.vx_layout.specs.Blocks.{description_of, seats_line, option_lines, block_lines}
 use Rattle.vx_layout.proofs.block.lay_block.Goals as goal

@@ -6,7 +6,7 @@ use Rattle.std.specs.declared.alloc.Global.{Global}
 use Rattle.std.specs.Fmt.{decimal}
 use Rattle.std.proofs.lemmas.List.{get_or_read}
 use Rattle.std.proofs.lemmas.Result.{IfOk-weaker}
-use Rattle.vx_election.specs.declared.named.Named.{Named}
+use Rattle.vx_election_model.specs.declared.named.Named.{Named}
 use Rattle.vx_layout.specs.Plan.{foot_text}
 use Rattle.vx_layout.proofs.paging.foot_text.Goals as goal
 

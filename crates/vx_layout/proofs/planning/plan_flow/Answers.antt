@@ -1,7 +1,7 @@
 use Rattle.std.proofs.Common.{◌≤◌, List, length, sym, ap, ◌∙◌, subst, arith}
 use Rattle.std.specs.Prelude.{All}
 use Rattle.std.proofs.lemmas.List.FromFn.{length-map-range_with_len}
-use Rattle.vx_election.specs.declared.contest.Contest.{Contest}
+use Rattle.vx_election_model.specs.declared.contest.Contest.{Contest}
 use Rattle.vx_layout.specs.declared.flow.Block.{Block}
 use Rattle.vx_layout.specs.declared.pages.PagePlan.{PagePlan}
 use Rattle.vx_layout.specs.Flow.{top, blocks_from, IsPlaced}

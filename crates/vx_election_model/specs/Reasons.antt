@@ -1,8 +1,8 @@
 -- Reasons and sets of them.
 use Rattle.std.specs.Prelude.{ℕ, Bool, false, get_or}
-use Rattle.vx_election.specs.declared.reason.Reason.{Reason}
-use Rattle.vx_election.specs.declared.reason.Reason.TheVariants.{Overvote, Undervote, MarginalMark, BlankBallot, WriteIn}
-use Rattle.vx_election.specs.declared.reason.ReasonSet.{ReasonSet}
+use Rattle.vx_election_model.specs.declared.reason.Reason.{Reason}
+use Rattle.vx_election_model.specs.declared.reason.Reason.TheVariants.{Overvote, Undervote, MarginalMark, BlankBallot, WriteIn}
+use Rattle.vx_election_model.specs.declared.reason.ReasonSet.{ReasonSet}
 
 -- the place of a reason in their order, from 0
 abbrev pub reason_place : Reason → ℕ

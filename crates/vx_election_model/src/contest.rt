@@ -24,7 +24,7 @@ pub struct Contest {
 }
 
 impl Contest {
-    ghost use Rattle.vx_election.specs.Options.{options_of};
+    ghost use Rattle.vx_election_model.specs.Options.{options_of};
     ghost use Rattle.std.specs.Prelude.{◌<◌, ◌^◌};
 
     /// The number of options: the choices, then the write-in slots.

@@ -3,18 +3,19 @@ use Rattle.std.specs.Prelude.{◌≡◌, ℕ, ◌<◌, ◌≤◌, ◌⊎◌, Boo
 use Rattle.std.specs.List.{All, IsDistinct}
 use Rattle.vx_grid.specs.declared.state.Thresholds.{Thresholds}
 use Rattle.vx_grid.specs.Sizes.{inner_pixels}
-use Rattle.vx_election.specs.declared.named.Named.{Named}
-use Rattle.vx_election.specs.declared.choice.Choice.{Choice}
-use Rattle.vx_election.specs.declared.contest.Contest.{Contest}
-use Rattle.vx_election.specs.declared.style.Style.{Style}
-use Rattle.vx_election.specs.declared.election.Election.{Election}
-use Rattle.vx_election.specs.declared.reason.Reason.TheVariants.{MarginalMark}
-use Rattle.vx_election.specs.Ids.{is_id}
-use Rattle.vx_election.specs.Dates.{is_date}
-use Rattle.vx_election.specs.Parts.{named_ids}
-use Rattle.vx_election.specs.Contests.{choice_ids, contest_ids, label_limit, answer_of}
-use Rattle.vx_election.specs.Styles.{style_ids, card_count}
-use Rattle.vx_election.specs.Reasons.{has_reason}
+use Rattle.vx_election_model.specs.declared.named.Named.{Named}
+use Rattle.vx_election_model.specs.declared.choice.Choice.{Choice}
+use Rattle.vx_election_model.specs.declared.contest.Contest.{Contest}
+use Rattle.vx_election_model.specs.declared.style.Style.{Style}
+use Rattle.vx_election_model.specs.declared.election.Election.{Election}
+use Rattle.vx_election_model.specs.declared.reason.Reason.TheVariants.{MarginalMark}
+use Rattle.vx_election_model.specs.Ids.{is_id}
+use Rattle.vx_election_model.specs.Dates.{is_date}
+use Rattle.vx_election_model.specs.Lists.{named_ids}
+use Rattle.vx_election_model.specs.Lists.{choice_ids, contest_ids}
+use Rattle.vx_election_model.specs.Labels.{label_limit, answer_of}
+use Rattle.vx_election_model.specs.Lists.{style_ids, card_count}
+use Rattle.vx_election_model.specs.Reasons.{has_reason}
 
 -- a text with a number of characters in the range
 abbrev pub IsText : ℕ → ℕ → List ℕ → Type 0

@@ -1,5 +1,5 @@
 ghost use Rattle.std.specs.Prelude.{◌≡◌};
-ghost use Rattle.vx_election.specs.Reasons.{has_reason};
+ghost use Rattle.vx_election_model.specs.Reasons.{has_reason};
 
 use std::marker::Model;
 
