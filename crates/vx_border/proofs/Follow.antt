@@ -7,10 +7,10 @@ use Rattle.std.proofs.lemmas.Bool.Decides.{nat_tests}
 use Rattle.vx_plane.specs.Plane.{Page}
 use Rattle.vx_grid.specs.declared.places.Point.{Point}
 use Rattle.vx_grid.specs.Places.{IsPointWithin, point_at}
-use Rattle.vx_mark.specs.Mark.{IsAccepted}
-use Rattle.vx_mark.specs.Corner.{IsCorner}
-use Rattle.vx_mark.specs.Best.{IsBest}
-use Rattle.vx_border.specs.Border.{IsFollowed, leader_of, prediction_of, expected_from, is_in_row, right_of, below}
+use Rattle.vx_mark_model.specs.Mark.{IsAccepted}
+use Rattle.vx_mark_model.specs.Corner.{IsCorner}
+use Rattle.vx_mark_model.specs.Best.{IsBest}
+use Rattle.vx_mark_model.specs.Following.{IsFollowed, leader_of, prediction_of, expected_from, is_in_row, right_of, below}
 
 -- an accepted place lies in the frame
 pub accepted_within : (page : Page) (p : Point) → page.width ≤ 4096 → page.height ≤ 4096 → IsAccepted page p → IsPointWithin 4096 p

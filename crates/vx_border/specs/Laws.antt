@@ -5,10 +5,11 @@ use Rattle.vx_grid.specs.declared.paper.Paper.{Paper}
 use Rattle.vx_grid.specs.declared.places.Point.{Point}
 use Rattle.vx_grid.specs.Borders.{MarkPlaces}
 use Rattle.vx_grid.specs.Places.{point_at}
-use Rattle.vx_mark.specs.Corner.{IsCorner}
-use Rattle.vx_mark.specs.Best.{IsBest}
+use Rattle.vx_mark_model.specs.Corner.{IsCorner}
+use Rattle.vx_mark_model.specs.Best.{IsBest}
 use Rattle.vx_border.specs.declared.following.BorderFault.{BorderFault}
-use Rattle.vx_border.specs.Border.{prediction_of, IsFollowed, IsBorderOf}
+use Rattle.vx_mark_model.specs.Following.{prediction_of, IsFollowed}
+use Rattle.vx_border.specs.Border.{IsBorderOf}
 
 -- the corner alone is followed
 abbrev pub CornerIsFollowed : Type 0

@@ -2,9 +2,10 @@ ghost use Rattle.std.specs.Prelude.{◌≡◌, ◌<◌, ◌≤◌, ◌-◌, ◌�
 ghost use Rattle.vx_grid.specs.Paper.{last_row as last_row_of};
 ghost use Rattle.vx_grid.specs.Marks.{first_left as first_left_of, first_bottom as first_bottom_of, marks as marks_of, marks_to};
 ghost use Rattle.vx_grid.specs.Places.{IsWithin, IsPointWithin, AreWithin, point_at};
-ghost use Rattle.vx_border.specs.Border.{side_of as side_is, index_of as index_is, is_in_row, leader_of as leader_is, expected_from, right_of as right_is, right_end_of, AreAllFollowed, IsLack, IsBorderOf};
-ghost use Rattle.vx_mark.specs.Corner.{IsCorner};
-ghost use Rattle.vx_mark.specs.Best.{IsNear};
+ghost use Rattle.vx_mark_model.specs.Following.{is_in_row, leader_of as leader_is, expected_from, right_of as right_is, right_end_of, AreAllFollowed};
+ghost use Rattle.vx_border.specs.Border.{side_of as side_is, index_of as index_is, IsLack, IsBorderOf};
+ghost use Rattle.vx_mark_model.specs.Corner.{IsCorner};
+ghost use Rattle.vx_mark_model.specs.Best.{IsNear};
 
 use vx_count::Counter;
 use vx_grid::{Border, Paper, Point, Side, last_row, mark_of, marks};

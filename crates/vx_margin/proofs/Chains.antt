@@ -10,9 +10,9 @@ use Rattle.vx_grid.specs.Paper.{last_row}
 use Rattle.vx_grid.specs.Grid.{last_column}
 use Rattle.vx_grid.specs.Marks.{marks as marks_of, marks_to, mark_of, first_left, first_right, first_bottom}
 use Rattle.vx_grid.specs.Places.{point_at}
-use Rattle.vx_mark.specs.Mark.{IsAccepted}
-use Rattle.vx_mark.specs.Best.{IsNear, IsBest}
-use Rattle.vx_border.specs.Border.{is_in_row, leader_of, right_of, below, expected_from, prediction_of, IsFollowed, end_of, right_end_of, Closes}
+use Rattle.vx_mark_model.specs.Mark.{IsAccepted}
+use Rattle.vx_mark_model.specs.Best.{IsNear, IsBest}
+use Rattle.vx_mark_model.specs.Following.{is_in_row, leader_of, right_of, below, expected_from, prediction_of, IsFollowed, end_of, right_end_of, Closes}
 use Rattle.vx_geom.specs.Slants.{Slant, IsSlant}
 use Rattle.vx_margin.specs.Marks.{mark_image, IsBorderPoint, AreMarks, image_of, LiesNear}
 use Rattle.vx_margin.specs.Shown.{ShowsMarks, ShowsBorder, IsInStartRegion}

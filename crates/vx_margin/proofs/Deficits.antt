@@ -7,7 +7,7 @@ use Rattle.vx_plane.proofs.Pages.{rectangle-inside}
 use Rattle.vx_grid.specs.declared.paper.Paper.{Paper}
 use Rattle.vx_grid.specs.declared.places.Point.{Point}
 use Rattle.vx_grid.specs.Regions.{frame_zone}
-use Rattle.vx_mark.specs.Mark.{IsInFrame, deficit_of}
+use Rattle.vx_mark_model.specs.Mark.{IsInFrame, deficit_of}
 use Rattle.vx_geom.specs.Slants.{Slant}
 use Rattle.vx_geom.specs.Seen.{seen}
 use Rattle.vx_margin.specs.Flips.{differ, flips, flips_in, frame_of}

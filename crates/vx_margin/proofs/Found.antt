@@ -8,7 +8,7 @@ use Rattle.vx_grid.specs.declared.paper.Paper.{Paper}
 use Rattle.vx_grid.specs.declared.places.Point.{Point}
 use Rattle.vx_grid.specs.Places.{IsWithin}
 use Rattle.vx_grid.specs.Grid.{x_of, y_of}
-use Rattle.vx_mark.specs.Mark.{IsInFrame, IsAccepted, deficit_of}
+use Rattle.vx_mark_model.specs.Mark.{IsInFrame, IsAccepted, deficit_of}
 use Rattle.vx_geom.specs.Slants.{Slant, IsSlant, paper_column, paper_row, scan_column, scan_row}
 use Rattle.vx_geom.specs.Seen.{seen}
 use Rattle.vx_geom.specs.Laws.{AreAlike}

@@ -12,7 +12,7 @@ use Rattle.vx_grid.specs.Paper.{last_row, first_y}
 use Rattle.vx_grid.specs.Places.{IsWithin}
 use Rattle.vx_grid.specs.Grid.{last_column, x_of, y_of}
 use Rattle.vx_grid.specs.Regions.{inner_region, frame_zone}
-use Rattle.vx_mark.specs.Mark.{IsInFrame, IsAccepted, deficit_of}
+use Rattle.vx_mark_model.specs.Mark.{IsInFrame, IsAccepted, deficit_of}
 use Rattle.vx_geom.specs.Slants.{Slant, IsSlant, paper_column, paper_row}
 use Rattle.vx_geom.specs.Seen.{seen}
 use Rattle.vx_margin.specs.Marks.{IsBorderPoint, AreMarks, image_of, LiesNear}

@@ -6,7 +6,7 @@ use Rattle.vx_grid.specs.declared.paper.Paper.{Paper}
 use Rattle.vx_grid.specs.Paper.{last_row}
 use Rattle.vx_grid.specs.Grid.{last_column}
 use Rattle.vx_grid.specs.Marks.{first_right, first_left, first_bottom, marks, marks_to, mark_of}
-use Rattle.vx_border.specs.Border.{is_in_row, leader_of}
+use Rattle.vx_mark_model.specs.Following.{is_in_row, leader_of}
 use Rattle.vx_fit.specs.Fit.{left_mark, right_mark}
 use Rattle.vx_margin.specs.Marks.{IsBorderPoint}
 use Rattle.vx_margin.proofs.Images.{many_rows}

@@ -9,10 +9,10 @@ use Rattle.vx_grid.specs.Paper.{last_row, first_y}
 use Rattle.vx_grid.specs.Places.{IsWithin}
 use Rattle.vx_grid.specs.Grid.{x_of, y_of}
 use Rattle.vx_grid.specs.Regions.{inner_region}
-use Rattle.vx_mark.specs.Mark.{IsInFrame, IsAccepted}
-use Rattle.vx_mark.specs.Corner.{IsCorner, IsInCornerRegion, ComesBefore}
-use Rattle.vx_mark.specs.Best.{IsNear}
-use Rattle.vx_border.specs.Border.{right_of, below}
+use Rattle.vx_mark_model.specs.Mark.{IsInFrame, IsAccepted}
+use Rattle.vx_mark_model.specs.Corner.{IsCorner, IsInCornerRegion, ComesBefore}
+use Rattle.vx_mark_model.specs.Best.{IsNear}
+use Rattle.vx_mark_model.specs.Following.{right_of, below}
 use Rattle.vx_geom.specs.Slants.{Slant, IsSlant, paper_column, paper_row, scan_column, scan_row}
 use Rattle.vx_geom.specs.Seen.{seen}
 use Rattle.vx_geom.specs.Laws.{AreAlike}

@@ -5,9 +5,9 @@ use Rattle.vx_grid.specs.declared.paper.Paper.{Paper}
 use Rattle.vx_grid.specs.declared.places.Point.{Point}
 use Rattle.vx_grid.specs.Paper.{last_row}
 use Rattle.vx_grid.specs.Places.{point_at}
-use Rattle.vx_mark.specs.Mark.{IsAccepted}
-use Rattle.vx_mark.specs.Best.{IsNear}
-use Rattle.vx_border.specs.Border.{prediction_of}
+use Rattle.vx_mark_model.specs.Mark.{IsAccepted}
+use Rattle.vx_mark_model.specs.Best.{IsNear}
+use Rattle.vx_mark_model.specs.Following.{prediction_of}
 use Rattle.vx_geom.specs.Slants.{Slant}
 use Rattle.vx_margin.specs.Marks.{mark_image, LiesNear}
 

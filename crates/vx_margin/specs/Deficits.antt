@@ -3,7 +3,7 @@ use Rattle.std.specs.Prelude.{ℕ, ◌+◌, pos, ◌+ℤ◌, ◌-ℤ◌}
 use Rattle.vx_plane.specs.Plane.{Pixels}
 use Rattle.vx_plane.specs.Count.{count_in, outside_of}
 use Rattle.vx_grid.specs.declared.places.Point.{Point}
-use Rattle.vx_mark.specs.Mark.{footprint}
+use Rattle.vx_mark_model.specs.Mark.{footprint}
 
 -- the light pixels of a place's core
 abbrev pub light_core : Pixels → Point → ℕ

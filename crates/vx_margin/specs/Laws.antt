@@ -10,10 +10,10 @@ use Rattle.vx_grid.specs.Marks.{marks as marks_of, timing_marks}
 use Rattle.vx_grid.specs.Borders.{MarkPlaces}
 use Rattle.vx_grid.specs.Places.{point_at}
 use Rattle.vx_grid.specs.Sizes.{bubble, window_of, zone_of}
-use Rattle.vx_mark.specs.Mark.{IsAccepted}
-use Rattle.vx_mark.specs.Corner.{IsInCornerRegion}
-use Rattle.vx_mark.specs.Best.{IsNear}
-use Rattle.vx_border.specs.Border.{prediction_of, IsFollowed, Closes}
+use Rattle.vx_mark_model.specs.Mark.{IsAccepted}
+use Rattle.vx_mark_model.specs.Corner.{IsInCornerRegion}
+use Rattle.vx_mark_model.specs.Best.{IsNear}
+use Rattle.vx_mark_model.specs.Following.{prediction_of, IsFollowed, Closes}
 use Rattle.vx_fit.specs.Fit.{place_of}
 use Rattle.vx_geom.specs.Slants.{Slant, IsSlant}
 use Rattle.vx_margin.specs.Marks.{mark_image, AreMarks, image_of, LiesNear, Belongs}

@@ -8,7 +8,7 @@ use Rattle.vx_grid.specs.declared.sizes.HalfSides.{HalfSides}
 use Rattle.vx_grid.specs.Grid.{x_of, y_of}
 use Rattle.vx_grid.specs.Regions.{frame_zone}
 use Rattle.vx_grid.specs.Sizes.{round}
-use Rattle.vx_mark.specs.Mark.{footprint, most_wrong, IsInFrame}
+use Rattle.vx_mark_model.specs.Mark.{footprint, most_wrong, IsInFrame}
 use Rattle.vx_geom.specs.Slants.{Slant, IsSlant, scan_column, scan_row}
 use Rattle.vx_geom.specs.Seen.{seen}
 use Rattle.vx_grid.specs.Marks.{marks as marks_of}

@@ -6,8 +6,8 @@ use Rattle.vx_plane.specs.Plane.{Page}
 use Rattle.vx_grid.specs.declared.places.Point.{Point}
 use Rattle.vx_mark.specs.declared.pixels.Span.{Span}
 use Rattle.vx_mark.specs.declared.search.Found.{Found}
-use Rattle.vx_mark.specs.Mark.{deficit_of, IsAccepted}
-use Rattle.vx_mark.specs.Best.{IsNear, IsBetter, IsBest}
+use Rattle.vx_mark_model.specs.Mark.{deficit_of, IsAccepted}
+use Rattle.vx_mark_model.specs.Best.{IsNear, IsBetter, IsBest}
 use Rattle.vx_mark.specs.Search.{place_in, place_of, HasFootprint, AreColumns, AreRows, IsRow, AreFew, IsOut, IsCap, IsSeen, IsFound, IsBestSeen, bound_of}
 use Rattle.vx_mark.proofs.Places.{same_place, natural}
 

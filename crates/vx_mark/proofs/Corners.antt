@@ -5,8 +5,8 @@ use Rattle.std.proofs.lemmas.Bool.{cases_lt}
 use Rattle.vx_plane.specs.Plane.{Page}
 use Rattle.vx_grid.specs.declared.places.Point.{Point}
 use Rattle.vx_mark.specs.declared.pixels.Pixel.{Pixel}
-use Rattle.vx_mark.specs.Mark.{IsAccepted}
-use Rattle.vx_mark.specs.Corner.{IsInCornerRegion, ComesBefore, IsCorner}
+use Rattle.vx_mark_model.specs.Mark.{IsAccepted}
+use Rattle.vx_mark_model.specs.Corner.{IsInCornerRegion, ComesBefore, IsCorner}
 use Rattle.vx_mark.specs.Search.{place_in, place_of, IsPast, IsFirstColumn, IsFirstOf, IsCornerAbove, IsFirstAbove, comes_first}
 use Rattle.vx_mark.proofs.Places.{same_place, accepted_there, natural}
 

@@ -6,7 +6,7 @@ use Rattle.std.proofs.lemmas.Bool.Decides.{nat_tests}
 use Rattle.vx_plane.specs.Plane.{Page, dark_at}
 use Rattle.vx_plane.specs.Count.{count_in, outside_of}
 use Rattle.vx_plane.proofs.Counts.{count_in-rows, count_in-columns, count_in-complement}
-use Rattle.vx_mark.specs.Mark.{core_light, deficit_of}
+use Rattle.vx_mark_model.specs.Mark.{core_light, deficit_of}
 use Rattle.vx_mark.specs.Search.{place_in, row_light, front_light, IsUpTo}
 
 pub less_by : (n k : ℕ) → k ≤ n → pos (n - k) ≡ pos n -ℤ pos k

@@ -4,7 +4,7 @@ use Rattle.std.specs.Int.Signed.{le_z}
 use Rattle.std.proofs.lemmas.Int.{ints}
 use Rattle.vx_plane.specs.Plane.{Page}
 use Rattle.vx_grid.specs.declared.places.Point.{Point}
-use Rattle.vx_mark.specs.Mark.{deficit_of, IsInFrame, IsAccepted}
+use Rattle.vx_mark_model.specs.Mark.{deficit_of, IsInFrame, IsAccepted}
 use Rattle.vx_mark.specs.Search.{place_in, HasFootprint, IsUpTo}
 
 -- two places in one column and one row are one

@@ -1,5 +1,1 @@
-pub mod Region
-pub mod Mark
-pub mod Corner
-pub mod Best
 pub mod Search

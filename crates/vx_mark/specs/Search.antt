@@ -7,9 +7,9 @@ use Rattle.vx_grid.specs.declared.places.Point.{Point}
 use Rattle.vx_mark.specs.declared.pixels.Pixel.{Pixel}
 use Rattle.vx_mark.specs.declared.pixels.Span.{Span}
 use Rattle.vx_mark.specs.declared.search.Found.{Found}
-use Rattle.vx_mark.specs.Mark.{footprint, deficit_of, most_wrong, IsAccepted}
-use Rattle.vx_mark.specs.Best.{near, IsNear, IsBetter}
-use Rattle.vx_mark.specs.Corner.{IsInCornerRegion, ComesBefore}
+use Rattle.vx_mark_model.specs.Mark.{footprint, deficit_of, most_wrong, IsAccepted}
+use Rattle.vx_mark_model.specs.Best.{near, IsNear, IsBetter}
+use Rattle.vx_mark_model.specs.Corner.{IsInCornerRegion, ComesBefore}
 
 -- the place in a column and a row
 abbrev pub place_in : ℕ → ℕ → Point

@@ -1,7 +1,7 @@
 ghost use Rattle.std.specs.Prelude.{◌≡◌, ◌≤◌, ◌<◌, ◌+◌, ◌↔◌, ℕ, MatchOption};
 ghost use Rattle.vx_grid.specs.declared.places.Point.{Point};
-ghost use Rattle.vx_mark.specs.Mark.{footprint, IsAccepted};
-ghost use Rattle.vx_mark.specs.Corner.{corner_region, IsInCornerRegion, IsCorner};
+ghost use Rattle.vx_mark_model.specs.Mark.{footprint, IsAccepted};
+ghost use Rattle.vx_mark_model.specs.Corner.{corner_region, IsInCornerRegion, IsCorner};
 ghost use Rattle.vx_mark.specs.Search.{AreFew, IsFirstOf, IsFirstAbove, IsPast, comes_first};
 
 use crate::judge::{FOOTPRINT, MOST, deficit_up_to, is_row_out};

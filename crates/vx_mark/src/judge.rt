@@ -2,7 +2,7 @@ ghost use Rattle.std.specs.Prelude.{◌≡◌, ◌≤◌, ◌<◌, ℕ, ◌*◌,
 ghost use Rattle.vx_plane.specs.Plane.{dark_at};
 ghost use Rattle.vx_plane.specs.Count.{count_in};
 ghost use Rattle.vx_grid.specs.Places.{IsWithin};
-ghost use Rattle.vx_mark.specs.Mark.{footprint, core_light, flanks_dark, deficit_of, IsInFrame, IsAccepted};
+ghost use Rattle.vx_mark_model.specs.Mark.{footprint, core_light, flanks_dark, deficit_of, IsInFrame, IsAccepted};
 ghost use Rattle.vx_mark.specs.Search.{place_in, row_light, HasFootprint, IsUpTo, AreFew, IsOut};
 
 use crate::pixels::{Span, unsigned};

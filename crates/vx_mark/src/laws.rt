@@ -1,8 +1,8 @@
 //! Laws of the corner and of the best place. These functions do nothing; their contracts are the
 //! laws.
 
-ghost use Rattle.vx_mark.specs.Best.{BestPlaceIsOne};
-ghost use Rattle.vx_mark.specs.Corner.{CornerIsOne};
+ghost use Rattle.vx_mark_model.specs.Best.{BestPlaceIsOne};
+ghost use Rattle.vx_mark_model.specs.Corner.{CornerIsOne};
 
 /// A scan has one corner at most.
 pub fn the_corner_is_one()

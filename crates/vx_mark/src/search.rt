@@ -1,8 +1,8 @@
 ghost use Rattle.std.specs.Prelude.{◌≡◌, ◌≤◌, ◌<◌, ◌+◌, ◌+ℤ◌, ◌-ℤ◌, pos, MatchOption};
 ghost use Rattle.vx_grid.specs.declared.places.Point.{Point};
 ghost use Rattle.vx_grid.specs.Places.{IsWithin};
-ghost use Rattle.vx_mark.specs.Mark.{IsAccepted};
-ghost use Rattle.vx_mark.specs.Best.{IsNear, IsBest};
+ghost use Rattle.vx_mark_model.specs.Mark.{IsAccepted};
+ghost use Rattle.vx_mark_model.specs.Best.{IsNear, IsBest};
 ghost use Rattle.vx_mark.specs.Search.{place_in, HasFootprint, AreColumns, AreRows, IsRow, IsCap, IsBestSeen, bound_of};
 
 use crate::judge::{FOOTPRINT, MOST, accepted_deficit, deficit_up_to, is_row_out};

@@ -5,8 +5,8 @@ use Rattle.std.proofs.lemmas.Int.{ints}
 use Rattle.std.proofs.lemmas.Bool.{and_parts, and_from, leb-true, le-leb}
 use Rattle.vx_plane.specs.Plane.{Page}
 use Rattle.vx_grid.specs.declared.places.Point.{Point}
-use Rattle.vx_mark.specs.Region.{Region, IsIn, is_in}
-use Rattle.vx_mark.specs.Mark.{framed, deficit_of, most_wrong, IsAccepted, is_accepted}
+use Rattle.vx_mark_model.specs.Region.{Region, IsIn, is_in}
+use Rattle.vx_mark_model.specs.Mark.{framed, deficit_of, most_wrong, IsAccepted, is_accepted}
 
 -- two places in one column and one row are one
 pub same_point : (p q : Point) → p.u ≡ q.u → p.v ≡ q.v → p ≡ q

@@ -5,9 +5,9 @@ use Rattle.std.proofs.lemmas.Int.{ints}
 use Rattle.std.proofs.lemmas.Bool.{and_parts, and_from, eqb-true}
 use Rattle.vx_plane.specs.Plane.{Page}
 use Rattle.vx_grid.specs.declared.places.Point.{Point}
-use Rattle.vx_mark.specs.Region.{is_in}
-use Rattle.vx_mark.specs.Mark.{deficit_of, IsAccepted, is_accepted}
-use Rattle.vx_mark.specs.Best.{near, IsNear, IsBetter, IsBest}
+use Rattle.vx_mark_model.specs.Region.{is_in}
+use Rattle.vx_mark_model.specs.Mark.{deficit_of, IsAccepted, is_accepted}
+use Rattle.vx_mark_model.specs.Best.{near, IsNear, IsBetter, IsBest}
 use Rattle.vx_scan_model.specs.Border.{near_numbers, near_place, may_be_best, best_of}
 use Rattle.vx_scan_model.proofs.Firsts.{IsFirstOf, find-first}
 use Rattle.vx_scan_model.proofs.Accepting.{same_point, natural_of, in_from, in_true, accepted_from, accepted_true}

@@ -6,8 +6,8 @@ use Rattle.std.proofs.lemmas.Nat.{div-mul-add, mod-mul-add}
 use Rattle.std.proofs.lemmas.Bool.{and_parts, and_from}
 use Rattle.vx_plane.specs.Plane.{Page}
 use Rattle.vx_grid.specs.declared.places.Point.{Point}
-use Rattle.vx_mark.specs.Mark.{IsAccepted}
-use Rattle.vx_mark.specs.Corner.{corner_region, IsInCornerRegion, ComesBefore, IsCorner}
+use Rattle.vx_mark_model.specs.Mark.{IsAccepted}
+use Rattle.vx_mark_model.specs.Corner.{corner_region, IsInCornerRegion, ComesBefore, IsCorner}
 use Rattle.vx_scan_model.specs.Border.{corner_numbers, corner_place, may_be_corner, corner_of}
 use Rattle.vx_scan_model.proofs.Firsts.{IsFirstOf, find-first}
 use Rattle.vx_scan_model.proofs.Accepting.{same_point, natural_of, in_from, in_true, accepted_from, accepted_true}

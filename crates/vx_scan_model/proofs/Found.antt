@@ -6,11 +6,12 @@ use Rattle.vx_grid.specs.declared.places.Point.{Point}
 use Rattle.vx_grid.specs.Paper.{last_row}
 use Rattle.vx_grid.specs.Marks.{marks as marks_of}
 use Rattle.vx_grid.specs.Borders.{MarkPlaces}
-use Rattle.vx_mark.specs.Corner.{IsCorner}
-use Rattle.vx_mark.specs.Best.{IsNear, IsBest}
+use Rattle.vx_mark_model.specs.Corner.{IsCorner}
+use Rattle.vx_mark_model.specs.Best.{IsNear, IsBest}
 use Rattle.vx_border.specs.declared.following.BorderFault.{BorderFault}
 use Rattle.vx_border.specs.declared.following.BorderFault.TheVariants.{NoCorner, NoMark, OpenBorder}
-use Rattle.vx_border.specs.Border.{prediction_of, end_of, right_end_of, IsBorderOf}
+use Rattle.vx_mark_model.specs.Following.{prediction_of, end_of, right_end_of}
+use Rattle.vx_border.specs.Border.{IsBorderOf}
 use Rattle.vx_geom.specs.Slants.{Slant}
 use Rattle.vx_margin.specs.Marks.{mark_image}
 use Rattle.vx_margin.specs.Chains.{LieAtMarks}

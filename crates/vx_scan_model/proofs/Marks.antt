@@ -9,11 +9,12 @@ use Rattle.vx_grid.specs.declared.places.Point.{Point}
 use Rattle.vx_grid.specs.Paper.{last_row}
 use Rattle.vx_grid.specs.Marks.{marks}
 use Rattle.vx_grid.specs.Places.{point_at}
-use Rattle.vx_mark.specs.Corner.{IsCorner}
-use Rattle.vx_mark.specs.Best.{IsBest}
+use Rattle.vx_mark_model.specs.Corner.{IsCorner}
+use Rattle.vx_mark_model.specs.Best.{IsBest}
 use Rattle.vx_border.specs.declared.following.BorderFault.{BorderFault}
 use Rattle.vx_border.specs.declared.following.BorderFault.TheVariants.{NoCorner, NoMark, OpenBorder}
-use Rattle.vx_border.specs.Border.{side_of, index_of, prediction_of, IsFollowed, LacksMark}
+use Rattle.vx_mark_model.specs.Following.{prediction_of, IsFollowed}
+use Rattle.vx_border.specs.Border.{side_of, index_of, LacksMark}
 use Rattle.vx_border.specs.Laws.{CornerIsFollowed, FollowedGrows}
 use Rattle.vx_scan_model.specs.Border.{corner_of, best_of, with_found, with_mark, marks_of}
 use Rattle.vx_scan_model.proofs.Corners.{IsCornerOf, IsCornerOf-corner_of}

@@ -21,7 +21,7 @@ use Rattle.vx_grid.specs.Borders.{MarkPlaces}
 use Rattle.vx_grid.specs.Regions.{frame_zone}
 use Rattle.vx_grid.specs.Sizes as sizes
 use Rattle.vx_grid.specs.Sizes.{zone_of, window_of}
-use Rattle.vx_mark.specs.Mark.{IsInFrame}
+use Rattle.vx_mark_model.specs.Mark.{IsInFrame}
 use Rattle.vx_border.specs.Laws.{CornerIsFollowed, FollowedGrows}
 use Rattle.vx_fit.specs.Fit.{place_of}
 use Rattle.vx_score.specs.Score.{score_of, state_of}

@@ -9,13 +9,14 @@ use Rattle.vx_grid.specs.declared.places.Point.{Point}
 use Rattle.vx_grid.specs.Paper.{last_row}
 use Rattle.vx_grid.specs.Marks.{marks}
 use Rattle.vx_grid.specs.Borders.{MarkPlaces}
-use Rattle.vx_mark.specs.Region.{is_in}
-use Rattle.vx_mark.specs.Mark.{deficit_of, most_wrong, is_accepted}
-use Rattle.vx_mark.specs.Corner.{corner_region}
-use Rattle.vx_mark.specs.Best.{near}
+use Rattle.vx_mark_model.specs.Region.{is_in}
+use Rattle.vx_mark_model.specs.Mark.{deficit_of, most_wrong, is_accepted}
+use Rattle.vx_mark_model.specs.Corner.{corner_region}
+use Rattle.vx_mark_model.specs.Best.{near}
 use Rattle.vx_border.specs.declared.following.BorderFault.{BorderFault}
 use Rattle.vx_border.specs.declared.following.BorderFault.TheVariants.{NoCorner, NoMark, OpenBorder}
-use Rattle.vx_border.specs.Border.{side_of, index_of, prediction_of, end_of, right_end_of, IsBorderOf}
+use Rattle.vx_mark_model.specs.Following.{prediction_of, end_of, right_end_of}
+use Rattle.vx_border.specs.Border.{side_of, index_of, IsBorderOf}
 
 -- the places of the plane in the order of corners: by the sum of column and row, then by the row
 abbrev pub corner_place : ℕ → Point

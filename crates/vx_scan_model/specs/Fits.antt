@@ -15,7 +15,7 @@ use Rattle.vx_code.specs.Code.{place_of_box, reserved_place}
 use Rattle.vx_election_model.specs.declared.election.Election.{Election}
 use Rattle.vx_layout.specs.declared.pages.PagePlan.{PagePlan}
 use Rattle.vx_layout.specs.Printed.{PrintedPage, IsPlanned, code_of, print_of_page}
-use Rattle.vx_mark.specs.Mark.{IsInFrame, most_wrong}
+use Rattle.vx_mark_model.specs.Mark.{IsInFrame, most_wrong}
 use Rattle.vx_geom.specs.declared.shear.Shear.{Shear}
 use Rattle.vx_geom.specs.Slants.{Slant, IsSlant, slant_of}
 

@@ -3,8 +3,8 @@ use Rattle.vx_plane.specs.Plane.{Page}
 use Rattle.vx_grid.specs.declared.places.Point.{Point}
 use Rattle.vx_grid.specs.Paper.{last_row}
 use Rattle.vx_grid.specs.Places.{IsPointWithin, point_at}
-use Rattle.vx_mark.specs.Best.{IsBest}
-use Rattle.vx_border.specs.Border.{IsFollowed, leader_of, prediction_of, expected_from}
+use Rattle.vx_mark_model.specs.Best.{IsBest}
+use Rattle.vx_mark_model.specs.Following.{IsFollowed, leader_of, prediction_of, expected_from}
 use Rattle.vx_border.proofs.Follow.{followed_within, followed_more, leader_before, expected_within}
 use Rattle.vx_border.proofs.following.follow.Goals as goal
 

@@ -2,7 +2,7 @@ use Rattle.std.proofs.Common.{◌≡◌, ℕ, List, length}
 use Rattle.vx_plane.specs.Plane.{Page}
 use Rattle.vx_grid.specs.declared.places.Point.{Point}
 use Rattle.vx_grid.specs.Paper.{last_row}
-use Rattle.vx_border.specs.Border.{IsFollowed}
+use Rattle.vx_mark_model.specs.Following.{IsFollowed}
 use Rattle.vx_border.proofs.following.follow.Given as goal
 
 -- the places before the mark that comes are followed

@@ -10,8 +10,9 @@ use Rattle.vx_grid.specs.Paper.{last_row}
 use Rattle.vx_grid.specs.Marks.{first_left, marks}
 use Rattle.vx_grid.specs.Borders.{MarkPlaces}
 use Rattle.vx_grid.specs.Places.{IsPointWithin, AreWithin, point_at}
-use Rattle.vx_mark.specs.Best.{IsNear}
-use Rattle.vx_border.specs.Border.{AreAllFollowed, IsBorder, right_of, end_of, right_end_of}
+use Rattle.vx_mark_model.specs.Best.{IsNear}
+use Rattle.vx_mark_model.specs.Following.{AreAllFollowed, right_of, end_of, right_end_of}
+use Rattle.vx_border.specs.Border.{IsBorder}
 use Rattle.vx_border.proofs.Follow.{followed_within, followed_same, within_more, expected_within}
 use Rattle.vx_border.proofs.following.trace.Goals as goal
 

@@ -1,6 +1,6 @@
 use Rattle.std.proofs.Common.{Option, arith, sym, subst}
 use Rattle.vx_mark.specs.declared.pixels.Pixel.{Pixel}
-use Rattle.vx_mark.specs.Corner.{IsCorner}
+use Rattle.vx_mark_model.specs.Corner.{IsCorner}
 use Rattle.vx_mark.specs.Search.{IsFirstAbove}
 use Rattle.vx_mark.proofs.Corners.{row-last, corner-all, none-all}
 use Rattle.vx_mark.proofs.corner.first_corner.Goals as goal

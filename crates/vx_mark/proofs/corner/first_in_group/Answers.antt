@@ -1,5 +1,5 @@
 use Rattle.std.proofs.Common.{ℕ, ◌≤◌, arith, below_more}
-use Rattle.vx_mark.specs.Mark.{IsAccepted}
+use Rattle.vx_mark_model.specs.Mark.{IsAccepted}
 use Rattle.vx_mark.specs.Search.{place_in, HasFootprint}
 use Rattle.vx_mark.proofs.Places.{accepted-below, refused-at}
 use Rattle.vx_mark.proofs.corner.first_in_group.Goals as goal

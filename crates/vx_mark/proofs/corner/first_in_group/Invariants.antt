@@ -1,5 +1,5 @@
 use Rattle.std.proofs.Common.{ℕ, ◌≤◌, ◌<◌}
-use Rattle.vx_mark.specs.Mark.{IsAccepted}
+use Rattle.vx_mark_model.specs.Mark.{IsAccepted}
 use Rattle.vx_mark.specs.Search.{place_in}
 use Rattle.vx_mark.proofs.corner.first_in_group.Given as goal
 

@@ -1,6 +1,6 @@
 use Rattle.std.proofs.Common.{◌≡◌, pos, SFits, w32, rules, sym}
 use Rattle.std.proofs.lemmas.Int.{to_z-of_z}
-use Rattle.vx_mark.specs.Mark.{IsInFrame}
+use Rattle.vx_mark_model.specs.Mark.{IsInFrame}
 use Rattle.vx_mark.specs.Search.{place_in}
 use Rattle.vx_mark.proofs.Places.{same_place, accepted-up_to}
 use Rattle.vx_mark.proofs.judge.accepted_deficit.Goals as goal

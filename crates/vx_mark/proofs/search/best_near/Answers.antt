@@ -1,6 +1,6 @@
 use Rattle.std.proofs.Common.{sym, subst, arith, Option}
 use Rattle.vx_mark.specs.declared.search.Found.{Found}
-use Rattle.vx_mark.specs.Best.{IsBest}
+use Rattle.vx_mark_model.specs.Best.{IsBest}
 use Rattle.vx_mark.specs.Search.{IsBestSeen}
 use Rattle.vx_mark.proofs.Bests.{row-is, found-best, none-near}
 use Rattle.vx_mark.proofs.search.best_near.Goals as goal

@@ -3,8 +3,8 @@ use Rattle.std.specs.Prelude.{◌≡◌, ◌<◌, ◌⊎◌, ◌<ℤ◌}
 use Rattle.vx_plane.specs.Plane.{Page}
 use Rattle.vx_grid.specs.declared.places.Point.{Point}
 use Rattle.vx_grid.specs.declared.sizes.HalfSides.{HalfSides}
-use Rattle.vx_mark.specs.Region.{Region, IsIn, within}
-use Rattle.vx_mark.specs.Mark.{deficit_of, IsAccepted}
+use Rattle.vx_mark_model.specs.Region.{Region, IsIn, within}
+use Rattle.vx_mark_model.specs.Mark.{deficit_of, IsAccepted}
 
 -- how far a mark may lie from where it is expected: 10 columns and 6 rows
 abbrev pub nearness : HalfSides

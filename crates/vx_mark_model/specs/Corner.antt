@@ -2,8 +2,8 @@
 use Rattle.std.specs.Prelude.{◌≡◌, ◌⊎◌, pos, ◌+ℤ◌, ◌<ℤ◌}
 use Rattle.vx_plane.specs.Plane.{Page}
 use Rattle.vx_grid.specs.declared.places.Point.{Point}
-use Rattle.vx_mark.specs.Region.{Region, IsIn}
-use Rattle.vx_mark.specs.Mark.{IsAccepted}
+use Rattle.vx_mark_model.specs.Region.{Region, IsIn}
+use Rattle.vx_mark_model.specs.Mark.{IsAccepted}
 
 -- where a corner may be: columns 26 to 116, rows 14 to 104
 abbrev pub corner_region : Region

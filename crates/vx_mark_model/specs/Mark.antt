@@ -4,7 +4,7 @@ use Rattle.vx_plane.specs.Plane.{Page, dark_at}
 use Rattle.vx_plane.specs.Count.{count_in, outside_of}
 use Rattle.vx_grid.specs.declared.places.Point.{Point}
 use Rattle.vx_grid.specs.declared.sizes.HalfSides.{HalfSides}
-use Rattle.vx_mark.specs.Region.{Region, IsIn, is_in}
+use Rattle.vx_mark_model.specs.Region.{Region, IsIn, is_in}
 
 -- the footprint of a place: the 46 by 22 pixels round it, offsets -23 to 22 by -11 to 10
 abbrev pub footprint : HalfSides

@@ -1,0 +1,5 @@
+pub mod Region
+pub mod Mark
+pub mod Corner
+pub mod Best
+pub mod Following
