@@ -11,8 +11,6 @@ mod outline;
 mod painting;
 mod round;
 mod stamp;
-#[cfg(test)]
-mod tests;
 mod text;
 
 pub use painting::paint;

@@ -10,6 +10,8 @@ mod layouts;
 #[cfg(test)]
 mod outside;
 #[cfg(test)]
+mod painting;
+#[cfg(test)]
 mod readings;
 #[cfg(test)]
 mod town;

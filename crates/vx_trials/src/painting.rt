@@ -1,15 +1,14 @@
-use super::*;
+//! Painting what a plan puts off its page.
+
+use crate::town::town;
 use std::alloc::Global;
 use std::test::Fail;
 use vx_bits::BitPage;
 use vx_code::{PageCode, tag_of};
-use vx_election::{Election, read_election};
+use vx_election::Election;
 use vx_grid::{Kind, Paper};
 use vx_layout::{Bubble, Bubbles, PagePlan, TextLine, TextLines};
-
-// One contest of two candidates.
-const TOWN: &str =
-    "{\"title\":\"Town\",\"date\":\"2024-11-05\",\"districts\":[{\"id\":\"d\",\"name\":\"Town\"}],\"precincts\":[{\"id\":\"p\",\"name\":\"North\"}],\"contests\":[{\"id\":\"mayor\",\"type\":\"candidate\",\"districtId\":\"d\",\"title\":\"Mayor\",\"seats\":1,\"candidates\":[{\"id\":\"a\",\"name\":\"Ada\"},{\"id\":\"b\",\"name\":\"Bo\"}]}],\"ballotStyles\":[{\"id\":\"s\",\"precincts\":[\"p\"],\"districts\":[\"d\"]}]}";
+use vx_raster::paint;
 
 // A page with a bubble and a line, and with a bubble and a line that lie off the page.
 fn plan_of(alloc: Global, election: &Election) -> Result<PagePlan, Fail> {
@@ -48,7 +47,7 @@ fn plan_of(alloc: Global, election: &Election) -> Result<PagePlan, Fail> {
 
 // The page of that plan, page 1 of card 0.
 fn painted_page(alloc: Global) -> Result<BitPage, Fail> {
-    let election = read_election(alloc, TOWN.as_bytes()).map_err(|_| "no election")?;
+    let election = town(alloc)?;
     let plan = plan_of(alloc, &election)?;
     let code = PageCode {
         version: 1,
