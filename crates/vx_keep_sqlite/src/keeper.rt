@@ -1,4 +1,4 @@
-ghost use Rattle.std.specs.Prelude.{◌≡◌, ◌<◌, [], None, Ok, Err, IfOk, OnOk, OnErr, if◌then◌else◌};
+ghost use Rattle.std.specs.Prelude.{◌≡◌, ◌<◌, [], None, Err, IfOk, OnOk, OnErr, nat_lt, if◌then◌else◌};
 ghost use Rattle.vx_io.specs.Fakes.{raised};
 ghost use Rattle.vx_io.specs.Keeping.{has_failed};
 ghost use Rattle.vx_io.specs.Outside.{Appends, CountsFaults, IsCountOf, IsRecordAt, MayAppend};
@@ -37,6 +37,13 @@ impl<'r> SqliteKeeper<'r> {
             faults: 0,
         })
     }
+
+    /// Whether there was a fault, after which the file isn't used again.
+    fn has_given_up(&self) -> bool
+        ensures { result ≡ nat_lt 0 self.now }
+    {
+        self.faults > 0
+    }
 }
 
 /// Counts a fault, where there was one.
@@ -60,13 +67,13 @@ impl Keeper for SqliteKeeper<'_> {
         ensures counted { self.new ≡ (if has_failed result then raised self.old else self.old) }
         ensures given_up { 0 < self.old → result ≡ Err KeeperError.Failed }
     {
-        let answer = if self.faults > 0 {
+        let counted = if self.has_given_up() {
             Err(KeeperError::Failed)
         } else {
             self.place.count()
         };
-        count_fault(&mut self.faults, answer == Err(KeeperError::Failed));
-        answer
+        count_fault(&mut self.faults, counted == Err(KeeperError::Failed));
+        counted
     }
 
     fn fetch(&mut self, index: u64, into: &mut Bytes) -> Result<(), KeeperError>
@@ -77,16 +84,16 @@ impl Keeper for SqliteKeeper<'_> {
         ensures given_up { 0 < self.old → result ≡ Err KeeperError.Failed }
     {
         into.clear();
-        let answer = if self.faults > 0 {
+        let fetched = if self.has_given_up() {
             Err(KeeperError::Failed)
         } else {
             self.place.fetch(index, into)
         };
-        if answer.is_err() {
+        if fetched.is_err() {
             into.clear();
         }
-        count_fault(&mut self.faults, answer == Err(KeeperError::Failed));
-        answer
+        count_fault(&mut self.faults, fetched == Err(KeeperError::Failed));
+        fetched
     }
 
     fn append(&mut self, body: &[u8]) -> Result<(), KeeperError>
@@ -96,12 +103,12 @@ impl Keeper for SqliteKeeper<'_> {
         ensures counted { self.new ≡ (if has_failed result then raised self.old else self.old) }
         ensures given_up { 0 < self.old → result ≡ Err KeeperError.Failed }
     {
-        let answer = if self.faults > 0 {
+        let kept = if self.has_given_up() {
             Err(KeeperError::Failed)
         } else {
             self.place.append(body)
         };
-        count_fault(&mut self.faults, answer == Err(KeeperError::Failed));
-        answer
+        count_fault(&mut self.faults, kept == Err(KeeperError::Failed));
+        kept
     }
 }

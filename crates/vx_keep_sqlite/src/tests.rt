@@ -28,6 +28,8 @@ fn records_stand_in_the_file(rt: HostRuntime) -> Result<(), Fail> {
     assert_eq!(rt; again.fetch(3, &mut record), Err(KeeperError::Failed));
     assert_eq!(rt; record.len(), 0);
     assert_eq!(rt; again.count(), Err(KeeperError::Failed));
+    let log = format!(in rt.alloc(); "{}-wal", file.as_str())?;
+    fs::remove_file(&rt, log.as_str())?;
     fs::remove_file(&rt, file.as_path())?;
     Ok(())
 }
