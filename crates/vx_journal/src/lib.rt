@@ -4,15 +4,9 @@
 //! which events have a record, whatever the election. `header` and `encode` give the spellings.
 #![tactic(auto)]
 
-mod choices;
-mod cutting;
 mod encoding;
-mod fault;
-mod numbers;
-mod parts;
 
 pub use encoding::{encode, header};
-pub use fault::{JournalFault, Unread};
 
 #[cfg(test)]
 mod tests;
