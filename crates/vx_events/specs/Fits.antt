@@ -2,10 +2,10 @@
 use Rattle.std.specs.Prelude.{◌≡◌, ℕ, ◌%◌, ◌&&◌, ◌||◌, ◌==◌, Bool, true, false, not, List, length, map, nat_le, nat_lt, slice_get, Option, Some, None}
 use Rattle.std.specs.List.{list_all}
 use Rattle.vx_json.specs.Reading.{is_within}
-use Rattle.vx_election.specs.declared.contest.Contest.{Contest}
-use Rattle.vx_election.specs.declared.election.Election.{Election}
-use Rattle.vx_election.specs.Options.{options_of}
-use Rattle.vx_election.specs.Styles.{card_count}
+use Rattle.vx_election_model.specs.declared.contest.Contest.{Contest}
+use Rattle.vx_election_model.specs.declared.election.Election.{Election}
+use Rattle.vx_election_model.specs.Options.{options_of}
+use Rattle.vx_election_model.specs.Lists.{card_count}
 use Rattle.vx_rules.specs.declared.marks.ContestMarks.{ContestMarks}
 use Rattle.vx_rules.specs.declared.marks.SheetMarks.{SheetMarks}
 use Rattle.vx_events.specs.declared.decision.Decision.{Decision}

@@ -1,15 +1,15 @@
 ghost use Rattle.std.specs.Prelude.{◌≡◌, ◌≤◌, ◌==◌, nat_lt};
 ghost use Rattle.std.specs.List.{list_all};
-ghost use Rattle.vx_election.specs.Valid.{IsValid};
-ghost use Rattle.vx_election.specs.Options.{options_of};
-ghost use Rattle.vx_election.specs.Styles.{card_count};
+ghost use Rattle.vx_election_model.specs.Valid.{IsValid};
+ghost use Rattle.vx_election_model.specs.Options.{options_of};
+ghost use Rattle.vx_election_model.specs.Lists.{card_count};
 ghost use Rattle.vx_events.specs.Fits.{fits as fits_of, is_batch, is_batch_character, is_decision, is_key, is_name, is_name_byte, is_read, is_sheet, is_station};
 
 use crate::ascending::contests_ascend;
 use crate::decision::{Decision, WriteInName};
 use crate::event::Event;
 use crate::key::Key;
-use vx_election::{Contest, Election, Style};
+use vx_election_model::{Contest, Election, Style};
 use vx_rules::{ContestMarks, SheetMarks};
 
 fn is_batch_character(byte: u8) -> bool

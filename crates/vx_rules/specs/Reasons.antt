@@ -3,11 +3,11 @@ use Rattle.std.specs.Prelude.{ℕ, ◌&&◌, Bool, true, false, List, [], ◌∷
 use Rattle.std.specs.List.{list_all, list_any}
 use Rattle.vx_grid.specs.declared.state.State.{State}
 use Rattle.vx_grid.specs.declared.state.State.TheVariants.{Marked, Marginal, Clear}
-use Rattle.vx_election.specs.declared.contest.Contest.{Contest}
-use Rattle.vx_election.specs.declared.reason.Reason.{Reason}
-use Rattle.vx_election.specs.declared.reason.Reason.TheVariants.{Overvote, Undervote, MarginalMark, BlankBallot, WriteIn}
-use Rattle.vx_election.specs.declared.reason.ReasonSet.{ReasonSet}
-use Rattle.vx_election.specs.Reasons.{has_reason}
+use Rattle.vx_election_model.specs.declared.contest.Contest.{Contest}
+use Rattle.vx_election_model.specs.declared.reason.Reason.{Reason}
+use Rattle.vx_election_model.specs.declared.reason.Reason.TheVariants.{Overvote, Undervote, MarginalMark, BlankBallot, WriteIn}
+use Rattle.vx_election_model.specs.declared.reason.ReasonSet.{ReasonSet}
+use Rattle.vx_election_model.specs.Reasons.{has_reason}
 use Rattle.vx_rules.specs.declared.marks.ContestMarks.{ContestMarks}
 use Rattle.vx_rules.specs.declared.marks.SheetMarks.{SheetMarks}
 

@@ -1,13 +1,13 @@
 ghost use Rattle.std.specs.Prelude.{◌≡◌, ◌&&◌, length, drop, count_by};
 ghost use Rattle.std.specs.List.{list_all, list_any};
-ghost use Rattle.vx_election.specs.Options.{options_of};
-ghost use Rattle.vx_election.specs.Reasons.{has_reason};
-ghost use Rattle.vx_election.specs.declared.reason.Reason.{Reason};
-ghost use Rattle.vx_election.specs.declared.reason.Reason.TheVariants.{MarginalMark};
+ghost use Rattle.vx_election_model.specs.Options.{options_of};
+ghost use Rattle.vx_election_model.specs.Reasons.{has_reason};
+ghost use Rattle.vx_election_model.specs.declared.reason.Reason.{Reason};
+ghost use Rattle.vx_election_model.specs.declared.reason.Reason.TheVariants.{MarginalMark};
 ghost use Rattle.vx_rules.specs.Reasons.{holds, is_blank_sheet, is_clear, is_enabled, is_marginal, is_marked, reasons_of};
 
 use crate::marks::{ContestMarks, SheetMarks};
-use vx_election::{Contest, Reason, ReasonSet};
+use vx_election_model::{Contest, Reason, ReasonSet};
 use vx_grid::{State, States};
 
 fn is_marked(state: State) -> bool

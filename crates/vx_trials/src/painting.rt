@@ -5,7 +5,7 @@ use std::alloc::Global;
 use std::test::Fail;
 use vx_bits::BitPage;
 use vx_code::{PageCode, tag_of};
-use vx_election::Election;
+use vx_election_model::Election;
 use vx_grid::{Kind, Paper};
 use vx_layout::{Bubble, Bubbles, PagePlan, TextLine, TextLines};
 use vx_raster::paint;

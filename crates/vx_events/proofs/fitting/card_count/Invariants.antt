@@ -1,5 +1,5 @@
 use Rattle.std.proofs.Common.{◌≡◌, ◌+◌, drop}
-use Rattle.vx_election.specs.Styles.{card_count}
+use Rattle.vx_election_model.specs.Lists.{card_count}
 use Rattle.vx_events.proofs.fitting.card_count.Given as goal
 
 abbrev pub invariant-loop-style : goal.invariant-loop-style

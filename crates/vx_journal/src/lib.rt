@@ -1,0 +1,12 @@
+//! The records of a journal: each event as one line of text, and the header of an election.
+//!
+//! Each event has exactly one spelling, `record_of` of `specs/Records.antt`; `specs/Held.antt` says
+//! which events have a record, whatever the election. `header` and `encode` give the spellings.
+#![tactic(auto)]
+
+mod encoding;
+
+pub use encoding::{encode, header};
+
+#[cfg(test)]
+mod tests;
