@@ -7,6 +7,7 @@ ghost use Rattle.vx_scan_model.specs.Faults.{is_no_memory as is_want_of_memory};
 ghost use Rattle.vx_scan_model.specs.Reading as reading;
 ghost use Rattle.vx_scan_model.specs.Reading.{code_read, either_way, reading_of_code, upright_reading_of};
 ghost use Rattle.vx_page.specs.Named.{IsOfAPlan, GivesOnPlan, GivesWithPlan};
+ghost use Rattle.vx_page.specs.Margin.{ReadsWhatFits};
 
 use crate::bubbles::{scores_of, states_of};
 use crate::code::read_code;
@@ -18,7 +19,7 @@ use vx_count::Counter;
 use vx_election_model::Election;
 use vx_grid::{Border, Paper};
 use vx_layout::{CardPlans, PagePlan, plans_have_the_elections_paper, plans_stand_on_the_grid};
-use vx_scan_model::{PageFault, PageReading, a_border_is_the_border};
+use vx_scan_model::{PageFault, PageReading, a_border_is_the_border, fitting_scans_are_read};
 
 /// The least and the greatest number of rows of a scan of this paper.
 fn allowed_heights(paper: Paper) -> (u32, u32)
@@ -201,7 +202,10 @@ pub fn read_page(
         × (width ≡ page.now.width) × (height ≡ page.now.height)) }
     // The code names a planned page, and each of its bubbles has a score and a state.
     ensures planned { IfOk result (IsOfAPlan election.now) }
+    // A scan that fits a printed page with its marks, as it lies, is read as that page with those marks.
+    ensures margin { ReadsWhatFits election.now page.now result }
 {
+    fitting_scans_are_read();
     if !is_allowed(election.paper, page) {
         return Err(PageFault::FrameSize(page.width(), page.height()));
     }

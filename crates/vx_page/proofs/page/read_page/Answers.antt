@@ -1,4 +1,8 @@
-use Rattle.std.proofs.Common.{ap₂, ◌∙◌, sym, ℕ}
+use Rattle.std.proofs.Common.{◌≡◌, ap₂, ◌∙◌, sym, ℕ, false}
+use Rattle.vx_plane.specs.Plane.{Page}
+use Rattle.vx_election_model.specs.declared.election.Election.{Election}
+use Rattle.vx_scan_model.specs.Reading.{is_allowed, reading_of}
+use Rattle.vx_page.proofs.Margin.{reads-what_fits}
 use Rattle.std.specs.Prelude.{Result, Ok, Err}
 use Rattle.std.proofs.lemmas.Bool.{false≢true}
 use Rattle.vx_scan_model.specs.declared.reading.PageReading.{PageReading}
@@ -7,11 +11,20 @@ use Rattle.vx_scan_model.specs.declared.fault.PageFault.TheVariants.{FrameSize}
 use Rattle.vx_page.proofs.Answered.{reading-not_allowed, gives-no_frame}
 use Rattle.vx_page.proofs.page.read_page.Goals as goal
 
+-- the fault of a frame that isn't allowed
+frame : (election : Election) (page : Page) (width height : ℕ) → is_allowed election.paper page ≡ false → width ≡ page.width → height ≡ page.height → reading_of election page ≡ Err (FrameSize width height)
+frame election page width height not_allowed wide high =
+    let size : ℕ → ℕ → Result PageReading PageFault = λ w h. Err (FrameSize w h) in
+    reading-not_allowed election page not_allowed ∙ ap₂ size (sym wide) (sym high)
+
 pub returns-then-not-is_allowed-clause-exact : goal.returns-then-not-is_allowed-clause-exact
 returns-then-not-is_allowed-clause-exact c =
-    let size : ℕ → ℕ → Result PageReading PageFault = λ width height. Err (FrameSize width height) in
-    reading-not_allowed c.args.election.now c.args.page.now (sym c.if-not-is_allowed.ensures)
-    ∙ ap₂ size (sym c.width.ensures.value) (sym c.height.ensures.value)
+    frame c.args.election.now c.args.page.now c.width.result c.height.result (sym c.if-not-is_allowed.ensures) c.width.ensures.value c.height.ensures.value
+
+pub returns-then-not-is_allowed-clause-margin : goal.returns-then-not-is_allowed-clause-margin
+returns-then-not-is_allowed-clause-margin c =
+    reads-what_fits c.fitting_scans_are_read.ensures c.args.election.now c.args.page.now (Err (FrameSize c.width.result c.height.result)) c.requires.election
+    (frame c.args.election.now c.args.page.now c.width.result c.height.result (sym c.if-not-is_allowed.ensures) c.width.ensures.value c.height.ensures.value)
 
 pub returns-in-Ok : goal.returns-in-Ok
 returns-in-Ok c =
@@ -23,6 +36,7 @@ returns-in-Ok c =
         λ h. absurd (false≢true (sym h.0 ∙ allowed)),
       );
       planned = record { plan = _; of_plan = c.in-Ok.ensures.1 };
+      margin = reads-what_fits c.fitting_scans_are_read.ensures c.args.election.now c.args.page.now (Ok c.in-Ok.reading) c.requires.election c.in-Ok.ensures.0;
     }
 
 pub returns-in-Err : goal.returns-in-Err
@@ -35,4 +49,5 @@ returns-in-Err c =
         λ h. absurd (false≢true (sym h.0 ∙ allowed)),
       );
       planned = tt;
+      margin = reads-what_fits c.fitting_scans_are_read.ensures c.args.election.now c.args.page.now (Err c.in-Err.fault) c.requires.election c.in-Err.ensures;
     }
