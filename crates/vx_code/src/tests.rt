@@ -37,16 +37,28 @@ fn a_code_is_printed_and_read(rt: HostRuntime) {
         assert_eq!(rt; boxes[2 * n], bits[n] == b'0', "left box of pair {n}");
         assert_eq!(rt; boxes[2 * n + 1], bits[n] == b'1', "right box of pair {n}");
     }
-    assert_eq!(rt; read_boxes(&counts_of(&CODE, 560, 0), Paper::Letter), Ok(CODE));
-    assert_eq!(rt; read_boxes(&counts_of(&CODE, 400, 160), Paper::Letter), Ok(CODE));
+    assert_eq!(rt;
+        read_boxes(&counts_of(&CODE, 560, 0), Paper::Letter),
+        Ok(CODE)
+    );
+    assert_eq!(rt;
+        read_boxes(&counts_of(&CODE, 400, 160), Paper::Letter),
+        Ok(CODE)
+    );
 }
 
 #[test]
 fn a_code_has_the_version_of_its_paper(rt: HostRuntime) {
-    let legal = PageCode { version: version_of(Paper::Legal), ..CODE };
+    let legal = PageCode {
+        version: version_of(Paper::Legal),
+        ..CODE
+    };
     let counts = counts_of(&legal, 560, 0);
     assert_eq!(rt; read_boxes(&counts, Paper::Legal), Ok(legal));
-    assert_eq!(rt; read_boxes(&counts, Paper::Letter), Err(CodeFault::BadVersion(2)));
+    assert_eq!(rt;
+        read_boxes(&counts, Paper::Letter),
+        Err(CodeFault::BadVersion(2))
+    );
     assert_eq!(rt; place_of_box(Paper::Letter, 0), (3, 35));
     assert_eq!(rt; place_of_box(Paper::Legal, 83), (30, 48));
 }

@@ -23,6 +23,7 @@ use vx_raster::paint;
 
 /// How many bytes a printed page's raw bitmap has before its rows, and for each row.
 const HEADER_BYTES: usize = 13;
+
 const ROW_BYTES: usize = 213;
 
 /// The code of a ballot's page with a number.

@@ -7,16 +7,15 @@ ghost use Rattle.vx_election.specs.Faults.{is_no_memory};
 ghost use Rattle.vx_election.specs.Ids.{place_in};
 ghost use Rattle.vx_election.specs.Contests.{name_at, with_parties, label_of, affiliations_in, candidate_at, candidate_list_in, candidates_in};
 
-use vx_election_model::{Choice, Choices};
 use crate::directory::Directory;
 use crate::fault::ElectionFault;
 use crate::ids::Ids;
 use crate::members::{id_member, list_member, optional_list, text_member};
-use vx_election_model::Named;
 use crate::references::references_of;
 use serde_json::Value;
 use std::alloc::Global;
 use vx_base::OutOfMemory;
+use vx_election_model::{Choice, Choices, Named};
 use vx_json::{Path, Text};
 
 /// How many characters a label may have.

@@ -10,8 +10,6 @@ ghost use Rattle.vx_election.specs.Contests.{kind_of, kind_in, heading_in, leave
 ghost use Rattle.vx_election_model.specs.Labels.{answer_of};
 
 use crate::candidates::candidates_of;
-use vx_election_model::{Choice, Choices};
-use vx_election_model::{Contest, Contests};
 use crate::directory::Directory;
 use crate::fault::ElectionFault;
 use crate::ids::Ids;
@@ -23,6 +21,7 @@ use crate::names;
 use serde_json::Value;
 use std::alloc::Global;
 use vx_base::OutOfMemory;
+use vx_election_model::{Choice, Choices, Contest, Contests};
 use vx_json::{Path, Text, need, string_of};
 
 /// The members that each contest begins with.

@@ -10,10 +10,10 @@ ghost use Rattle.vx_election.specs.Parts.{named_at, named_list_in};
 use crate::fault::ElectionFault;
 use crate::ids::Ids;
 use crate::members::{id_member, text_member};
-use vx_election_model::{Named, NamedList};
 use serde_json::Value;
 use std::alloc::Global;
 use std::marker::Model;
+use vx_election_model::{Named, NamedList};
 use vx_json::{Path, Text};
 
 /// A list of parties, districts or precincts, with the place of each id.

@@ -23,5 +23,6 @@ mod styles;
 pub use fault::ElectionFault;
 pub use reading::read_election;
 pub use vx_election_model::{
-    Choice, Choices, Contest, Contests, Election, Indexes, Named, NamedList, Reason, ReasonSet, Style, Styles,
+    Choice, Choices, Contest, Contests, Election, Indexes, Named, NamedList, Reason, ReasonSet,
+    Style, Styles,
 };

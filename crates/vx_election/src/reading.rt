@@ -8,21 +8,19 @@ ghost use Rattle.vx_election.specs.Faults.{is_no_memory};
 ghost use Rattle.vx_election_model.specs.Valid.{IsValid};
 ghost use Rattle.vx_election.specs.Reading.{date_member, parties_in, named_member, contests_member, styles_member, election_in, value_of, election_of};
 
-use vx_election_model::Contests;
 use crate::contests::contests_of;
 use crate::date::date_of;
 use crate::directory::{Directory, directory_of};
-use vx_election_model::Election;
 use crate::fault::ElectionFault;
 use crate::members::{list_member, optional_list, optional_text, text_member};
 use crate::names;
 use crate::paper::paper_of;
 use crate::settings::{reasons_of, thresholds_of};
-use vx_election_model::Styles;
 use crate::styles::{card_count, styles_of};
 use serde_json::Value;
 use sha2::{Digest, Sha256};
 use std::alloc::Global;
+use vx_election_model::{Contests, Election, Styles};
 use vx_json::{Path, Text, need};
 
 /// How many cards an election may have.

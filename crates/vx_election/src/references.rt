@@ -9,12 +9,12 @@ ghost use Rattle.vx_election.specs.Parts.{references_in, new_references_in};
 
 use crate::fault::ElectionFault;
 use crate::ids::{Ids, id_of, reference_of};
-use vx_election_model::Indexes;
 use serde_json::Value;
 use std::alloc::Global;
 use std::collections::BTreeSet;
 use std::marker::Model;
 use vx_base::OutOfMemory;
+use vx_election_model::Indexes;
 use vx_json::{Path, Text};
 
 /// Places of a list in order, each once, with the set of them.

@@ -10,9 +10,9 @@ ghost use Rattle.vx_election.specs.Settings.{pixels_of, are_in_order, stated_thr
 use crate::fault::ElectionFault;
 use crate::members::{list_up_to, whole_member};
 use crate::names;
-use vx_election_model::{Reason, ReasonSet};
 use serde_json::Value;
 use std::alloc::Global;
+use vx_election_model::{Reason, ReasonSet};
 use vx_grid::{INNER_PIXELS, Thresholds};
 use vx_json::{Path, string_of};
 

@@ -11,12 +11,11 @@ ghost use Rattle.vx_election_model.specs.Lists.{card_count};
 use crate::directory::Directory;
 use crate::fault::ElectionFault;
 use crate::ids::Ids;
-use vx_election_model::Indexes;
 use crate::members::{id_member, list_member, optional_reference};
 use crate::references::new_references_of;
-use vx_election_model::{Style, Styles};
 use serde_json::Value;
 use std::alloc::Global;
+use vx_election_model::{Indexes, Style, Styles};
 use vx_json::{Path, Text};
 
 /// The places that a style names under a member, each once.

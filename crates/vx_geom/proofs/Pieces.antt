@@ -46,18 +46,18 @@ two_more f low n close two =
           (λ last. let e : f v ≡ t = new v last in inl e);
     })
     (λ more. by_lt_z (c +ℤ pos 1) t
-      (λ past. record {
-        base = t -ℤ pos 1;
-        values = λ v from to. last_or_before low v n from to
-            (λ before. let o = old v from before in let k = near v from before in by_equal (t -ℤ pos 1) (f v) (omega (arith, ints, k.low)) (omega (arith, ints, o.1, past)))
-            (λ last. let e : f v ≡ t = new v last in by_equal (t -ℤ pos 1) (f v) (omega (arith, ints, e)) (omega (arith, ints, e)));
-      })
-      (λ within. record {
-        base = c;
-        values = λ v from to. last_or_before low v n from to
-            (λ before. two.values v from before)
-            (λ last. let e : f v ≡ t = new v last in by_equal c (f v) (omega (arith, ints, e, more)) (omega (arith, ints, e, within)));
-      }))
+    (λ past. record {
+      base = t -ℤ pos 1;
+      values = λ v from to. last_or_before low v n from to
+          (λ before. let o = old v from before in let k = near v from before in by_equal (t -ℤ pos 1) (f v) (omega (arith, ints, k.low)) (omega (arith, ints, o.1, past)))
+          (λ last. let e : f v ≡ t = new v last in by_equal (t -ℤ pos 1) (f v) (omega (arith, ints, e)) (omega (arith, ints, e)));
+    })
+    (λ within. record {
+      base = c;
+      values = λ v from to. last_or_before low v n from to
+          (λ before. two.values v from before)
+          (λ last. let e : f v ≡ t = new v last in by_equal c (f v) (omega (arith, ints, e, more)) (omega (arith, ints, e, within)));
+    }))
 
 two_values : (f : ℤ → ℤ) (low : ℤ) (n : ℕ) → AreClose f low n → AreTwo f low n
 two_values f low zero close = record { base = pos 0; values = λ v from to. absurd (omega (arith, ints)) }

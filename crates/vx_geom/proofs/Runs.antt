@@ -24,15 +24,15 @@ later_le : (a : ℤ) (m : ℕ) (b : ℤ) (n k : ℕ) (f : ℤ → ℕ) → a ≡
 later_le a m b n k f at none =
     by_lt_z (pos n) (pos k)
     (λ past.
-      let nothing : sum_from a m f ≤ sum_from a 0 f = aligned_le a m 0 f (λ z from to up. none z from to (inr (omega (arith, ints, at, past)))) in
-      omega arith)
+    let nothing : sum_from a m f ≤ sum_from a 0 f = aligned_le a m 0 f (λ z from to up. none z from to (inr (omega (arith, ints, at, past)))) in
+    omega arith)
     (λ within.
-      let whole : n ≡ k + (n - k) = omega (arith, ints, within) in
-      let cut : sum_from b (k + (n - k)) f ≡ sum_from b k f + sum_from (b +ℤ pos k) (n - k) f = sum_from-parts b k (n - k) f in
-      let there : sum_from (b +ℤ pos k) (n - k) f ≡ sum_from a (n - k) f = ap (λ z. sum_from z (n - k) f) (sym at) in
-      let all : sum_from b n f ≡ sum_from b (k + (n - k)) f = ap (λ c. sum_from b c f) whole in
-      let most : sum_from a m f ≤ sum_from a (n - k) f = aligned_le a m (n - k) f (λ z from to up. none z from to (inr (omega (arith, ints, at, up, within)))) in
-      omega arith)
+    let whole : n ≡ k + (n - k) = omega (arith, ints, within) in
+    let cut : sum_from b (k + (n - k)) f ≡ sum_from b k f + sum_from (b +ℤ pos k) (n - k) f = sum_from-parts b k (n - k) f in
+    let there : sum_from (b +ℤ pos k) (n - k) f ≡ sum_from a (n - k) f = ap (λ z. sum_from z (n - k) f) (sym at) in
+    let all : sum_from b n f ≡ sum_from b (k + (n - k)) f = ap (λ c. sum_from b c f) whole in
+    let most : sum_from a m f ≤ sum_from a (n - k) f = aligned_le a m (n - k) f (λ z from to up. none z from to (inr (omega (arith, ints, at, up, within)))) in
+    omega arith)
 
 run_from : (a : ℤ) (m : ℕ) (b : ℤ) (n : ℕ) (f : ℤ → ℕ) (d : ℤ) → a ≡ b +ℤ d → ((z : ℤ) → a ≤ℤ z → z <ℤ (a +ℤ pos m) → LiesOutside b n z → f z ≡ 0) → sum_from a m f ≤ sum_from b n f
 run_from a zero b n f d at none = omega arith
@@ -51,7 +51,7 @@ pub moved_le : (a : ℤ) (m : ℕ) (b : ℤ) (n : ℕ) (by : ℤ) (f : ℤ → �
 moved_le a m b n by f none =
     let moved : sum_from (a +ℤ by) m f ≡ sum_from a m (λ z. f (z +ℤ by)) = sum_from-moved a by m f in
     let most : sum_from (a +ℤ by) m f ≤ sum_from b n f = run_le (a +ℤ by) m b n f (λ z from to out.
-      let there : (z -ℤ by) +ℤ by ≡ z = omega (arith, ints) in
-      let Out : ℤ → Type 0 = λ w. LiesOutside b n w in
-      sym (ap f there) ∙ none (z -ℤ by) (omega (arith, ints)) (omega (arith, ints)) (subst Out (sym there) out)) in
+    let there : (z -ℤ by) +ℤ by ≡ z = omega (arith, ints) in
+    let Out : ℤ → Type 0 = λ w. LiesOutside b n w in
+    sym (ap f there) ∙ none (z -ℤ by) (omega (arith, ints)) (omega (arith, ints)) (subst Out (sym there) out)) in
     omega (arith, moved, most)

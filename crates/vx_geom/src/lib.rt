@@ -11,6 +11,7 @@ mod shear;
 mod tests;
 
 pub use laws::{
-    slants_are_bijections, slants_are_rigid, slants_conserve_counts, slants_move_nearby, slants_move_nearly_as_a_whole,
+    slants_are_bijections, slants_are_rigid, slants_conserve_counts, slants_move_nearby,
+    slants_move_nearly_as_a_whole,
 };
 pub use shear::Shear;

@@ -2,7 +2,12 @@ use super::*;
 use vx_grid::Point;
 
 /// The steepest shear of a page in a frame of 1800 by 2240.
-const STEEP: Shear = Shear { sx: 53, sy: 41, a: 64, b: -64 };
+const STEEP: Shear = Shear {
+    sx: 53,
+    sy: 41,
+    a: 64,
+    b: -64,
+};
 
 fn at(u: i32, v: i32) -> Point {
     Point { u, v }

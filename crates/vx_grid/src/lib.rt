@@ -19,7 +19,9 @@ mod state;
 
 pub use border::Border;
 pub use kind::Kind;
-pub use lines::{FIRST_CONTEST_ROW, centre_x, centre_y, contest_rows, first_code_row, foot_row, x_of, y_of};
+pub use lines::{
+    FIRST_CONTEST_ROW, centre_x, centre_y, contest_rows, first_code_row, foot_row, x_of, y_of,
+};
 pub use numbers::{MOST_MARKS, mark_of, marks};
 pub use paper::{PAGE_WIDTH, Paper, last_row, page_height};
 pub use places::{Point, Rect, bubble_window, code_window};

@@ -7,13 +7,22 @@ pub struct HalfSides {
 }
 
 /// A timing mark.
-pub const MARK: HalfSides = HalfSides { across: 18, down: 6 };
+pub const MARK: HalfSides = HalfSides {
+    across: 18,
+    down: 6,
+};
 
 /// The box of a bubble.
-pub const BUBBLE: HalfSides = HalfSides { across: 20, down: 13 };
+pub const BUBBLE: HalfSides = HalfSides {
+    across: 20,
+    down: 13,
+};
 
 /// A box of the page code.
-pub const CODE_BOX: HalfSides = HalfSides { across: 14, down: 10 };
+pub const CODE_BOX: HalfSides = HalfSides {
+    across: 14,
+    down: 10,
+};
 
 /// The reach of a window past its box.
 const REACH: HalfSides = HalfSides { across: 8, down: 6 };

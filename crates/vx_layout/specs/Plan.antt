@@ -120,8 +120,8 @@ abbrev pub plan_with : Election → ℕ → Card → List ℕ → ℕ → Result
 plan_with election number card numbers pages =
     if nat_lt 63 pages then Err (TooManyPages pages)
     else
-      Ok (card_plan number
-      (page_plans election card (blocks_from election.paper election.contests top numbers) pages))
+    Ok (card_plan number
+    (page_plans election card (blocks_from election.paper election.contests top numbers) pages))
 
 -- a card of those contests, if each of them can be printed
 abbrev pub plan_checked : Election → ℕ → Card → List ℕ → Result CardPlan LayoutFault

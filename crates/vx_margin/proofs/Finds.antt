@@ -8,7 +8,6 @@ use Rattle.vx_grid.specs.Sizes.{bubble, window_of, zone_of}
 use Rattle.vx_geom.specs.Slants.{Slant, IsSlant}
 use Rattle.vx_margin.specs.Marks.{mark_image, image_of, LiesNear}
 use Rattle.vx_margin.specs.Shown.{ShowsBorder, IsInStartRegion, ShowsZone}
-
 use Rattle.vx_margin.specs.Laws.{FindsBorder, HoldsWindow}
 use Rattle.vx_margin.proofs.Steps.{first-accepted, first-in-region}
 use Rattle.vx_margin.proofs.Chains.{followed-near, near-closes, next-accepted}

@@ -42,8 +42,7 @@ alike s slant paper c r u v a b =
     let q : Point = image_of s paper c r in
     let near = (is-rigid s slant).paper u v q.u q.v a b in
     let column : paper_column s q.u q.v ≡ pos (x_of c) = paper_column-scan s (pos (x_of c)) (pos (y_of paper r)) in
-    let row : paper_row s q.u q.v ≡ pos (y_of paper r) = paper_row-scan s (pos (x_of c)) (pos (y_of paper r)) in
-    (
+    let row : paper_row s q.u q.v ≡ pos (y_of paper r) = paper_row-scan s (pos (x_of c)) (pos (y_of paper r)) in (
       record { low = omega (arith, ints, near.across.low, column); high = omega (arith, ints, near.across.high, column) },
       record { low = omega (arith, ints, near.down.low, row); high = omega (arith, ints, near.down.high, row) },
     )

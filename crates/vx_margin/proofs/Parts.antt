@@ -68,7 +68,7 @@ pub count_in-inside : (left top : ℤ) (width height : ℕ) (x y : ℤ) (m n : �
 count_in-inside left top width height x y m n set a b c d =
     count_in-into set left top width height x y m n
     (λ u v inside h. let sides = rectangle-sides left top width height u v inside in
-      rectangle-inside x y m n u v (omega (arith, ints, a, sides.0)) (omega (arith, ints, b, sides.1)) (omega (arith, ints, c, sides.2)) (omega (arith, ints, d, sides.3)))
+    rectangle-inside x y m n u v (omega (arith, ints, a, sides.0)) (omega (arith, ints, b, sides.1)) (omega (arith, ints, c, sides.2)) (omega (arith, ints, d, sides.3)))
 
 -- a rectangle of the set in another gives its area
 pub count_in-at_least : (left top : ℤ) (width height : ℕ) (x y : ℤ) (m n : ℕ) (set : Pixels)

@@ -19,7 +19,7 @@ use Rattle.vx_margin.specs.Flips.{flips, flips_in, flips_on, frame_of}
 abbrev pub count_at : Point → Pixels → ℕ
 count_at p set =
     count_in (p.u -ℤ pos footprint.across) (p.v -ℤ pos footprint.down)
-        (footprint.across + footprint.across) (footprint.down + footprint.down) set
+    (footprint.across + footprint.across) (footprint.down + footprint.down) set
 
 -- in no footprint that lies in the frame are more than 20 flips that the frame zone shows
 pub record ShowsMarks (s : Slant) (scan : Page) (paper : Paper) (marks : Pixels) : Type 0 where
@@ -30,7 +30,7 @@ pub record IsInZone (s : Slant) (paper : Paper) (p : Point) : Type 0 where
   pub each :
       (u v : ℤ)
       → rectangle (p.u -ℤ pos footprint.across) (p.v -ℤ pos footprint.down)
-          (footprint.across + footprint.across) (footprint.down + footprint.down) u v ≡ true
+      (footprint.across + footprint.across) (footprint.down + footprint.down) u v ≡ true
       → seen s (frame_zone paper) u v ≡ true
 
 -- the scan shows the marks, and the footprint at each mark's image lies in its frame
@@ -51,7 +51,7 @@ pub record IsInStartRegion (p : Point) : Type 0 where
 abbrev pub count_round : Paper → HalfSides → ℕ → ℕ → Pixels → ℕ
 count_round paper half c r set =
     count_in (pos (x_of c) -ℤ pos half.across) (pos (y_of paper r) -ℤ pos half.down)
-        (half.across + half.across) (half.down + half.down) set
+    (half.across + half.across) (half.down + half.down) set
 
 -- the images of all places of such a size round a grid point lie in the frame, and at most so many of them are
 -- flips
@@ -65,4 +65,4 @@ pub record ShowsZone (s : Slant) (scan : Page) (paper : Paper) (set : Pixels) (h
 abbrev pub dark_round : Page → HalfSides → Point → ℕ
 dark_round scan half p =
     count_in (p.u -ℤ pos half.across) (p.v -ℤ pos half.down)
-        (half.across + half.across) (half.down + half.down) (dark_at scan)
+    (half.across + half.across) (half.down + half.down) (dark_at scan)

@@ -5,35 +5,29 @@ ghost use Rattle.vx_margin.specs.Laws.{TimingMarksAreMarks, AcceptedBelong, Bord
 /// The timing marks of a page are those at its border points.
 pub fn timing_marks_are_marks()
     ensures { TimingMarksAreMarks }
-{
-}
+{}
 
 /// An accepted place that is seen in the frame zone belongs to a timing mark.
 pub fn accepted_places_belong()
     ensures { AcceptedBelong }
-{
-}
+{}
 
 /// In a scan that shows its marks the border is found.
 pub fn borders_are_found()
     ensures { BordersAreFound }
-{
-}
+{}
 
 /// A chain of accepted places that begins at the first mark lies at the marks.
 pub fn chains_lie_at_marks()
     ensures { ChainsLieAtMarks }
-{
-}
+{}
 
 /// A grid place between places at the marks lies near the image of its grid point.
 pub fn grid_places_lie_near()
     ensures { GridPlacesLieNear }
-{
-}
+{}
 
 /// A window near the image of a grid point holds its box and lies in its zone.
 pub fn windows_hold()
     ensures { WindowsHold }
-{
-}
+{}

@@ -36,9 +36,9 @@ placed-count left top cx cy width height shape =
     count_in-moved left top cx cy width height (placed cx cy shape)
     ∙ count_in-same left top width height (λ u v. placed cx cy shape (u +ℤ cx) (v +ℤ cy)) shape
     (λ u v a b c d.
-      let across : (u +ℤ cx) -ℤ cx ≡ u = omega (arith, ints) in
-      let down : (v +ℤ cy) -ℤ cy ≡ v = omega (arith, ints) in
-      ap (λ z. shape z ((v +ℤ cy) -ℤ cy)) across ∙ ap (λ z. shape u z) down)
+    let across : (u +ℤ cx) -ℤ cx ≡ u = omega (arith, ints) in
+    let down : (v +ℤ cy) -ℤ cy ≡ v = omega (arith, ints) in
+    ap (λ z. shape z ((v +ℤ cy) -ℤ cy)) across ∙ ap (λ z. shape u z) down)
 
 -- the outline of a bubble, in its zone and in its box
 bubble-zone : (paper : Paper) (bubble : Bubble) → count_round paper (zone_of sizes.bubble) bubble.col bubble.row (bubble_pixels paper bubble) ≡ 192
@@ -123,7 +123,7 @@ module _ (are : TimingMarksAreMarks) (plan : PagePlan) (keeps : KeepsClear plan)
         count_in-le l t 40 26 (union print added) paper (λ x y a b c d h. either (print x y) (added x y) h (printed x y) (added-true (print x y) (paper x y))) in
         let own : count_in l t 40 26 print ≡ count_in l t 40 26 (bubble_pixels plan.paper bubble) =
         count_in-same l t 40 26 print (bubble_pixels plan.paper bubble) (λ x y a b c d. bubble-printed are plan keeps boxes n few x y
-          (box-in_zone plan.paper bubble x y (round-inside 20 13 cx cy x y a (omega (arith, ints, b)) c (omega (arith, ints, d))))) in
+        (box-in_zone plan.paper bubble x y (round-inside 20 13 cx cy x y a (omega (arith, ints, b)) c (omega (arith, ints, d))))) in
         let outline : count_in l t 40 26 (bubble_pixels plan.paper bubble) ≡ 192 = bubble-box plan.paper bubble in
         omega (arith, parts, all, own, outline)
 
@@ -136,9 +136,9 @@ module _ (are : TimingMarksAreMarks) (plan : PagePlan) (keeps : KeepsClear plan)
         let cy : ℕ = y_of plan.paper (place_of_box plan.paper n).1 in
         count_in-all (pos cx -ℤ pos 14) (pos cy -ℤ pos 10) 28 20 paper
         (λ x y a b c d.
-          let box : round sizes.code_box cx cy x y ≡ true = round-inside 14 10 cx cy x y a (omega (arith, ints, b)) c (omega (arith, ints, d)) in
-          let zone : box_zone_at plan.paper (place_of_box plan.paper n) x y ≡ true = round-inside 30 22 cx cy x y (omega (arith, ints, a)) (omega (arith, ints, b)) (omega (arith, ints, c)) (omega (arith, ints, d)) in
-          printed x y (code-printed are plan keeps boxes n few x y zone ∙ shown (slice_index_or boxes n false) is x y box))
+        let box : round sizes.code_box cx cy x y ≡ true = round-inside 14 10 cx cy x y a (omega (arith, ints, b)) c (omega (arith, ints, d)) in
+        let zone : box_zone_at plan.paper (place_of_box plan.paper n) x y ≡ true = round-inside 30 22 cx cy x y (omega (arith, ints, a)) (omega (arith, ints, b)) (omega (arith, ints, c)) (omega (arith, ints, d)) in
+        printed x y (code-printed are plan keeps boxes n few x y zone ∙ shown (slice_index_or boxes n false) is x y box))
       where
         shown : (test : Bool) → test ≡ true → (x y : ℤ) → box_pixels plan.paper n x y ≡ true → (if test then box_pixels plan.paper n else nowhere) x y ≡ true
         shown true e x y h = h
@@ -152,9 +152,9 @@ module _ (are : TimingMarksAreMarks) (plan : PagePlan) (keeps : KeepsClear plan)
         let cy : ℕ = y_of plan.paper (place_of_box plan.paper n).1 in
         count_in-none (pos cx -ℤ pos 30) (pos cy -ℤ pos 22) 60 44 paper
         (λ x y a b c d.
-          let zone : box_zone_at plan.paper (place_of_box plan.paper n) x y ≡ true = round-inside 30 22 cx cy x y a (omega (arith, ints, b)) c (omega (arith, ints, d)) in
-          neither (print x y) (paper x y) (code-printed are plan keeps boxes n few x y zone ∙ blank (slice_index_or boxes n false) is x y)
-          (λ h. apart.apart x y h (in_any-one 84 n (λ m. box_zone_at plan.paper (place_of_box plan.paper m)) x y few zone)))
+        let zone : box_zone_at plan.paper (place_of_box plan.paper n) x y ≡ true = round-inside 30 22 cx cy x y a (omega (arith, ints, b)) c (omega (arith, ints, d)) in
+        neither (print x y) (paper x y) (code-printed are plan keeps boxes n few x y zone ∙ blank (slice_index_or boxes n false) is x y)
+        (λ h. apart.apart x y h (in_any-one 84 n (λ m. box_zone_at plan.paper (place_of_box plan.paper m)) x y few zone)))
       where
         blank : (test : Bool) → test ≡ false → (x y : ℤ) → (if test then box_pixels plan.paper n else nowhere) x y ≡ false
         blank true e x y = cc
@@ -167,6 +167,6 @@ module _ (are : TimingMarksAreMarks) (plan : PagePlan) (keeps : KeepsClear plan)
         let cy : ℕ = y_of plan.paper (reserved_place n).1 in
         count_in-none (pos cx -ℤ pos 30) (pos cy -ℤ pos 22) 60 44 paper
         (λ x y a b c d.
-          let zone : box_zone_at plan.paper (reserved_place n) x y ≡ true = round-inside 30 22 cx cy x y a (omega (arith, ints, b)) c (omega (arith, ints, d)) in
-          neither (print x y) (paper x y) (reserved-empty are plan keeps boxes n few x y zone)
-          (λ h. apart.apart x y h (in_any-one 84 n (λ m. box_zone_at plan.paper (reserved_place m)) x y few zone)))
+        let zone : box_zone_at plan.paper (reserved_place n) x y ≡ true = round-inside 30 22 cx cy x y a (omega (arith, ints, b)) c (omega (arith, ints, d)) in
+        neither (print x y) (paper x y) (reserved-empty are plan keeps boxes n few x y zone)
+        (λ h. apart.apart x y h (in_any-one 84 n (λ m. box_zone_at plan.paper (reserved_place m)) x y few zone)))

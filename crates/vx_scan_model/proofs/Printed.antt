@@ -185,9 +185,9 @@ module _ (are : TimingMarksAreMarks) (plan : PagePlan) (keeps : KeepsClear plan)
       only-first _ _ _ _
       (is_false _ (λ code. true_false (sym zone ∙ code-inner x y code)))
       (is_false _ (λ some. let k = any_of-some plan.bubbles no_bubble (bubble_pixels plan.paper) x y some in
-        (keeps.clear.zones_from_frame k.0 no_bubble k.1).apart x y (bubble-zoned k.0 x y k.2) zone))
+      (keeps.clear.zones_from_frame k.0 no_bubble k.1).apart x y (bubble-zoned k.0 x y k.2) zone))
       (is_false _ (λ some. let k = any_of-some plan.texts no_line line_pixels x y some in
-        (keeps.clear.text_from_frame k.0 no_line k.1).apart x y k.2 zone))
+      (keeps.clear.text_from_frame k.0 no_line k.1).apart x y k.2 zone))
 
   -- in a bubble's zone its outline is
   pub bubble-printed : (n : ℕ) → n < length plan.bubbles → (x y : ℤ) → bubble_zone_of plan.paper (bubble_at plan n) x y ≡ true
@@ -197,9 +197,9 @@ module _ (are : TimingMarksAreMarks) (plan : PagePlan) (keeps : KeepsClear plan)
       only-third _ _ _ _
       (is_false _ (λ mark. (keeps.clear.zones_from_frame n no_bubble few).apart x y zone (marks-in_zone x y mark)))
       (is_false _ (λ code. let k = in_any-some 84 (printed_box plan.paper boxes) x y code in
-        (keeps.clear.zones_from_code n no_bubble few).apart x y zone (in_any-one 84 k.0 (λ m. box_zone_at plan.paper (place_of_box plan.paper m)) x y k.1 (code-zoned k.0 x y (box-of k.0 x y k.2)))))
+      (keeps.clear.zones_from_code n no_bubble few).apart x y zone (in_any-one 84 k.0 (λ m. box_zone_at plan.paper (place_of_box plan.paper m)) x y k.1 (code-zoned k.0 x y (box-of k.0 x y k.2)))))
       (is_false _ (λ some. let k = any_of-some plan.texts no_line line_pixels x y some in
-        ((keeps.clear.zones_from_text k.0 no_line k.1) n no_bubble few).apart x y zone k.2))
+      ((keeps.clear.zones_from_text k.0 no_line k.1) n no_bubble few).apart x y zone k.2))
       ∙ same_bool _ _ own (any_of-one plan.bubbles n no_bubble (bubble_pixels plan.paper) x y few)
     where
       code-zoned : (k : ℕ) (x y : ℤ) → round sizes.code_box (x_of (place_of_box plan.paper k).0) (y_of plan.paper (place_of_box plan.paper k).1) x y ≡ true → box_zone_at plan.paper (place_of_box plan.paper k) x y ≡ true
@@ -207,9 +207,11 @@ module _ (are : TimingMarksAreMarks) (plan : PagePlan) (keeps : KeepsClear plan)
           let sides = round-sides 14 10 (x_of (place_of_box plan.paper k).0) (y_of plan.paper (place_of_box plan.paper k).1) x y h in
           round-inside 30 22 (x_of (place_of_box plan.paper k).0) (y_of plan.paper (place_of_box plan.paper k).1) x y
           (omega (arith, ints, sides.0)) (omega (arith, ints, sides.1)) (omega (arith, ints, sides.2)) (omega (arith, ints, sides.3))
+
       one : (k : ℕ) → k < length plan.bubbles → bubble_pixels plan.paper (bubble_at plan k) x y ≡ true → (n ≡ k) ⊎ (n ≢ k) → bubble_pixels plan.paper (bubble_at plan n) x y ≡ true
       one k within h (inl same) = subst (λ (m : ℕ). bubble_pixels plan.paper (bubble_at plan m) x y ≡ true) (sym same) h
       one k within h (inr other) = absurd ((keeps.apart.each n k no_bubble few within other).apart x y zone (bubble-in_box plan.paper (bubble_at plan k) x y h))
+
       own : any_of plan.bubbles (bubble_pixels plan.paper) x y ≡ true → bubble_pixels plan.paper (bubble_at plan n) x y ≡ true
       own some = let k = any_of-some plan.bubbles no_bubble (bubble_pixels plan.paper) x y some in one k.0 k.1 k.2 (decide n k.0)
 
@@ -232,6 +234,7 @@ module _ (are : TimingMarksAreMarks) (plan : PagePlan) (keeps : KeepsClear plan)
     where
       sides : (pos 172 ≤ℤ x) × (x <ℤ pos 1528) × ((pos (first_y plan.paper + 52 * first) -ℤ pos 22) ≤ℤ y) × (y <ℤ (pos (first_y plan.paper + 52 * (first + 2)) +ℤ pos 22))
       sides = zone-sides first n x y few h
+
       apart : (c r : ℕ) → (r ≡ 0) ⊎ (r ≡ last_row plan.paper) ⊎ (c ≡ 0) ⊎ (c ≡ last_column) → IsInMark plan.paper c r x y → ⊥
       apart c r (inl top) m = omega (arith, ints, m.bottom, top, sides.2, low)
       apart c r (inr (inl bottom)) m = omega (arith, ints, m.top, bottom, sides.3, high)
@@ -252,18 +255,20 @@ module _ (are : TimingMarksAreMarks) (plan : PagePlan) (keeps : KeepsClear plan)
       only-second _ _ _ _
       (no-mark (first_code_row plan.paper) n x y few (omega (arith, many_rows plan.paper)) (omega (arith, many_rows plan.paper)) zone)
       (is_false _ (λ some. let k = any_of-some plan.bubbles no_bubble (bubble_pixels plan.paper) x y some in
-        (keeps.clear.zones_from_code k.0 no_bubble k.1).apart x y (bubble-zoned k.0 x y k.2) in_zones))
+      (keeps.clear.zones_from_code k.0 no_bubble k.1).apart x y (bubble-zoned k.0 x y k.2) in_zones))
       (is_false _ (λ some. let k = any_of-some plan.texts no_line line_pixels x y some in
-        (keeps.clear.text_from_code k.0 no_line k.1).apart x y k.2 in_zones))
+      (keeps.clear.text_from_code k.0 no_line k.1).apart x y k.2 in_zones))
       ∙ same_bool _ _ own (in_any-one 84 n (printed_box plan.paper boxes) x y few)
     where
       in_zones : in_any 84 (λ m. box_zone_at plan.paper (place_of_box plan.paper m)) x y ≡ true
       in_zones = in_any-one 84 n (λ m. box_zone_at plan.paper (place_of_box plan.paper m)) x y few zone
+
       same : (k : ℕ) → k < 84 → box_pixels plan.paper k x y ≡ true → n ≡ k
       same k within h =
           let box = box-sides k x y h in
           let sides = round-sides 30 22 (x_of (place_of_box plan.paper n).0) (y_of plan.paper (place_of_box plan.paper n).1) x y zone in
           place-once (first_code_row plan.paper) n k (omega (arith, ints, box.0, box.1, sides.0, sides.1)) (omega (arith, ints, box.2, box.3, sides.2, sides.3))
+
       own : in_any 84 (printed_box plan.paper boxes) x y ≡ true → printed_box plan.paper boxes n x y ≡ true
       own some =
           let k = in_any-some 84 (printed_box plan.paper boxes) x y some in
@@ -277,12 +282,13 @@ module _ (are : TimingMarksAreMarks) (plan : PagePlan) (keeps : KeepsClear plan)
       (no-mark first_reserved_row n x y few (omega arith) (omega (arith, many_rows plan.paper)) zone)
       (is_false _ (λ some. let k = in_any-some 84 (printed_box plan.paper boxes) x y some in apart k.0 k.1 (box-of k.0 x y k.2)))
       (is_false _ (λ some. let k = any_of-some plan.bubbles no_bubble (bubble_pixels plan.paper) x y some in
-        (keeps.clear.zones_from_reserved k.0 no_bubble k.1).apart x y (bubble-zoned k.0 x y k.2) in_zones))
+      (keeps.clear.zones_from_reserved k.0 no_bubble k.1).apart x y (bubble-zoned k.0 x y k.2) in_zones))
       (is_false _ (λ some. let k = any_of-some plan.texts no_line line_pixels x y some in
-        (keeps.clear.text_from_reserved k.0 no_line k.1).apart x y k.2 in_zones))
+      (keeps.clear.text_from_reserved k.0 no_line k.1).apart x y k.2 in_zones))
     where
       in_zones : in_any 84 (λ m. box_zone_at plan.paper (reserved_place m)) x y ≡ true
       in_zones = in_any-one 84 n (λ m. box_zone_at plan.paper (reserved_place m)) x y few zone
+
       apart : (k : ℕ) → k < 84 → box_pixels plan.paper k x y ≡ true → ⊥
       apart k within h =
           let box = box-sides k x y h in

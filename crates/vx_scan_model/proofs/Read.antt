@@ -127,9 +127,9 @@ module _ (laws : AreLaws) (election : Election) (valid : IsValid election) (scan
         le_trans
         (count_in-le (p.u -ℤ pos 23) (p.v -ℤ pos 11) 46 22 (flips_in s scan (timing_marks plan.paper) (frame_zone plan.paper)) (flips_in s scan fits.paper (frame_zone plan.paper))
         (λ u v a b c d h.
-          let parts = both-parts (seen s (frame_zone plan.paper) u v) (flips s scan (timing_marks plan.paper) u v) h in
-          both-from (seen s (frame_zone plan.paper) u v) (flips s scan fits.paper u v) parts.0
-          (flips-same s scan fits.paper (timing_marks plan.paper) u v (frame-paper _ _ parts.0) ∙ parts.1)))
+        let parts = both-parts (seen s (frame_zone plan.paper) u v) (flips s scan (timing_marks plan.paper) u v) h in
+        both-from (seen s (frame_zone plan.paper) u v) (flips s scan fits.paper u v) parts.0
+        (flips-same s scan fits.paper (timing_marks plan.paper) u v (frame-paper _ _ parts.0) ∙ parts.1)))
         (fits.shows.few p framed);
   }
 
@@ -215,13 +215,13 @@ module _ (laws : AreLaws) (election : Election) (valid : IsValid election) (scan
         let many_marks : length (map state_of_mark marks) ≡ length marks = length-map marks state_of_mark in
         ext_get_or Clear states (map state_of_mark marks) (many_states ∙ many_scores ∙ sym fits.inked.all ∙ sym many_marks)
         (λ n within.
-          let in_scores : n < length scores = omega (arith, within, many_states) in
-          let few : n < length plan.bubbles = omega (arith, in_scores, many_scores) in
-          let in_marks : n < length marks = omega (arith, few, fits.inked.all) in
-          get_or-map (λ score. state_of score election.thresholds) scores n 0 Clear in_scores
-          ∙ (ap (λ score. state_of score election.thresholds) (get_or-map (bubble_score scan border) plan.bubbles n (record { contest = 0; option = 0; col = 0; row = 0 }) 0 few)
-          ∙ (scored n few (slice_index_or marks n false) (fits.inked.ink n few)
-          ∙ sym (get_or-map state_of_mark marks n false Clear in_marks))))
+        let in_scores : n < length scores = omega (arith, within, many_states) in
+        let few : n < length plan.bubbles = omega (arith, in_scores, many_scores) in
+        let in_marks : n < length marks = omega (arith, few, fits.inked.all) in
+        get_or-map (λ score. state_of score election.thresholds) scores n 0 Clear in_scores
+        ∙ (ap (λ score. state_of score election.thresholds) (get_or-map (bubble_score scan border) plan.bubbles n (record { contest = 0; option = 0; col = 0; row = 0 }) 0 few)
+        ∙ (scored n few (slice_index_or marks n false) (fits.inked.ink n few)
+        ∙ sym (get_or-map state_of_mark marks n false Clear in_marks))))
 
   -- the code of a printed page names its plan
   named : named_plan election (code_of election printed) ≡ Ok plan

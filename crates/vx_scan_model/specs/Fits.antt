@@ -18,7 +18,6 @@ use Rattle.vx_layout.specs.Printed.{PrintedPage, IsPlanned, code_of, print_of_pa
 use Rattle.vx_mark_model.specs.Mark.{IsInFrame, most_wrong}
 use Rattle.vx_geom.specs.declared.shear.Shear.{Shear}
 use Rattle.vx_geom.specs.Slants.{Slant, IsSlant, slant_of}
-
 use Rattle.vx_margin.specs.Marks.{mark_image}
 use Rattle.vx_margin.specs.Flips.{flips_in, flips_on}
 use Rattle.vx_margin.specs.Shown.{count_at, count_round, IsInStartRegion, ShowsZone}
@@ -49,15 +48,15 @@ pub record ShowsPaper (s : Slant) (scan : Page) (plan : PagePlan) (paper : Pixel
   pub bubbles :
       (n : ℕ) → n < length plan.bubbles
       → ShowsZone s scan plan.paper paper (zone_of sizes.bubble)
-        (bubble_at plan n).col (bubble_at plan n).row bubble_flips
+      (bubble_at plan n).col (bubble_at plan n).row bubble_flips
   pub boxes :
       (n : ℕ) → n < 84
       → ShowsZone s scan plan.paper paper (zone_of sizes.code_box)
-        (place_of_box plan.paper n).0 (place_of_box plan.paper n).1 code_flips
+      (place_of_box plan.paper n).0 (place_of_box plan.paper n).1 code_flips
   pub reserved :
       (n : ℕ) → n < 84
       → count_round plan.paper (zone_of sizes.code_box)
-        (reserved_place n).0 (reserved_place n).1 (flips_on s scan paper) ≤ code_flips
+      (reserved_place n).0 (reserved_place n).1 (flips_on s scan paper) ≤ code_flips
 
 -- a scan fits a printed page with some of its bubbles marked, as it lies: it shows a paper with their ink under a
 -- shear that takes the first mark to where a page may begin
