@@ -1,3 +1,4 @@
 pub mod Slants
 pub mod Seen
+pub mod Turned
 pub mod Laws
