@@ -10,3 +10,4 @@ pub mod Numbers
 pub mod Chains
 pub mod Places
 pub mod Finds
+pub mod Turned

@@ -4,3 +4,4 @@ pub mod Shown
 pub mod Deficits
 pub mod Chains
 pub mod Laws
+pub mod Turned

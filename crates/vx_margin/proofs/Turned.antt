@@ -1,0 +1,104 @@
+-- What a scan shows of the page that it shows when it is turned.
+use Rattle.std.proofs.Common.{◌≡◌, ◌⊎◌, inl, inr, ℕ, zero, suc, ◌+◌, ◌-◌, ◌*◌, ◌≤◌, ◌<◌, Bool, true, false, not, ◌&&◌, ℤ, pos, ◌+ℤ◌, ◌-ℤ◌, ◌≤ℤ◌, ◌<ℤ◌, refl, ap, ap₂, sym, subst, ◌∙◌, arith}
+use Rattle.std.proofs.lemmas.Int.{ints}
+use Rattle.vx_plane.specs.Plane.{Pixels, Page, rectangle, dark_at}
+use Rattle.vx_plane.specs.Count.{one_if, sum_from, count_in}
+use Rattle.vx_plane.proofs.Sums.{sum_from-same, sum_from-more}
+use Rattle.vx_plane.proofs.Counts.{count_in-by_rows, count_in-same}
+use Rattle.vx_plane.proofs.Pages.{rectangle-inside, rectangle-sides}
+use Rattle.vx_grid.specs.declared.paper.Paper.{Paper}
+use Rattle.vx_grid.specs.declared.paper.Paper.TheVariants.{Letter, Legal}
+use Rattle.vx_grid.specs.declared.places.Point.{Point}
+use Rattle.vx_grid.specs.Paper.{page_width, page_height, last_row, first_y}
+use Rattle.vx_grid.specs.Grid.{x_of, y_of, last_column}
+use Rattle.vx_grid.specs.Regions.{inner_region, frame_zone}
+use Rattle.vx_mark_model.specs.Mark.{IsInFrame}
+use Rattle.vx_geom.specs.Slants.{Slant, IsSlant, paper_column, paper_row}
+use Rattle.vx_geom.specs.Seen.{seen}
+use Rattle.vx_geom.proofs.Turned.{turned-slant, column-turned, row-turned}
+use Rattle.vx_margin.specs.Marks.{IsBorderPoint, IsInMark, AreMarks}
+use Rattle.vx_margin.specs.Flips.{differ, flips, flips_in, frame_of}
+use Rattle.vx_margin.specs.Shown.{count_at, ShowsMarks}
+use Rattle.vx_margin.proofs.Images.{many_rows}
+use Rattle.vx_margin.specs.Turned.{IsTurned, last_x, last_y, turned_set, slant_turned}
+
+-- the height of a page is what its rows say
+height-is : (paper : Paper) → page_height paper ≡ first_y paper + first_y paper + 52 * last_row paper
+height-is Letter = refl
+height-is Legal = refl
+
+same_bool : (a b : Bool) → (a ≡ true → b ≡ true) → (b ≡ true → a ≡ true) → a ≡ b
+same_bool true b to from = sym (to refl)
+same_bool false true to from = from refl
+same_bool false false to from = refl
+
+-- a sum from the other end
+sum_from-turned : (end low : ℤ) (n : ℕ) (f : ℤ → ℕ) → sum_from low n (λ z. f (end -ℤ z)) ≡ sum_from (((end -ℤ low) -ℤ pos n) +ℤ pos 1) n f
+sum_from-turned end low zero f = refl
+sum_from-turned end low (suc n) f =
+    let b : ℤ = ((end -ℤ low) -ℤ pos (suc n)) +ℤ pos 1 in
+    let rest : sum_from (low +ℤ pos 1) n (λ z. f (end -ℤ z)) ≡ sum_from (((end -ℤ (low +ℤ pos 1)) -ℤ pos n) +ℤ pos 1) n f = sum_from-turned end (low +ℤ pos 1) n f in
+    let there : ((end -ℤ (low +ℤ pos 1)) -ℤ pos n) +ℤ pos 1 ≡ b = omega (arith, ints) in
+    let moved : sum_from (((end -ℤ (low +ℤ pos 1)) -ℤ pos n) +ℤ pos 1) n f ≡ sum_from b n f = ap (λ z. sum_from z n f) there in
+    let last : b +ℤ pos n ≡ end -ℤ low = omega (arith, ints) in
+    let more : sum_from b (n + 1) f ≡ sum_from b n f + f (b +ℤ pos n) = sum_from-more b n f in
+    let one : f (b +ℤ pos n) ≡ f (end -ℤ low) = ap f last in
+    let count : suc n ≡ n + 1 = omega arith in
+    let all : sum_from b (suc n) f ≡ sum_from b (n + 1) f = ap (λ k. sum_from b k f) count in
+    omega (arith, rest, moved, more, one, all)
+
+-- a count from the other end
+pub count_in-turned_round : (u_end v_end left top : ℤ) (width height : ℕ) (set : Pixels)
+    → count_in left top width height (λ u v. set (u_end -ℤ u) (v_end -ℤ v)) ≡ count_in (((u_end -ℤ left) -ℤ pos width) +ℤ pos 1) (((v_end -ℤ top) -ℤ pos height) +ℤ pos 1) width height set
+count_in-turned_round u_end v_end left top width height set =
+    let l : ℤ = ((u_end -ℤ left) -ℤ pos width) +ℤ pos 1 in
+    let t : ℤ = ((v_end -ℤ top) -ℤ pos height) +ℤ pos 1 in
+    count_in-by_rows left top width height (λ u v. set (u_end -ℤ u) (v_end -ℤ v))
+    ∙ (sum_from-same top height _ (λ v. sum_from l width (λ u. one_if (set u (v_end -ℤ v)))) (λ v a b. sum_from-turned u_end left width (λ u. one_if (set u (v_end -ℤ v))))
+    ∙ (sum_from-turned v_end top height (λ v. sum_from l width (λ u. one_if (set u v)))
+    ∙ sym (count_in-by_rows l t width height set)))
+
+-- the frame zone is the same from the other end
+zone-turned : (paper : Paper) (x y : ℤ) → frame_zone paper (last_x -ℤ x) (last_y paper -ℤ y) ≡ frame_zone paper x y
+zone-turned paper x y =
+    ap not (same_bool _ _
+      (λ h. let s = rectangle-sides (pos 178) (pos (first_y paper + 130)) 1344 (52 * last_row paper - 260) (last_x -ℤ x) (last_y paper -ℤ y) h in
+        rectangle-inside (pos 178) (pos (first_y paper + 130)) 1344 (52 * last_row paper - 260) x y
+        (omega (arith, ints, s.1)) (omega (arith, ints, s.0)) (omega (arith, ints, s.3, height-is paper, many_rows paper)) (omega (arith, ints, s.2, height-is paper, many_rows paper)))
+      (λ h. let s = rectangle-sides (pos 178) (pos (first_y paper + 130)) 1344 (52 * last_row paper - 260) x y h in
+        rectangle-inside (pos 178) (pos (first_y paper + 130)) 1344 (52 * last_row paper - 260) (last_x -ℤ x) (last_y paper -ℤ y)
+        (omega (arith, ints, s.1)) (omega (arith, ints, s.0)) (omega (arith, ints, s.3, height-is paper, many_rows paper)) (omega (arith, ints, s.2, height-is paper, many_rows paper))))
+
+-- the border points are the same from the other end
+point-turned : (paper : Paper) (c r : ℕ) → IsBorderPoint paper c r → IsBorderPoint paper (33 - c) (last_row paper - r)
+point-turned paper c r point = record {
+  column = omega arith;
+  row = omega arith;
+  side = side_of point.side;
+}
+  where
+    side_of : (r ≡ 0) ⊎ (r ≡ last_row paper) ⊎ (c ≡ 0) ⊎ (c ≡ last_column) → (last_row paper - r ≡ 0) ⊎ (last_row paper - r ≡ last_row paper) ⊎ (33 - c ≡ 0) ⊎ (33 - c ≡ last_column)
+    side_of (inl top) = inr (inl (omega (arith, top)))
+    side_of (inr (inl bottom)) = inl (omega (arith, bottom))
+    side_of (inr (inr (inl left))) = inr (inr (inr (omega (arith, left))))
+    side_of (inr (inr (inr right))) = inr (inr (inl (omega (arith, right))))
+
+mark-turned : (paper : Paper) (c r : ℕ) (x y : ℤ) → c ≤ 33 → r ≤ last_row paper → IsInMark paper c r x y → IsInMark paper (33 - c) (last_row paper - r) (last_x -ℤ x) (last_y paper -ℤ y)
+mark-turned paper c r x y few low m = record {
+  left = omega (arith, ints, few, m.right);
+  right = omega (arith, ints, few, m.left);
+  top = omega (arith, ints, low, m.bottom, height-is paper);
+  bottom = omega (arith, ints, low, m.top, height-is paper);
+}
+
+pub marks-turned : (paper : Paper) (marks : Pixels) → AreMarks paper marks → AreMarks paper (turned_set paper marks)
+marks-turned paper marks are = record {
+  dark = λ c r x y point inside. are.dark (33 - c) (last_row paper - r) (last_x -ℤ x) (last_y paper -ℤ y) (point-turned paper c r point) (mark-turned paper c r x y point.column point.row inside);
+  some = λ x y h.
+      let m = are.some (last_x -ℤ x) (last_y paper -ℤ y) h in
+      let back_x : last_x -ℤ (last_x -ℤ x) ≡ x = omega (arith, ints) in
+      let back_y : last_y paper -ℤ (last_y paper -ℤ y) ≡ y = omega (arith, ints) in
+      let In : ℤ → ℤ → Type 0 = λ a b. IsInMark paper (33 - m.0) (last_row paper - m.1) a b in
+      (33 - m.0, last_row paper - m.1, point-turned paper m.0 m.1 m.2,
+        subst (λ (b : ℤ). In x b) back_y (subst (λ (a : ℤ). In a (last_y paper -ℤ (last_y paper -ℤ y))) back_x (mark-turned paper m.0 m.1 (last_x -ℤ x) (last_y paper -ℤ y) m.2.column m.2.row m.3)));
+}
