@@ -245,7 +245,9 @@ fn a_page_is_read_upside_down(rt: HostRuntime) -> Result<(), Fail> {
     let alloc = rt.alloc();
     let over = turned(alloc, &marked_within(alloc)?)?;
     let bubbles = "bubble 0 0 0 0 clear\nbubble 1 0 1 75 marked\n";
-    let wanted = format!(in alloc; "page 1 card 0 side 1 kind precinct turned\n{BORDER}{bubbles}end\n")?;
+    let wanted = format!(in alloc;
+        "page 1 card 0 side 1 kind precinct turned\n{BORDER}{bubbles}end\n"
+    )?;
     assert_eq!(rt; read_text(alloc, &over)?.as_slice(), wanted.as_bytes());
     // Where it has a fault both ways, the one of the scan as it lies is told: its code rows are blank.
     let unclear = turned(alloc, &paired(alloc)?)?;
