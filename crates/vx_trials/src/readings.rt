@@ -10,7 +10,7 @@ use vx_base::Bytes;
 use vx_bits::{BitPage, BitView};
 use vx_code::{PageCode, tag_of, version_of};
 use vx_command_read::read;
-use vx_election::Election;
+use vx_election_model::Election;
 use vx_grid::{Kind, Paper};
 use vx_io::{Calls, MemInputs, MemSink, NamedBytes};
 use vx_json::{Text, Texts};
