@@ -5,15 +5,16 @@ use vx_json::Text;
 use vx_rules::{ContestMarks, ContestMarksList, SheetMarks};
 
 #[test]
-fn an_added_sheet_is_copied(rt: HostRuntime) -> Result<(), Fail> {
+fn sheets_are_copied(rt: HostRuntime) -> Result<(), Fail> {
     let mut states = Vec::new(rt.alloc());
     states.push(State::Marked)?;
-    states.push(State::Clear)?;
-    let mut contests = Vec::new(rt.alloc());
-    contests.push(ContestMarks {
+    let marks = ContestMarks {
         contest: 4,
         states: States::from_vec(states),
-    })?;
+    };
+    assert!(rt; marks.copy(rt.alloc())?.states.len() == 1);
+    let mut contests = Vec::new(rt.alloc());
+    contests.push(marks)?;
     let sheet = SheetMarks {
         card: 1,
         front: 3,
@@ -21,35 +22,31 @@ fn an_added_sheet_is_copied(rt: HostRuntime) -> Result<(), Fail> {
         test: true,
         contests: ContestMarksList::from_vec(contests),
     };
-    let key = Key {
-        batch: Text::from_str(rt.alloc(), "b1")?,
-        number: 7,
-    };
-    match (Event::Add { key, sheet }).copy(rt.alloc())? {
-        Event::Add { key, sheet } => {
-            assert!(rt; key.batch.as_str() == "b1" && key.number == 7);
-            assert!(rt; sheet.front == 3 && sheet.contests.len() == 1);
-        }
-        _ => assert!(rt; false),
-    }
+    assert!(rt; sheet.copy(rt.alloc())?.contests.len() == 1);
     Ok(())
 }
 
 #[test]
-fn decisions_are_copied(rt: HostRuntime) -> Result<(), Fail> {
-    let mut options = Vec::new(rt.alloc());
-    options.push(2)?;
-    match Decision::Selections(Options::from_ascending(options)).copy(rt.alloc())? {
-        Decision::Selections(options) => assert_eq!(rt; options.as_slice(), &[2]),
-        _ => assert!(rt; false),
-    }
-    let name = WriteInName::Words(Text::from_str(rt.alloc(), "Ada")?);
-    match (Decision::NameWriteIn { slot: 1, name }).copy(rt.alloc())? {
-        Decision::NameWriteIn {
-            slot,
-            name: WriteInName::Words(words),
-        } => assert!(rt; slot == 1 && words.as_str() == "Ada"),
-        _ => assert!(rt; false),
-    }
+fn events_are_copied(rt: HostRuntime) -> Result<(), Fail> {
+    let mut numbers = Vec::new(rt.alloc());
+    numbers.push(2)?;
+    let options = Options::from_ascending(numbers);
+    assert!(rt; options.copy(rt.alloc())?.as_slice().len() == 1);
+    let name = WriteInName::Candidate(2);
+    let decision = Decision::NameWriteIn {
+        slot: 1,
+        name: name.copy(rt.alloc())?,
+    };
+    let key = Key {
+        batch: Text::from_str(rt.alloc(), "b1")?,
+        number: 7,
+    };
+    let event = Event::Decide {
+        station: 3,
+        key: key.copy(rt.alloc())?,
+        contest: 4,
+        decision: decision.copy(rt.alloc())?,
+    };
+    let _copy = event.copy(rt.alloc())?;
     Ok(())
 }

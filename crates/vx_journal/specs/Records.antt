@@ -15,7 +15,6 @@ use Rattle.vx_events.specs.declared.decision.WriteInName.{WriteInName}
 use Rattle.vx_events.specs.declared.decision.WriteInName.TheVariants.{Words, Candidate}
 use Rattle.vx_events.specs.declared.event.Event.{Event}
 use Rattle.vx_events.specs.declared.event.Event.TheVariants.{Add, Claim, Release, Decide}
-use Rattle.vx_events.specs.declared.key.Key.{Key}
 
 -- words, each with a blank before it
 abbrev pub spaced : List (List ℕ) → List ℕ

@@ -1,5 +1,5 @@
 -- For which reasons a person has to look at a contest of a sheet.
-use Rattle.std.specs.Prelude.{ℕ, ◌&&◌, Bool, true, false, List, [], ◌∷◌, length, drop, count_by, nat_lt}
+use Rattle.std.specs.Prelude.{◌&&◌, Bool, true, false, List, [], ◌∷◌, length, drop, count_by, nat_lt}
 use Rattle.std.specs.List.{list_all, list_any}
 use Rattle.vx_grid.specs.declared.state.State.{State}
 use Rattle.vx_grid.specs.declared.state.State.TheVariants.{Marked, Marginal, Clear}

@@ -1,6 +1,6 @@
 //! Painting what a plan puts off its page.
 
-use crate::town::town;
+use crate::town::town_on;
 use std::alloc::Global;
 use std::test::Fail;
 use vx_bits::BitPage;
@@ -47,7 +47,7 @@ fn plan_of(alloc: Global, election: &Election) -> Result<PagePlan, Fail> {
 
 // The page of that plan, page 1 of card 0.
 fn painted_page(alloc: Global) -> Result<BitPage, Fail> {
-    let election = town(alloc)?;
+    let election = town_on(alloc, Paper::Letter)?;
     let plan = plan_of(alloc, &election)?;
     let code = PageCode {
         version: 1,

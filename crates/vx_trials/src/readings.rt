@@ -1,17 +1,16 @@
 //! Pages of the town, clean and changed, and what `read` writes of them. What is expected was worked
 //! out by hand from the rules of a scan, or made by another program.
 
-ghost use Rattle.std.specs.Prelude.{◌<◌, ◌^◌, IfOk};
-ghost use Rattle.vx_election_model.specs.Valid.{IsValid};
+ghost use Rattle.std.specs.Prelude.{◌<◌, ◌^◌};
 
-use crate::town::{TOWN, on_legal};
+use crate::town::{definition_on, town_on};
 use std::alloc::Global;
 use std::test::Fail;
 use vx_base::Bytes;
 use vx_bits::{BitPage, BitView};
 use vx_code::{PageCode, tag_of, version_of};
 use vx_command_read::read;
-use vx_election::{Election, read_election};
+use vx_election_model::Election;
 use vx_grid::{Kind, Paper};
 use vx_io::{Calls, MemInputs, MemSink, NamedBytes};
 use vx_json::{Text, Texts};
@@ -61,25 +60,9 @@ fn tag_on(election: &Election, is_other: bool) -> u32
     }
 }
 
-/// The town's definition on a paper.
-fn definition_on(alloc: Global, paper: Paper) -> Result<String, Fail> {
-    match paper {
-        Paper::Letter => Ok(String::from_str(alloc, TOWN)?),
-        Paper::Legal => on_legal(alloc, TOWN),
-    }
-}
-
-/// The town's election on a paper, read.
-fn election_on(alloc: Global, paper: Paper) -> Result<Election, Fail>
-    ensures { IfOk result (λ election. IsValid election) }
-{
-    let definition = definition_on(alloc, paper)?;
-    Ok(read_election(alloc, definition.as_bytes())?)
-}
-
 /// A page of the town's card.
 fn paint_page(alloc: Global, painted: Painted) -> Result<BitPage, Fail> {
-    let election = election_on(alloc, painted.paper)?;
+    let election = town_on(alloc, painted.paper)?;
     let plan = plan_card(alloc, &election, 0).map_err(|_| "no plan")?;
     let page = plan.pages.as_slice().get(painted.page).ok_or("no page")?;
     let code = PageCode {
@@ -270,7 +253,7 @@ fn a_page_is_read_upside_down(rt: HostRuntime) -> Result<(), Fail> {
     let unclear = turned(alloc, &paired(alloc)?)?;
     assert_eq!(rt;
         read_text(alloc, &unclear)?.as_slice(),
-        b"page 1 fault 3.1 BadPair 0 0 0\n"
+        b"page 1 fault 3.1 BadPair 0 0 0\n".as_slice()
     );
     Ok(())
 }
@@ -309,7 +292,7 @@ fn a_page_of_the_other_paper_is_no_frame(rt: HostRuntime) -> Result<(), Fail> {
     let letter = paint_page(alloc, FIRST)?;
     assert_eq!(rt;
         read_on(alloc, Paper::Legal, &letter)?.as_slice(),
-        b"page 1 fault 1 FrameSize 1700 2200\n"
+        b"page 1 fault 1 FrameSize 1700 2200\n".as_slice()
     );
     let legal = Painted {
         paper: Paper::Legal,
@@ -317,7 +300,7 @@ fn a_page_of_the_other_paper_is_no_frame(rt: HostRuntime) -> Result<(), Fail> {
     };
     assert_eq!(rt;
         read_text(alloc, &paint_page(alloc, legal)?)?.as_slice(),
-        b"page 1 fault 1 FrameSize 1700 2800\n"
+        b"page 1 fault 1 FrameSize 1700 2800\n".as_slice()
     );
     Ok(())
 }

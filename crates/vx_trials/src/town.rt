@@ -6,6 +6,7 @@ ghost use Rattle.vx_election_model.specs.Valid.{IsValid};
 use std::alloc::Global;
 use std::test::Fail;
 use vx_election::{Election, read_election};
+use vx_grid::Paper;
 
 /// The town's definition.
 pub(crate) const TOWN: &str =
@@ -17,9 +18,18 @@ pub(crate) fn on_legal(alloc: Global, definition: &str) -> Result<String, Fail> 
     Ok(format!(in alloc; "{front},\"vxPaper\":\"legal\"}}")?)
 }
 
-/// The town's election, read.
-pub(crate) fn town(alloc: Global) -> Result<Election, Fail>
+/// The town's definition on a paper.
+pub(crate) fn definition_on(alloc: Global, paper: Paper) -> Result<String, Fail> {
+    match paper {
+        Paper::Letter => Ok(String::from_str(alloc, TOWN)?),
+        Paper::Legal => on_legal(alloc, TOWN),
+    }
+}
+
+/// The town's election on a paper, read.
+pub(crate) fn town_on(alloc: Global, paper: Paper) -> Result<Election, Fail>
     ensures { IfOk result (λ election. IsValid election) }
 {
-    Ok(read_election(alloc, TOWN.as_bytes())?)
+    let definition = definition_on(alloc, paper)?;
+    Ok(read_election(alloc, definition.as_bytes())?)
 }

@@ -1,4 +1,4 @@
-use Rattle.std.proofs.Common.{◌≡◌, ◌≤◌, ◌^◌, drop}
+use Rattle.std.proofs.Common.{◌≡◌, drop}
 use Rattle.vx_events.specs.Ascending.{ascends_from, is_ascending}
 use Rattle.vx_events.specs.Fits.{contests_of}
 use Rattle.vx_events.proofs.ascending.contests_ascend.Given as goal
