@@ -102,3 +102,75 @@ marks-turned paper marks are = record {
       (33 - m.0, last_row paper - m.1, point-turned paper m.0 m.1 m.2,
         subst (λ (b : ℤ). In x b) back_y (subst (λ (a : ℤ). In a (last_y paper -ℤ (last_y paper -ℤ y))) back_x (mark-turned paper m.0 m.1 (last_x -ℤ x) (last_y paper -ℤ y) m.2.column m.2.row m.3)));
 }
+
+module _ (s : Slant) (scan other : Page) (paper : Paper) (turned : IsTurned scan other) where
+  abbrev t : Slant
+  t = slant_turned paper scan s
+
+  abbrev w : ℤ
+  w = pos scan.width -ℤ pos 1
+
+  abbrev h : ℤ
+  h = pos scan.height -ℤ pos 1
+
+  -- the scan shows of a turned set what the other shows of the set
+  pub seen-turned : (set : Pixels) (u v : ℤ) → seen t (turned_set paper set) u v ≡ seen s set (w -ℤ u) (h -ℤ v)
+  seen-turned set u v =
+      let column : last_x -ℤ paper_column t u v ≡ paper_column s (w -ℤ u) (h -ℤ v) =
+      (let is = column-turned last_x (last_y paper) w h s u v in omega (arith, ints, is)) in
+      let row : last_y paper -ℤ paper_row t u v ≡ paper_row s (w -ℤ u) (h -ℤ v) =
+      (let is = row-turned last_x (last_y paper) w h s u v in omega (arith, ints, is)) in
+      ap (λ z. set z (last_y paper -ℤ paper_row t u v)) column ∙ ap (λ z. set (paper_column s (w -ℤ u) (h -ℤ v)) z) row
+
+  -- what of the frame zone it shows
+  pub zone-seen : (u v : ℤ) → seen t (frame_zone paper) u v ≡ seen s (frame_zone paper) (w -ℤ u) (h -ℤ v)
+  zone-seen u v = sym (zone-turned paper (paper_column t u v) (paper_row t u v)) ∙ seen-turned (frame_zone paper) u v
+
+  -- and its flips
+  pub frame-turned : (u v : ℤ) → frame_of scan u v ≡ frame_of other (w -ℤ u) (h -ℤ v)
+  frame-turned u v =
+      same_bool _ _
+      (λ q. let k = rectangle-sides (pos 0) (pos 0) scan.width scan.height u v q in
+        rectangle-inside (pos 0) (pos 0) other.width other.height (w -ℤ u) (h -ℤ v)
+        (omega (arith, ints, k.1)) (omega (arith, ints, k.0, turned.width)) (omega (arith, ints, k.3)) (omega (arith, ints, k.2, turned.height)))
+      (λ q. let k = rectangle-sides (pos 0) (pos 0) other.width other.height (w -ℤ u) (h -ℤ v) q in
+        rectangle-inside (pos 0) (pos 0) scan.width scan.height u v
+        (omega (arith, ints, k.1, turned.width)) (omega (arith, ints, k.0)) (omega (arith, ints, k.3, turned.height)) (omega (arith, ints, k.2)))
+
+  pub flips-turned : (set : Pixels) (u v : ℤ) → flips t scan (turned_set paper set) u v ≡ flips s other set (w -ℤ u) (h -ℤ v)
+  unfolding flips
+  flips-turned set u v =
+      ap (λ f. f && differ (dark_at scan u v) (seen t (turned_set paper set) u v)) (frame-turned u v)
+      ∙ (ap (λ d. frame_of other (w -ℤ u) (h -ℤ v) && differ d (seen t (turned_set paper set) u v)) (turned.dark u v)
+      ∙ ap (λ q. frame_of other (w -ℤ u) (h -ℤ v) && differ (dark_at other (w -ℤ u) (h -ℤ v)) q) (seen-turned set u v))
+
+  -- a place, turned
+  abbrev over : Point → Point
+  over p = record { u = pos scan.width -ℤ p.u; v = pos scan.height -ℤ p.v }
+
+  over-framed : (p : Point) → IsInFrame scan p → IsInFrame other (over p)
+  over-framed p framed = record {
+    left = omega (arith, ints, framed.right);
+    right = omega (arith, ints, framed.left, turned.width);
+    top = omega (arith, ints, framed.bottom);
+    bottom = omega (arith, ints, framed.top, turned.height);
+  }
+
+  count-turned : (p : Point) (set : Pixels) → count_at p (λ u v. set (w -ℤ u) (h -ℤ v)) ≡ count_at (over p) set
+  count-turned p set =
+      let left : ((w -ℤ (p.u -ℤ pos 23)) -ℤ pos 46) +ℤ pos 1 ≡ (over p).u -ℤ pos 23 = omega (arith, ints) in
+      let top : ((h -ℤ (p.v -ℤ pos 11)) -ℤ pos 22) +ℤ pos 1 ≡ (over p).v -ℤ pos 11 = omega (arith, ints) in
+      count_in-turned_round w h (p.u -ℤ pos 23) (p.v -ℤ pos 11) 46 22 set
+      ∙ (ap (λ z. count_in z (((h -ℤ (p.v -ℤ pos 11)) -ℤ pos 22) +ℤ pos 1) 46 22 set) left ∙ ap (λ z. count_in ((over p).u -ℤ pos 23) z 46 22 set) top)
+
+  -- the scan shows the turned marks where the other shows the marks
+  pub shows-turned : (marks : Pixels) → ShowsMarks s other paper marks → ShowsMarks t scan paper (turned_set paper marks)
+  shows-turned marks shows = record {
+    few = λ p framed.
+        let same : count_at p (flips_in t scan (turned_set paper marks) (frame_zone paper)) ≡ count_at p (λ u v. flips_in s other marks (frame_zone paper) (w -ℤ u) (h -ℤ v)) =
+        count_in-same (p.u -ℤ pos 23) (p.v -ℤ pos 11) 46 22 _ _
+        (λ u v a b c d. ap₂ (λ (x y : Bool). x && y) (zone-seen u v) (flips-turned marks u v)) in
+        let there : count_at p (λ u v. flips_in s other marks (frame_zone paper) (w -ℤ u) (h -ℤ v)) ≡ count_at (over p) (flips_in s other marks (frame_zone paper)) =
+        count-turned p (flips_in s other marks (frame_zone paper)) in
+        omega (arith, same, there, shows.few (over p) (over-framed p framed));
+  }
