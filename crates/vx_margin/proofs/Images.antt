@@ -26,6 +26,10 @@ pub many_rows : (paper : Paper) → 40 ≤ last_row paper
 many_rows Letter = omega arith
 many_rows Legal = omega arith
 
+pub few_rows : (paper : Paper) → last_row paper ≤ 51
+few_rows Letter = omega arith
+few_rows Legal = omega arith
+
 -- a grid point on a line of border points: the first or the last row or column, whatever the other
 abbrev pub IsOnBorderLine : Paper → ℕ → ℕ → Type 0
 IsOnBorderLine paper c r = (r ≡ 0) ⊎ (r ≡ last_row paper) ⊎ (c ≡ 0) ⊎ (c ≡ last_column)

@@ -11,3 +11,4 @@ pub mod Chains
 pub mod Places
 pub mod Finds
 pub mod Turned
+pub mod Ends

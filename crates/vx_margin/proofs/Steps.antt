@@ -56,19 +56,19 @@ module _ (s : Slant) (slant : IsSlant s) (paper : Paper) where
       let down : IsWithin 12 (paper_row s p.u p.v -ℤ paper_row s q.u q.v) = sum-within 1 11 _ _ alike.down near.down in
       (omega (arith, ints, across.low, across.high, pc, qc), omega (arith, ints, down.low, down.high, pr, qr))
 
-near-from : (n m k l : ℕ) (p q o : Point) → LiesNear n m p q → LiesNear k l q o → LiesNear (n + k) (m + l) p o
+pub near-from : (n m k l : ℕ) (p q o : Point) → LiesNear n m p q → LiesNear k l q o → LiesNear (n + k) (m + l) p o
 near-from n m k l p q o a b = record {
   across = record { low = omega (arith, ints, a.across.low, b.across.low); high = omega (arith, ints, a.across.high, b.across.high) };
   down = record { low = omega (arith, ints, a.down.low, b.down.low); high = omega (arith, ints, a.down.high, b.down.high) };
 }
 
-near-back : (n m : ℕ) (p q : Point) → LiesNear n m p q → LiesNear n m q p
+pub near-back : (n m : ℕ) (p q : Point) → LiesNear n m p q → LiesNear n m q p
 near-back n m p q a = record {
   across = record { low = omega (arith, ints, a.across.high); high = omega (arith, ints, a.across.low) };
   down = record { low = omega (arith, ints, a.down.high); high = omega (arith, ints, a.down.low) };
 }
 
-is-near : (predicted p : Point) → IsNear predicted p → LiesNear 10 6 p predicted
+pub is-near : (predicted p : Point) → IsNear predicted p → LiesNear 10 6 p predicted
 is-near predicted p near = record {
   across = record { low = omega (arith, ints, near.left); high = omega (arith, ints, near.right) };
   down = record { low = omega (arith, ints, near.top); high = omega (arith, ints, near.bottom) };
@@ -107,7 +107,7 @@ module _ (s : Slant) (slant : IsSlant s) (scan : Page) (paper : Paper) (marks : 
       (image-accepted s slant scan paper marks are shows c r point framed, near-is predicted _ at)
 
 -- a column of the paper left of the inner region
-left-of-inner : (paper : Paper) (x y : ℤ) → x <ℤ pos 178 → inner_region paper x y ≡ false
+pub left-of-inner : (paper : Paper) (x y : ℤ) → x <ℤ pos 178 → inner_region paper x y ≡ false
 left-of-inner paper x y h = rectangle-outside (pos 178) (pos (first_y paper + 130)) 1344 (52 * last_row paper - 260) x y (inl h)
 
 -- the corner of a scan belongs to the first mark

@@ -23,7 +23,7 @@ use Rattle.vx_margin.proofs.Images.{many_rows}
 use Rattle.vx_margin.specs.Turned.{IsTurned, last_x, last_y, turned_set, slant_turned}
 
 -- the height of a page is what its rows say
-height-is : (paper : Paper) → page_height paper ≡ first_y paper + first_y paper + 52 * last_row paper
+pub height-is : (paper : Paper) → page_height paper ≡ first_y paper + first_y paper + 52 * last_row paper
 height-is Letter = refl
 height-is Legal = refl
 
