@@ -37,6 +37,13 @@ no-side last c r many one two (inr (inl e)) = omega (arith, two, e, many)
 no-side last c r many one two (inr (inr (inl e))) = omega (arith, one, e)
 no-side last c r many one two (inr (inr (inr e))) = omega (arith, one, e)
 
+-- nor has one right of it
+not-side : (last c r : ℕ) → 40 ≤ last → 1 ≤ c → c ≤ 2 → 1 ≤ r → r ≤ 1 → (r ≡ 0) ⊎ (r ≡ last) ⊎ (c ≡ 0) ⊎ (c ≡ 33) → ⊥
+not-side last c r many some few one two (inl e) = omega (arith, one, e)
+not-side last c r many some few one two (inr (inl e)) = omega (arith, two, e, many)
+not-side last c r many some few one two (inr (inr (inl e))) = omega (arith, some, e)
+not-side last c r many some few one two (inr (inr (inr e))) = omega (arith, few, e)
+
 -- in the top row each mark is expected right of the one before
 top-prediction : (last k : ℕ) (places : List Point) → 40 ≤ last → k < 33 → prediction_of last places (suc k) ≡ right_of (point_at places k)
 top-prediction last k places many few =
@@ -177,3 +184,55 @@ module _ (s : Slant) (scan other : Page) (paper : Paper) (marks turned_marks : P
         omega (arith, ints, row, close.1.high, framed.bottom, turned.height),
         omega (arith, ints, row, close.1.low, last-down, start.top, high),
       )
+
+  -- places where a corner may be show rows above the inner region
+  row-high : (u v : ℤ) → pos 3 ≤ℤ u → u ≤ℤ pos 138 → pos 3 ≤ℤ v → v ≤ℤ pos 114 → paper_row t u v <ℤ pos (first_y paper + 130)
+  row-high u v a b c d =
+      let region = q-region in
+      let right : IsWithin 6 (right_by t v -ℤ right_by t q.v) =
+      right-near t slant 6 v q.v (record { low = omega (arith, ints, c, region.3); high = omega (arith, ints, d, region.2) }) in
+      let first : paper_column t q.u q.v ≡ pos (x_of 0) = paper_column-scan t (pos (x_of 0)) (pos (y_of paper 0)) in
+      let row : paper_row t q.u q.v ≡ pos (y_of paper 0) = paper_row-scan t (pos (x_of 0)) (pos (y_of paper 0)) in
+      let column : IsWithin 448 (paper_column t u v -ℤ paper_column t q.u q.v) =
+      record { low = omega (arith, ints, a, region.1, right.high); high = omega (arith, ints, b, region.0, right.low) } in
+      let down : IsWithin 7 (down_by t (paper_column t u v) -ℤ down_by t (paper_column t q.u q.v)) = down-near t slant 7 _ _ column in
+      omega (arith, ints, row, down.low, d, region.2)
+
+  region-zone : (p : Point) → IsInCornerRegion p → IsInZone t paper p
+  region-zone p in_region = record {
+    each = λ u v inside.
+        let sides = rectangle-sides (p.u -ℤ pos 23) (p.v -ℤ pos 11) 46 22 u v inside in
+        outside_is_zone paper (paper_column t u v) (paper_row t u v)
+        (rectangle-outside (pos 178) (pos (first_y paper + 130)) 1344 (52 * last_row paper - 260) (paper_column t u v) (paper_row t u v)
+          (inr (inr (inl (row-high u v (omega (arith, ints, sides.0, in_region.left)) (omega (arith, ints, sides.1, in_region.right)) (omega (arith, ints, sides.2, in_region.top)) (omega (arith, ints, sides.3, in_region.bottom)))))));
+  }
+
+  -- a mark there is one of the first three of the top row, or the first of the left column
+  early : (c r : ℕ) (p : Point) → IsInCornerRegion p → LiesNear 4 2 p (image_of t paper c r) → (c ≤ 2) × (r ≤ 1)
+  early c r p in_region near =
+      let m : Point = image_of t paper c r in
+      let region = q-region in
+      let right : IsWithin 6 (right_by t m.v -ℤ right_by t q.v) =
+      right-near t slant 6 m.v q.v (record { low = omega (arith, ints, near.down.high, in_region.top, region.3); high = omega (arith, ints, near.down.low, in_region.bottom, region.2) }) in
+      let column : 48 * c ≤ 106 = omega (arith, ints, right.low, near.across.low, in_region.right, region.0) in
+      let few : c ≤ 2 = omega (arith, column) in
+      let down : IsWithin 2 (down_by t (pos (x_of c)) -ℤ down_by t (pos (x_of 0))) =
+      down-near t slant 2 _ _ (record { low = omega (arith, ints); high = omega (arith, ints, column) }) in
+      let row : 52 * r ≤ 100 = omega (arith, ints, down.low, near.down.low, in_region.bottom, region.2) in
+      (few, omega (arith, row))
+
+  -- a chain that begins where a corner may be begins at the first mark of the turned page
+  module _ (n : ℕ) (many : 34 ≤ n) (places : List Point) (chain : IsChain scan (last_row paper) n places) (in_region : IsInCornerRegion (point_at places 0)) where
+    at-first : (c r : ℕ) → c ≤ 2 → r ≤ 1 → (r ≡ 0) ⊎ (r ≡ last_row paper) ⊎ (c ≡ 0) ⊎ (c ≡ 33) → LiesNear 4 2 (point_at places 0) (image_of t paper c r) → LiesNear 4 2 (point_at places 0) q
+    at-first zero zero few low side near = near
+    at-first (suc c) zero few low side near = absurd (not-top t slant scan paper turned_marks are shown n many places chain (suc c) (omega arith) (omega (arith, few)) near)
+    at-first zero (suc zero) few low side near = absurd (not-below t slant scan paper turned_marks are shown n many places chain near)
+    at-first (suc c) (suc zero) few low side near = absurd (not-side (last_row paper) (suc c) (suc zero) (many_rows paper) (omega arith) few (omega arith) low side)
+    at-first c (suc (suc r)) few low side near = absurd (omega (arith, low))
+
+    pub turned-chain : n ≤ marks_of paper → LieAtMarks t paper n places
+    turned-chain all =
+        let mark : Belongs t paper (point_at places 0) =
+        accepted-belongs t slant scan paper turned_marks are shown (point_at places 0) (region-zone (point_at places 0) in_region) (chain.accepted 0 (omega (arith, many))) in
+        let where_ = early mark.c mark.r (point_at places 0) in_region mark.near in
+        chain-near t scan paper turned_marks slant are shown n places all chain (at-first mark.c mark.r where_.0 where_.1 mark.point.side mark.near)
