@@ -27,6 +27,6 @@ pub holds-window : (s : Slant) (scan : Page) (paper : Paper) (set : Pixels) (hal
     → half.across ≤ bubble.across → half.down ≤ bubble.down → ShowsZone s scan paper set (zone_of half) c r most
     → LiesNear 6 4 p (image_of s paper c r) → HoldsWindow scan paper set half c r most p
 holds-window s scan paper set half c r most p slant narrow low shows near = record {
-  at_most = window-at_most s slant scan paper set half narrow low c r most shows p near;
-  at_least = window-at_least s slant scan paper set half narrow low c r most shows p near;
+  at_most = window-at_most s slant scan paper set half narrow low c r p near most shows;
+  at_least = window-at_least s slant scan paper set half narrow low c r p near most shows;
 }

@@ -12,3 +12,5 @@ pub mod Places
 pub mod Finds
 pub mod Turned
 pub mod Ends
+pub mod Reserved
+pub mod TurnedFinds

@@ -1,6 +1,6 @@
 -- Where marks, boxes and bubbles are found in a scan that shows them.
-use Rattle.std.specs.Prelude.{◌≡◌, ◌≤◌, ◌<◌, ◌+◌, ℕ, List, true}
-use Rattle.vx_plane.specs.Plane.{Pixels, Page}
+use Rattle.std.specs.Prelude.{◌≡◌, ◌≤◌, ◌<◌, ◌+◌, ◌-◌, ◌*◌, ℕ, ℤ, List, true}
+use Rattle.vx_plane.specs.Plane.{Pixels, Page, dark_at}
 use Rattle.vx_grid.specs.declared.paper.Paper.{Paper}
 use Rattle.vx_grid.specs.declared.places.Point.{Point}
 use Rattle.vx_grid.specs.declared.sizes.HalfSides.{HalfSides}
@@ -19,6 +19,8 @@ use Rattle.vx_geom.specs.Slants.{Slant, IsSlant}
 use Rattle.vx_margin.specs.Marks.{mark_image, AreMarks, image_of, LiesNear, Belongs}
 use Rattle.vx_margin.specs.Shown.{ShowsMarks, ShowsBorder, IsInZone, IsInStartRegion, ShowsZone, count_round, dark_round}
 use Rattle.vx_margin.specs.Chains.{IsChain, LieAtMarks}
+use Rattle.vx_margin.specs.Flips.{flips_on, frame_of}
+use Rattle.vx_margin.specs.Turned.{IsTurned, slant_turned}
 
 -- the timing marks of a page are those at its border points
 abbrev pub TimingMarksAreMarks : Type 0
@@ -81,3 +83,31 @@ WindowsHold =
     (s : Slant) (scan : Page) (paper : Paper) (set : Pixels) (half : HalfSides) (c r most : ℕ) (p : Point) → IsSlant s
     → half.across ≤ bubble.across → half.down ≤ bubble.down → ShowsZone s scan paper set (zone_of half) c r most
     → LiesNear 6 4 p (image_of s paper c r) → HoldsWindow scan paper set half c r most p
+
+-- followed places are a chain
+abbrev pub FollowedAreChains : Type 0
+FollowedAreChains =
+    (scan : Page) (last n : ℕ) (places : List Point) → IsFollowed scan last n places → IsChain scan last n places
+
+-- where a scan turned by 180 degrees shows a page's marks, a chain of places that begins where a corner may be lies
+-- at the marks of the turned page
+abbrev pub TurnedChainsLieAtMarks : Type 0
+TurnedChainsLieAtMarks =
+    (s : Slant) (scan other : Page) (paper : Paper) (marks : Pixels) (n : ℕ) (places : List Point)
+    → IsTurned scan other → ShowsBorder s other paper marks → IsInStartRegion (mark_image s paper 0)
+    → scan.width ≤ 2000 → scan.height ≤ 52 * last_row paper + 350 → 34 ≤ n → n ≤ marks_of paper
+    → IsChain scan (last_row paper) n places → IsInCornerRegion (point_at places 0)
+    → LieAtMarks (slant_turned paper scan s) paper n places
+
+-- and the window at a grid place between them counts at most what the page has in the zone at the other end of the
+-- paper, and its flips
+abbrev pub TurnedWindowsHold : Type 0
+TurnedWindowsHold =
+    (s : Slant) (scan other : Page) (border : MarkPlaces) (set : Pixels) (half : HalfSides) (c r most : ℕ)
+    → IsTurned scan other → IsSlant s
+    → ((u v : ℤ) → dark_at scan u v ≡ true → frame_of scan u v ≡ true)
+    → LieAtMarks (slant_turned border.paper scan s) border.paper (marks_of border.paper) border.places
+    → half.across ≤ bubble.across → half.down ≤ bubble.down → c ≤ last_column → r ≤ last_row border.paper
+    → count_round border.paper (zone_of half) (last_column - c) (last_row border.paper - r) (flips_on s other set) ≤ most
+    → dark_round scan (window_of half) (place_of border c r)
+      ≤ count_round border.paper (zone_of half) (last_column - c) (last_row border.paper - r) set + most

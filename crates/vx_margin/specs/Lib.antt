@@ -3,5 +3,5 @@ pub mod Flips
 pub mod Shown
 pub mod Deficits
 pub mod Chains
-pub mod Laws
 pub mod Turned
+pub mod Laws

@@ -1,6 +1,6 @@
 //! Laws of what is found. These functions do nothing; their contracts are the laws.
 
-ghost use Rattle.vx_margin.specs.Laws.{TimingMarksAreMarks, AcceptedBelong, BordersAreFound, ChainsLieAtMarks, GridPlacesLieNear, WindowsHold};
+ghost use Rattle.vx_margin.specs.Laws.{TimingMarksAreMarks, AcceptedBelong, BordersAreFound, ChainsLieAtMarks, GridPlacesLieNear, WindowsHold, FollowedAreChains, TurnedChainsLieAtMarks, TurnedWindowsHold};
 
 /// The timing marks of a page are those at its border points.
 pub fn timing_marks_are_marks()
@@ -30,4 +30,20 @@ pub fn grid_places_lie_near()
 /// A window near the image of a grid point holds its box and lies in its zone.
 pub fn windows_hold()
     ensures { WindowsHold }
+{}
+
+/// Followed places are a chain.
+pub fn followed_places_are_chains()
+    ensures { FollowedAreChains }
+{}
+
+/// Where a scan turned by 180 degrees shows a page's marks, a chain that begins where a corner may be lies
+/// at the marks of the turned page.
+pub fn turned_chains_lie_at_marks()
+    ensures { TurnedChainsLieAtMarks }
+{}
+
+/// And a window at a grid place between them holds no more than the zone at the other end of the paper.
+pub fn turned_windows_hold()
+    ensures { TurnedWindowsHold }
 {}
