@@ -8,3 +8,4 @@ pub mod Printed
 pub mod Inks
 pub mod Found
 pub mod Read
+pub mod TurnedRead

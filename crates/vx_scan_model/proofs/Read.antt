@@ -133,7 +133,7 @@ module _ (laws : AreLaws) (election : Election) (valid : IsValid election) (scan
         (fits.shows.few p framed);
   }
 
-  shows-border : ShowsBorder s scan plan.paper (timing_marks plan.paper)
+  pub shows-border : ShowsBorder s scan plan.paper (timing_marks plan.paper)
   shows-border = record { slant_is = fits.shows.slant_is; marks_are = laws.marks_are plan.paper; shows = shows-marks; in_frame = fits.shows.marks }
 
   finds : FindsBorder s scan plan.paper
