@@ -9,3 +9,5 @@ pub mod Inks
 pub mod Found
 pub mod Read
 pub mod TurnedRead
+pub mod Once
+pub mod Clean

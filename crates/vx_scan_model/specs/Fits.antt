@@ -1,23 +1,25 @@
 -- A scan that fits a printed page with its marks: the bounds within which it is read as that page. This project's
 -- own bounds.
-use Rattle.std.specs.Prelude.{◌≡◌, ◌⊎◌, ◌<◌, ◌≤◌, ℕ, List, map, length, Bool, true, false, Result, Ok, Err}
-use Rattle.vx_base.specs.Refusals.{Unless}
-use Rattle.vx_plane.specs.Plane.{Pixels, Page}
+use Rattle.std.specs.Prelude.{◌≡◌, ◌⊎◌, ◌<◌, ◌≤◌, ℕ, ℤ, pos, List, map, length, Bool, true, false, Ok}
+use Rattle.vx_plane.specs.Plane.{Pixels, Page, page_of, nowhere, rectangle}
 use Rattle.vx_grid.specs.declared.places.Point.{Point}
 use Rattle.vx_grid.specs.declared.state.State.{State}
 use Rattle.vx_grid.specs.declared.state.State.TheVariants.{Marked, Clear}
 use Rattle.vx_grid.specs.Marks.{marks as marks_of}
 use Rattle.vx_grid.specs.Regions.{frame_zone}
 use Rattle.vx_grid.specs.Sizes as sizes
-use Rattle.vx_grid.specs.Sizes.{zone_of}
-use Rattle.vx_count.specs.Turned.{turned_page}
+use Rattle.vx_grid.specs.Sizes.{zone_of, round}
+use Rattle.vx_grid.specs.Grid.{x_of, y_of}
+use Rattle.vx_count.specs.Turned.{turned_page, IsWhole}
 use Rattle.vx_code.specs.Code.{place_of_box, reserved_place}
 use Rattle.vx_election_model.specs.declared.election.Election.{Election}
+use Rattle.vx_layout.specs.declared.bubbles.Bubble.{Bubble}
 use Rattle.vx_layout.specs.declared.pages.PagePlan.{PagePlan}
 use Rattle.vx_layout.specs.Printed.{PrintedPage, IsPlanned, code_of, print_of_page}
 use Rattle.vx_mark_model.specs.Mark.{IsInFrame, most_wrong}
 use Rattle.vx_geom.specs.declared.shear.Shear.{Shear}
-use Rattle.vx_geom.specs.Slants.{Slant, IsSlant, slant_of}
+use Rattle.vx_geom.specs.Slants.{Slant, IsSlant, slant_of, scan_column, scan_row}
+use Rattle.vx_geom.specs.Seen.{seen}
 use Rattle.vx_margin.specs.Marks.{mark_image}
 use Rattle.vx_margin.specs.Flips.{flips_in, flips_on}
 use Rattle.vx_margin.specs.Shown.{count_at, count_round, IsInStartRegion, ShowsZone}
@@ -89,12 +91,6 @@ pub record IsReadAs (election : Election) (scan : Page) (printed : PrintedPage) 
   pub is_read : reading_of election scan ≡ Ok reading
   pub says : Says election printed marks reading
 
--- every scan that fits a printed page with its marks is read as that page with those marks
-abbrev pub FittingScansAreRead : Type 0
-FittingScansAreRead =
-    (election : Election) (scan : Page) (printed : PrintedPage) (plan : PagePlan) (marks : List Bool)
-    → Fits election scan printed plan marks → IsReadAs election scan printed marks
-
 -- a scan is read as that page as it lies
 pub record IsReadUpright (election : Election) (scan : Page) (printed : PrintedPage) (marks : List Bool) : Type 0 where
   pub reading : PageReading
@@ -106,3 +102,48 @@ abbrev pub UprightScansAreRead : Type 0
 UprightScansAreRead =
     (election : Election) (scan : Page) (printed : PrintedPage) (plan : PagePlan) (marks : List Bool) → IsValid election
     → FitsUpright election scan printed plan marks → IsReadUpright election scan printed marks
+
+-- every scan that fits a printed page with its marks, as it lies or turned, is read as that page with those marks
+abbrev pub FittingScansAreRead : Type 0
+FittingScansAreRead =
+    (election : Election) (scan : Page) (printed : PrintedPage) (plan : PagePlan) (marks : List Bool) → IsValid election
+    → IsWhole scan → Fits election scan printed plan marks → IsReadAs election scan printed marks
+
+-- so a scan fits at most one printed page, with one set of marks
+abbrev pub FitsOnePage : Type 0
+FitsOnePage =
+    (election : Election) (scan : Page) (printed other : PrintedPage) (plan other_plan : PagePlan) (marks other_marks : List Bool)
+    → IsValid election → IsWhole scan → Fits election scan printed plan marks → Fits election scan other other_plan other_marks
+    → (printed ≡ other) × (marks ≡ other_marks)
+
+-- the scan of a frame that shows the paper under a shear without a flip
+abbrev pub sheared_print : ℕ → ℕ → Shear → Pixels → Page
+sheared_print width height shear paper = page_of width height (seen (slant_of shear) paper)
+
+-- a shear keeps a planned page in a frame
+pub record KeepsInFrame (shear : Shear) (plan : PagePlan) (width height : ℕ) : Type 0 where
+  pub slant_is : IsSlant (slant_of shear)
+  pub allowed : is_allowed plan.paper (page_of width height nowhere) ≡ true
+  pub start : IsInStartRegion (mark_image (slant_of shear) plan.paper 0)
+  pub marks :
+      (k : ℕ) → k < marks_of plan.paper
+      → IsInFrame (page_of width height nowhere) (mark_image (slant_of shear) plan.paper k)
+  pub bubbles :
+      (n : ℕ) → n < length plan.bubbles → (x y : ℤ)
+      → round (zone_of sizes.bubble) (x_of (bubble_at plan n).col) (y_of plan.paper (bubble_at plan n).row) x y ≡ true
+      → rectangle (pos 0) (pos 0) width height (scan_column (slant_of shear) x y) (scan_row (slant_of shear) x y) ≡ true
+  pub boxes :
+      (n : ℕ) → n < 84 → (x y : ℤ)
+      → round (zone_of sizes.code_box) (x_of (place_of_box plan.paper n).0) (y_of plan.paper (place_of_box plan.paper n).1) x y ≡ true
+      → rectangle (pos 0) (pos 0) width height (scan_column (slant_of shear) x y) (scan_row (slant_of shear) x y) ≡ true
+
+-- no bubble of a page is marked
+abbrev pub no_marks : PagePlan → List Bool
+no_marks plan = map (λ (bubble : Bubble). false) plan.bubbles
+
+-- the clean print of a planned page, sheared so that it stays in the frame, fits that page with no bubble marked
+abbrev pub ShearedPrintsFit : Type 0
+ShearedPrintsFit =
+    (election : Election) (printed : PrintedPage) (plan : PagePlan) (shear : Shear) (width height : ℕ) → IsValid election
+    → IsPlanned election printed plan → KeepsInFrame shear plan width height
+    → FitsUpright election (sheared_print width height shear (print_of_page election plan printed)) printed plan (no_marks plan)
