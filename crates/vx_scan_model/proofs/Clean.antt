@@ -1,14 +1,21 @@
 -- The clean print of a page, sheared, fits that page.
-use Rattle.std.proofs.Common.{◌≡◌, inl, inr, ℕ, ◌+◌, ◌≤◌, ◌<◌, Bool, true, false, not, ◌&&◌, List, map, length, ℤ, pos, ◌+ℤ◌, ◌-ℤ◌, ◌≤ℤ◌, ◌<ℤ◌, refl, ap, sym, subst, ◌∙◌, arith}
+use Rattle.std.proofs.Common.{◌≡◌, inl, inr, ℕ, ◌+◌, ◌*◌, ◌≤◌, ◌<◌, Bool, true, false, not, ◌&&◌, List, map, length, ℤ, pos, ◌+ℤ◌, ◌-ℤ◌, ◌*ℤ◌, ◌≤ℤ◌, ◌<ℤ◌, refl, ap, sym, subst, ◌∙◌, arith}
 use Rattle.std.specs.Prelude.{slice_index_or}
 use Rattle.std.proofs.lemmas.Int.{ints}
+use Rattle.std.specs.Int.{int_div_euclid}
+use Rattle.std.proofs.Math.IntN.{zero-*ℤ}
+use Rattle.std.proofs.lemmas.Bool.Decides.{nat_tests}
 use Rattle.std.proofs.lemmas.List.{get_or-map, length-map}
 use Rattle.vx_plane.specs.Plane.{Pixels, Page, page_of, nowhere, dark_at, rectangle}
 use Rattle.vx_plane.specs.Count.{count_in}
 use Rattle.vx_plane.proofs.Counts.{count_in-none}
-use Rattle.vx_plane.proofs.Pages.{dark_at-in_frame, rectangle-sides}
+use Rattle.vx_plane.proofs.Pages.{dark_at-in_frame, rectangle-sides, rectangle-inside, page_of-same}
+use Rattle.vx_grid.specs.declared.paper.Paper.{Paper}
+use Rattle.vx_grid.specs.declared.paper.Paper.TheVariants.{Letter, Legal}
 use Rattle.vx_grid.specs.declared.places.Point.{Point}
-use Rattle.vx_grid.specs.Grid.{x_of, y_of}
+use Rattle.vx_grid.specs.Paper.{page_width, page_height, last_row, first_y}
+use Rattle.vx_grid.specs.Marks.{marks as marks_of, marks_to, mark_of}
+use Rattle.vx_grid.specs.Grid.{x_of, y_of, first_code_row}
 use Rattle.vx_grid.specs.Regions.{frame_zone}
 use Rattle.vx_grid.specs.Sizes as sizes
 use Rattle.vx_grid.specs.Sizes.{zone_of, round}
@@ -19,14 +26,18 @@ use Rattle.vx_election_model.specs.Valid.{IsValid}
 use Rattle.vx_layout.specs.declared.bubbles.Bubble.{Bubble}
 use Rattle.vx_layout.specs.declared.pages.PagePlan.{PagePlan}
 use Rattle.vx_layout.specs.Zones.{Apart}
-use Rattle.vx_layout.specs.Printed.{PrintedPage, IsPlanned, print_of_page}
+use Rattle.vx_layout.specs.Printed.{PrintedPage, IsPlanned, print_of_page, KeepsClear, PrintedKeepClear}
+use Rattle.vx_layout.specs.Pages.{IsOnGrid}
 use Rattle.vx_geom.specs.declared.shear.Shear.{Shear}
-use Rattle.vx_geom.specs.Slants.{Slant, slant_of, scan_column, scan_row}
+use Rattle.vx_geom.specs.Slants.{Slant, slant_of, whole_of, down_by, right_by, scan_column, scan_row, paper_column, paper_row}
 use Rattle.vx_geom.specs.Seen.{seen}
 use Rattle.vx_margin.specs.Flips.{differ, flips, flips_in, flips_on, frame_of}
 use Rattle.vx_margin.specs.Shown.{count_round, ShowsZone}
 use Rattle.vx_scan_model.specs.Ink.{added_to, bubble_at, HasInk, IsInked}
-use Rattle.vx_scan_model.specs.Fits.{ShowsPaper, FitsUpright, sheared_print, KeepsInFrame, no_marks, ShearedPrintsFit}
+use Rattle.vx_margin.specs.Laws.{TimingMarksAreMarks}
+use Rattle.vx_scan_model.specs.Reading.{is_allowed}
+use Rattle.vx_scan_model.proofs.Printed.{many_rows, round-sides, place-columns, place-rows}
+use Rattle.vx_scan_model.specs.Fits.{ShowsPaper, FitsUpright, sheared_print, KeepsInFrame, no_marks, ShearedPrintsFit, CleanPrintsFit}
 
 nothing-added : (b : Bool) → (b && not b) ≡ false
 nothing-added true = refl
@@ -114,3 +125,117 @@ sheared-fits election printed plan shear width height valid planned keeps =
       };
       start = keeps.start;
     }
+
+-- no shear at all
+abbrev still : Shear
+still = record { sx = pos 0; sy = pos 0; a = pos 0; b = pos 0 }
+
+-- what is moved by no parts stays
+no-parts : (z : ℤ) → whole_of ((pos 0 *ℤ z) +ℤ pos 0) ≡ pos 0
+unfolding whole_of
+no-parts z = ap (λ n. int_div_euclid (n +ℤ pos 0) (pos 4096)) (zero-*ℤ z)
+
+still-down : (x : ℤ) → down_by (slant_of still) x ≡ pos 0
+unfolding down_by
+still-down x = ap (λ z. pos 0 +ℤ z) (no-parts x)
+
+still-right : (v : ℤ) → right_by (slant_of still) v ≡ pos 0
+unfolding right_by
+still-right v = ap (λ z. pos 0 +ℤ z) (no-parts v)
+
+still-row : (x y : ℤ) → scan_row (slant_of still) x y ≡ y
+still-row x y = let down = still-down x in omega (arith, ints, down)
+
+still-column : (x y : ℤ) → scan_column (slant_of still) x y ≡ x
+still-column x y = let right = still-right (scan_row (slant_of still) x y) in omega (arith, ints, right)
+
+still-seen : (set : Pixels) (u v : ℤ) → seen (slant_of still) set u v ≡ set u v
+still-seen set u v =
+    let column : paper_column (slant_of still) u v ≡ u = (let right = still-right v in omega (arith, ints, right)) in
+    let row : paper_row (slant_of still) u v ≡ v = (let down = still-down (paper_column (slant_of still) u v) in omega (arith, ints, down)) in
+    ap (λ z. set z (paper_row (slant_of still) u v)) column ∙ ap (λ z. set u z) row
+
+height-is : (paper : Paper) → page_height paper ≡ first_y paper + first_y paper + 52 * last_row paper
+height-is Letter = refl
+height-is Legal = refl
+
+first-rows : (paper : Paper) → (60 ≤ first_y paper) × (first_y paper ≤ 74)
+first-rows Letter = (omega arith, omega arith)
+first-rows Legal = (omega arith, omega arith)
+
+still-allowed : (paper : Paper) → is_allowed paper (page_of page_width (page_height paper) nowhere) ≡ true
+still-allowed Letter = refl
+still-allowed Legal = refl
+
+-- what stands within a page stays in its frame
+in-page : (width height : ℕ) (x y : ℤ) → pos 0 ≤ℤ x → x <ℤ pos width → pos 0 ≤ℤ y → y <ℤ pos height → rectangle (pos 0) (pos 0) width height (scan_column (slant_of still) x y) (scan_row (slant_of still) x y) ≡ true
+in-page width height x y a b c d =
+    let column = still-column x y in
+    let row = still-row x y in
+    rectangle-inside (pos 0) (pos 0) width height (scan_column (slant_of still) x y) (scan_row (slant_of still) x y) (omega (arith, ints, column, a)) (omega (arith, ints, column, b)) (omega (arith, ints, row, c)) (omega (arith, ints, row, d))
+
+module _ (are : TimingMarksAreMarks) (plan : PagePlan) (clear : KeepsClear plan) where
+  still-keeps : ((paper : Paper) (k : ℕ) → k < marks_of paper → ((mark_of (last_row paper) k).0 ≤ 33) × ((mark_of (last_row paper) k).1 ≤ last_row paper)) → KeepsInFrame still plan page_width (page_height plan.paper)
+  still-keeps points = record {
+    slant_is = record {
+      a = record { low = omega (arith, ints); high = omega (arith, ints) };
+      b = record { low = omega (arith, ints); high = omega (arith, ints) };
+      p = omega arith;
+      q = omega arith;
+    };
+    allowed = still-allowed plan.paper;
+    start =
+        (let column = still-column (pos (x_of 0)) (pos (y_of plan.paper 0)) in
+        let row = still-row (pos (x_of 0)) (pos (y_of plan.paper 0)) in
+        let first = first-rows plan.paper in
+        record {
+          left = omega (arith, ints, column);
+          right = omega (arith, ints, column);
+          top = omega (arith, ints, row, first.0);
+          bottom = omega (arith, ints, row, first.1);
+        });
+    marks = λ k few.
+        let c : ℕ = (mark_of (last_row plan.paper) k).0 in
+        let r : ℕ = (mark_of (last_row plan.paper) k).1 in
+        let point = points plan.paper k few in
+        let column = still-column (pos (x_of c)) (pos (y_of plan.paper r)) in
+        let row = still-row (pos (x_of c)) (pos (y_of plan.paper r)) in
+        let first = first-rows plan.paper in
+        let height = height-is plan.paper in
+        record {
+          left = omega (arith, ints, column);
+          right = omega (arith, ints, column, point.0);
+          top = omega (arith, ints, row, first.0);
+          bottom = omega (arith, ints, row, point.1, first.0, height);
+        };
+    bubbles = λ n few x y inside.
+        let grid : IsOnGrid plan.paper (bubble_at plan n) = clear.on_grid n (record { contest = 0; option = 0; col = 0; row = 0 }) few in
+        let sides = round-sides 36 25 (x_of (bubble_at plan n).col) (y_of plan.paper (bubble_at plan n).row) x y inside in
+        let height = height-is plan.paper in
+        let many = many_rows plan.paper in
+        let first = first-rows plan.paper in
+        in-page page_width (page_height plan.paper) x y (omega (arith, ints, sides.0, grid.col)) (omega (arith, ints, sides.1, grid.col, grid.few)) (omega (arith, ints, sides.2, first.0)) (omega (arith, ints, sides.3, grid.high, height, many, first.0));
+    boxes = λ n few x y inside.
+        let sides = round-sides 30 22 (x_of (place_of_box plan.paper n).0) (y_of plan.paper (place_of_box plan.paper n).1) x y inside in
+        let columns = place-columns (first_code_row plan.paper) n few in
+        let rows = place-rows (first_code_row plan.paper) n few in
+        let height = height-is plan.paper in
+        let many = many_rows plan.paper in
+        let first = first-rows plan.paper in
+        in-page page_width (page_height plan.paper) x y (omega (arith, ints, sides.0, columns.0)) (omega (arith, ints, sides.1, columns.1)) (omega (arith, ints, sides.2, first.0)) (omega (arith, ints, sides.3, rows.1, height, many, first.0));
+  }
+
+-- where the marks of a paper stand
+mark-columns : (last k : ℕ) → 40 ≤ last → k < marks_to last → (mark_of last k).0 ≤ 33
+mark-columns last k many few = grind (arith, nat_tests)
+
+mark-rows : (last k : ℕ) → 40 ≤ last → k < marks_to last → (mark_of last k).1 ≤ last
+mark-rows last k many few = grind (arith, nat_tests)
+
+pub clean-fits : TimingMarksAreMarks → PrintedKeepClear → CleanPrintsFit
+clean-fits are clear election printed plan valid planned =
+    let print : Pixels = print_of_page election plan printed in
+    let keeps = still-keeps are plan (clear election printed plan valid planned) (λ paper k few. (mark-columns (last_row paper) k (many_rows paper) few, mark-rows (last_row paper) k (many_rows paper) few)) in
+    let same : sheared_print page_width (page_height plan.paper) still print ≡ page_of page_width (page_height plan.paper) print =
+    page_of-same page_width (page_height plan.paper) (seen (slant_of still) print) print (λ x y a b. still-seen print (pos x) (pos y)) in
+    subst (λ (page : Page). FitsUpright election page printed plan (no_marks plan)) same (sheared-fits election printed plan still page_width (page_height plan.paper) valid planned keeps)

@@ -15,7 +15,7 @@ use Rattle.vx_code.specs.Code.{place_of_box, reserved_place}
 use Rattle.vx_election_model.specs.declared.election.Election.{Election}
 use Rattle.vx_layout.specs.declared.bubbles.Bubble.{Bubble}
 use Rattle.vx_layout.specs.declared.pages.PagePlan.{PagePlan}
-use Rattle.vx_layout.specs.Printed.{PrintedPage, IsPlanned, code_of, print_of_page}
+use Rattle.vx_layout.specs.Printed.{PrintedPage, IsPlanned, code_of, print_of_page, bitmap_of}
 use Rattle.vx_mark_model.specs.Mark.{IsInFrame, most_wrong}
 use Rattle.vx_geom.specs.declared.shear.Shear.{Shear}
 use Rattle.vx_geom.specs.Slants.{Slant, IsSlant, slant_of, scan_column, scan_row}
@@ -147,3 +147,9 @@ ShearedPrintsFit =
     (election : Election) (printed : PrintedPage) (plan : PagePlan) (shear : Shear) (width height : ℕ) → IsValid election
     → IsPlanned election printed plan → KeepsInFrame shear plan width height
     → FitsUpright election (sheared_print width height shear (print_of_page election plan printed)) printed plan (no_marks plan)
+
+-- as it is, it fits that page too
+abbrev pub CleanPrintsFit : Type 0
+CleanPrintsFit =
+    (election : Election) (printed : PrintedPage) (plan : PagePlan) → IsValid election → IsPlanned election printed plan
+    → FitsUpright election (bitmap_of election plan printed) printed plan (no_marks plan)

@@ -1,12 +1,15 @@
 //! Laws of borders and of scans that fit. These functions do nothing; their contracts are the laws.
 
 ghost use Rattle.vx_scan_model.specs.Border.{BorderIsGiven, EachScanHasItsBorder};
-ghost use Rattle.vx_scan_model.specs.Fits.{UprightScansAreRead};
+ghost use Rattle.vx_scan_model.specs.Fits.{FittingScansAreRead, FitsOnePage, ShearedPrintsFit, CleanPrintsFit};
 
 use vx_border::{a_list_is_followed, borders_are_one};
-use vx_code::codes_are_given_back;
+use vx_code::{codes_are_given_back, no_bit_is_refused};
 use vx_layout::{planned_pages_can_be_printed, printed_pages_keep_clear};
-use vx_margin::{borders_are_found, grid_places_lie_near, timing_marks_are_marks, windows_hold};
+use vx_margin::{
+    borders_are_found, followed_places_are_chains, grid_places_lie_near, timing_marks_are_marks,
+    turned_chains_lie_at_marks, turned_windows_hold, windows_hold,
+};
 
 /// What is the border of a scan, or its first fault, is what the function of its page gives: so
 /// there is one answer for each scan.
@@ -25,17 +28,32 @@ pub fn every_scan_has_its_border()
     a_list_is_followed();
 }
 
-/// Every scan that fits a printed page with its marks, as it lies, is read as that page: its marked
-/// bubbles are Marked and all others Clear.
+/// Every scan that fits a printed page with its marks, as it lies or turned, is read as that page: its
+/// marked bubbles are Marked and all others Clear. So a scan fits at most one page, with one set of marks.
 pub fn fitting_scans_are_read()
-    ensures { UprightScansAreRead }
+    ensures read { FittingScansAreRead }
+    ensures one { FitsOnePage }
 {
     a_list_is_followed();
     codes_are_given_back();
+    no_bit_is_refused();
     planned_pages_can_be_printed();
     printed_pages_keep_clear();
     timing_marks_are_marks();
     borders_are_found();
     grid_places_lie_near();
     windows_hold();
+    followed_places_are_chains();
+    turned_chains_lie_at_marks();
+    turned_windows_hold();
+}
+
+/// The clean print of a planned page, sheared so that it stays in the frame, fits that page with no bubble
+/// marked; and so it does as it is. So what `fitting_scans_are_read` says isn't said of nothing.
+pub fn clean_prints_fit()
+    ensures sheared { ShearedPrintsFit }
+    ensures clean { CleanPrintsFit }
+{
+    printed_pages_keep_clear();
+    timing_marks_are_marks();
 }

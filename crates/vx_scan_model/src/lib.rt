@@ -17,5 +17,7 @@ mod reading;
 mod tests;
 
 pub use fault::PageFault;
-pub use laws::{a_border_is_the_border, every_scan_has_its_border, fitting_scans_are_read};
+pub use laws::{
+    a_border_is_the_border, clean_prints_fit, every_scan_has_its_border, fitting_scans_are_read,
+};
 pub use reading::{PageReading, Scores};

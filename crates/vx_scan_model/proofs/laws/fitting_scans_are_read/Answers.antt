@@ -1,8 +1,12 @@
-use Rattle.vx_scan_model.proofs.Read.{AreLaws, upright-read}
+use Rattle.vx_scan_model.specs.Fits.{FittingScansAreRead}
+use Rattle.vx_scan_model.proofs.Read.{AreLaws}
+use Rattle.vx_scan_model.proofs.TurnedRead.{AreTurnedLaws, fits-read}
+use Rattle.vx_scan_model.proofs.Once.{fits-one}
 use Rattle.vx_scan_model.proofs.laws.fitting_scans_are_read.Goals as goal
+use Rattle.vx_scan_model.proofs.laws.fitting_scans_are_read.Goals.{After-turned_windows_hold}
 
-pub returns : goal.returns
-returns c = λ election scan printed plan marks valid fits.
+read : After-turned_windows_hold → FittingScansAreRead
+read c = λ election scan printed plan marks valid whole fits.
     let laws : AreLaws = record {
       marks_are = c.timing_marks_are_marks.ensures;
       found = c.borders_are_found.ensures;
@@ -15,4 +19,13 @@ returns c = λ election scan printed plan marks valid fits.
       corner = c.a_list_is_followed.ensures.corner;
       grows = c.a_list_is_followed.ensures.grows;
     } in
-    upright-read laws election valid scan printed plan marks fits
+    let more : AreTurnedLaws = record {
+      chains = c.followed_places_are_chains.ensures;
+      at_marks = c.turned_chains_lie_at_marks.ensures;
+      windows = c.turned_windows_hold.ensures;
+      no_bit = c.no_bit_is_refused.ensures;
+    } in
+    fits-read laws more election valid scan whole printed plan marks fits
+
+pub returns : goal.returns
+returns c = record { read = read c; one = fits-one (read c) }
