@@ -2,21 +2,16 @@
 use Rattle.std.proofs.Common.{◌≡◌, ◌∙◌, sym, ap, subst, List, Bool, true, false, Result, Ok, Err, refl}
 use Rattle.vx_base.specs.Refusals.{Unless, Gives}
 use Rattle.vx_plane.specs.Plane.{Page}
-use Rattle.vx_count.specs.Turned.{turned_page}
+use Rattle.vx_count.specs.Turned.{IsWhole}
 use Rattle.vx_election_model.specs.declared.election.Election.{Election}
 use Rattle.vx_election_model.specs.Valid.{IsValid}
 use Rattle.vx_layout.specs.Printed.{PrintedPage}
 use Rattle.vx_scan_model.specs.declared.reading.PageReading.{PageReading}
 use Rattle.vx_scan_model.specs.declared.fault.PageFault.{PageFault}
 use Rattle.vx_scan_model.specs.Faults.{is_no_memory}
-use Rattle.vx_scan_model.specs.Reading.{upright_reading_of, either_way, reading_of}
-use Rattle.vx_scan_model.specs.Fits.{Says, UprightScansAreRead}
+use Rattle.vx_scan_model.specs.Reading.{reading_of}
+use Rattle.vx_scan_model.specs.Fits.{Says, FittingScansAreRead}
 use Rattle.vx_page.specs.Margin.{SaysPage, ReadsWhatFits}
-
--- a scan that is read as it lies is read so
-read-upright : (election : Election) (page : Page) (reading : PageReading) → upright_reading_of election page ≡ Ok reading → reading_of election page ≡ Ok reading
-unfolding reading_of
-read-upright election page reading is = ap (λ upright. either_way upright (upright_reading_of election (turned_page page))) is
 
 same-reading : (a b : PageReading) → ◌≡◌ {A = Result PageReading PageFault} (Ok a) (Ok b) → a ≡ b
 same-reading a b e = cc
@@ -32,9 +27,8 @@ said election printed marks reading (Ok given) says gives = subst (Says election
 said election printed marks reading (Err fault) says gives = no-fault election printed marks reading fault (is_no_memory fault) refl gives
 
 -- what is given for a scan that fits
-pub reads-what_fits : UprightScansAreRead → (election : Election) (page : Page) (result : Result PageReading PageFault) → IsValid election
+pub reads-what_fits : FittingScansAreRead → (election : Election) (page : Page) (result : Result PageReading PageFault) → IsValid election → IsWhole page
     → Gives is_no_memory result (reading_of election page) → ReadsWhatFits election page result
-reads-what_fits read election page result valid gives printed plan marks fits =
-    let upright = read election page printed plan marks valid fits in
-    said election printed marks upright.reading result upright.says
-    (subst (Gives is_no_memory result) (read-upright election page upright.reading upright.is_read) gives)
+reads-what_fits read election page result valid whole gives printed plan marks fits =
+    let as_it_is = read election page printed plan marks valid whole fits in
+    said election printed marks as_it_is.reading result as_it_is.says (subst (Gives is_no_memory result) as_it_is.is_read gives)

@@ -202,12 +202,14 @@ pub fn read_page(
         × (width ≡ page.now.width) × (height ≡ page.now.height)) }
     // The code names a planned page, and each of its bubbles has a score and a state.
     ensures planned { IfOk result (IsOfAPlan election.now) }
-    // A scan that fits a printed page with its marks, as it lies, is read as that page with those marks.
+    // A scan that fits a printed page with its marks, as it lies or turned, is read as that page with
+    // those marks.
     ensures margin { ReadsWhatFits election.now page.now result }
 {
     fitting_scans_are_read();
+    let (width, height) = (page.width(), page.height());
     if !is_allowed(election.paper, page) {
-        return Err(PageFault::FrameSize(page.width(), page.height()));
+        return Err(PageFault::FrameSize(width, height));
     }
     match read_framed(alloc, election, plans, page) {
         Ok((reading, _)) => Ok(reading),

@@ -19,12 +19,12 @@ frame election page width height not_allowed wide high =
 
 pub returns-then-not-is_allowed-clause-exact : goal.returns-then-not-is_allowed-clause-exact
 returns-then-not-is_allowed-clause-exact c =
-    frame c.args.election.now c.args.page.now c.width.result c.height.result (sym c.if-not-is_allowed.ensures) c.width.ensures.value c.height.ensures.value
+    frame c.args.election.now c.args.page.now c.width-width.result c.height-height.result (sym c.if-not-is_allowed.ensures) c.width-width.ensures.value c.height-height.ensures.value
 
 pub returns-then-not-is_allowed-clause-margin : goal.returns-then-not-is_allowed-clause-margin
 returns-then-not-is_allowed-clause-margin c =
-    reads-what_fits c.fitting_scans_are_read.ensures c.args.election.now c.args.page.now (Err (FrameSize c.width.result c.height.result)) c.requires.election
-    (frame c.args.election.now c.args.page.now c.width.result c.height.result (sym c.if-not-is_allowed.ensures) c.width.ensures.value c.height.ensures.value)
+    reads-what_fits c.fitting_scans_are_read.ensures.read c.args.election.now c.args.page.now (Err (FrameSize c.width-width.result c.height-height.result)) c.requires.election c.width-width.ensures.whole
+    (frame c.args.election.now c.args.page.now c.width-width.result c.height-height.result (sym c.if-not-is_allowed.ensures) c.width-width.ensures.value c.height-height.ensures.value)
 
 pub returns-in-Ok : goal.returns-in-Ok
 returns-in-Ok c =
@@ -36,7 +36,7 @@ returns-in-Ok c =
         λ h. absurd (false≢true (sym h.0 ∙ allowed)),
       );
       planned = record { plan = _; of_plan = c.in-Ok.ensures.1 };
-      margin = reads-what_fits c.fitting_scans_are_read.ensures c.args.election.now c.args.page.now (Ok c.in-Ok.reading) c.requires.election c.in-Ok.ensures.0;
+      margin = reads-what_fits c.fitting_scans_are_read.ensures.read c.args.election.now c.args.page.now (Ok c.in-Ok.reading) c.requires.election c.width-width.ensures.whole c.in-Ok.ensures.0;
     }
 
 pub returns-in-Err : goal.returns-in-Err
@@ -49,5 +49,5 @@ returns-in-Err c =
         λ h. absurd (false≢true (sym h.0 ∙ allowed)),
       );
       planned = tt;
-      margin = reads-what_fits c.fitting_scans_are_read.ensures c.args.election.now c.args.page.now (Err c.in-Err.fault) c.requires.election c.in-Err.ensures;
+      margin = reads-what_fits c.fitting_scans_are_read.ensures.read c.args.election.now c.args.page.now (Err c.in-Err.fault) c.requires.election c.width-width.ensures.whole c.in-Err.ensures;
     }
