@@ -177,8 +177,7 @@ module _ (s : Slant) (scan other : Page) (paper : Paper) (marks turned_marks : P
       let framed = last-framed in
       let close = corner-close in
       let row = q-row in
-      let column = q-column in
-      (
+      let column = q-column in (
         omega (arith, ints, column, close.0.high, framed.right, turned.width),
         omega (arith, ints, column, close.0.low, last-right, start.left, wide),
         omega (arith, ints, row, close.1.high, framed.bottom, turned.height),
@@ -204,7 +203,7 @@ module _ (s : Slant) (scan other : Page) (paper : Paper) (marks turned_marks : P
         let sides = rectangle-sides (p.u -ℤ pos 23) (p.v -ℤ pos 11) 46 22 u v inside in
         outside_is_zone paper (paper_column t u v) (paper_row t u v)
         (rectangle-outside (pos 178) (pos (first_y paper + 130)) 1344 (52 * last_row paper - 260) (paper_column t u v) (paper_row t u v)
-          (inr (inr (inl (row-high u v (omega (arith, ints, sides.0, in_region.left)) (omega (arith, ints, sides.1, in_region.right)) (omega (arith, ints, sides.2, in_region.top)) (omega (arith, ints, sides.3, in_region.bottom)))))));
+        (inr (inr (inl (row-high u v (omega (arith, ints, sides.0, in_region.left)) (omega (arith, ints, sides.1, in_region.right)) (omega (arith, ints, sides.2, in_region.top)) (omega (arith, ints, sides.3, in_region.bottom)))))));
   }
 
   -- a mark there is one of the first three of the top row, or the first of the left column

@@ -62,12 +62,12 @@ count_in-turned_round u_end v_end left top width height set =
 zone-turned : (paper : Paper) (x y : ℤ) → frame_zone paper (last_x -ℤ x) (last_y paper -ℤ y) ≡ frame_zone paper x y
 zone-turned paper x y =
     ap not (same_bool _ _
-      (λ h. let s = rectangle-sides (pos 178) (pos (first_y paper + 130)) 1344 (52 * last_row paper - 260) (last_x -ℤ x) (last_y paper -ℤ y) h in
-        rectangle-inside (pos 178) (pos (first_y paper + 130)) 1344 (52 * last_row paper - 260) x y
-        (omega (arith, ints, s.1)) (omega (arith, ints, s.0)) (omega (arith, ints, s.3, height-is paper, many_rows paper)) (omega (arith, ints, s.2, height-is paper, many_rows paper)))
-      (λ h. let s = rectangle-sides (pos 178) (pos (first_y paper + 130)) 1344 (52 * last_row paper - 260) x y h in
-        rectangle-inside (pos 178) (pos (first_y paper + 130)) 1344 (52 * last_row paper - 260) (last_x -ℤ x) (last_y paper -ℤ y)
-        (omega (arith, ints, s.1)) (omega (arith, ints, s.0)) (omega (arith, ints, s.3, height-is paper, many_rows paper)) (omega (arith, ints, s.2, height-is paper, many_rows paper))))
+    (λ h. let s = rectangle-sides (pos 178) (pos (first_y paper + 130)) 1344 (52 * last_row paper - 260) (last_x -ℤ x) (last_y paper -ℤ y) h in
+    rectangle-inside (pos 178) (pos (first_y paper + 130)) 1344 (52 * last_row paper - 260) x y
+    (omega (arith, ints, s.1)) (omega (arith, ints, s.0)) (omega (arith, ints, s.3, height-is paper, many_rows paper)) (omega (arith, ints, s.2, height-is paper, many_rows paper)))
+    (λ h. let s = rectangle-sides (pos 178) (pos (first_y paper + 130)) 1344 (52 * last_row paper - 260) x y h in
+    rectangle-inside (pos 178) (pos (first_y paper + 130)) 1344 (52 * last_row paper - 260) (last_x -ℤ x) (last_y paper -ℤ y)
+    (omega (arith, ints, s.1)) (omega (arith, ints, s.0)) (omega (arith, ints, s.3, height-is paper, many_rows paper)) (omega (arith, ints, s.2, height-is paper, many_rows paper))))
 
 -- the border points are the same from the other end
 point-turned : (paper : Paper) (c r : ℕ) → IsBorderPoint paper c r → IsBorderPoint paper (33 - c) (last_row paper - r)
@@ -98,9 +98,12 @@ marks-turned paper marks are = record {
       let m = are.some (last_x -ℤ x) (last_y paper -ℤ y) h in
       let back_x : last_x -ℤ (last_x -ℤ x) ≡ x = omega (arith, ints) in
       let back_y : last_y paper -ℤ (last_y paper -ℤ y) ≡ y = omega (arith, ints) in
-      let In : ℤ → ℤ → Type 0 = λ a b. IsInMark paper (33 - m.0) (last_row paper - m.1) a b in
-      (33 - m.0, last_row paper - m.1, point-turned paper m.0 m.1 m.2,
-        subst (λ (b : ℤ). In x b) back_y (subst (λ (a : ℤ). In a (last_y paper -ℤ (last_y paper -ℤ y))) back_x (mark-turned paper m.0 m.1 (last_x -ℤ x) (last_y paper -ℤ y) m.2.column m.2.row m.3)));
+      let In : ℤ → ℤ → Type 0 = λ a b. IsInMark paper (33 - m.0) (last_row paper - m.1) a b in (
+        33 - m.0,
+        last_row paper - m.1,
+        point-turned paper m.0 m.1 m.2,
+        subst (λ (b : ℤ). In x b) back_y (subst (λ (a : ℤ). In a (last_y paper -ℤ (last_y paper -ℤ y))) back_x (mark-turned paper m.0 m.1 (last_x -ℤ x) (last_y paper -ℤ y) m.2.column m.2.row m.3)),
+      );
 }
 
 module _ (s : Slant) (scan other : Page) (paper : Paper) (turned : IsTurned scan other) where
@@ -131,11 +134,11 @@ module _ (s : Slant) (scan other : Page) (paper : Paper) (turned : IsTurned scan
   frame-turned u v =
       same_bool _ _
       (λ q. let k = rectangle-sides (pos 0) (pos 0) scan.width scan.height u v q in
-        rectangle-inside (pos 0) (pos 0) other.width other.height (w -ℤ u) (h -ℤ v)
-        (omega (arith, ints, k.1)) (omega (arith, ints, k.0, turned.width)) (omega (arith, ints, k.3)) (omega (arith, ints, k.2, turned.height)))
+      rectangle-inside (pos 0) (pos 0) other.width other.height (w -ℤ u) (h -ℤ v)
+      (omega (arith, ints, k.1)) (omega (arith, ints, k.0, turned.width)) (omega (arith, ints, k.3)) (omega (arith, ints, k.2, turned.height)))
       (λ q. let k = rectangle-sides (pos 0) (pos 0) other.width other.height (w -ℤ u) (h -ℤ v) q in
-        rectangle-inside (pos 0) (pos 0) scan.width scan.height u v
-        (omega (arith, ints, k.1, turned.width)) (omega (arith, ints, k.0)) (omega (arith, ints, k.3, turned.height)) (omega (arith, ints, k.2)))
+      rectangle-inside (pos 0) (pos 0) scan.width scan.height u v
+      (omega (arith, ints, k.1, turned.width)) (omega (arith, ints, k.0)) (omega (arith, ints, k.3, turned.height)) (omega (arith, ints, k.2)))
 
   pub flips-turned : (set : Pixels) (u v : ℤ) → flips t scan (turned_set paper set) u v ≡ flips s other set (w -ℤ u) (h -ℤ v)
   unfolding flips

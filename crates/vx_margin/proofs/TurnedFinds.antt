@@ -41,7 +41,7 @@ pub turned-windows : (s : Slant) (scan other : Page) (border : MarkPlaces) (set 
     → half.across ≤ bubble.across → half.down ≤ bubble.down → c ≤ last_column → r ≤ last_row border.paper
     → count_round border.paper (zone_of half) (last_column - c) (last_row border.paper - r) (flips_on s other set) ≤ most
     → dark_round scan (window_of half) (place_of border c r)
-      ≤ count_round border.paper (zone_of half) (last_column - c) (last_row border.paper - r) set + most
+    ≤ count_round border.paper (zone_of half) (last_column - c) (last_row border.paper - r) set + most
 turned-windows s scan other border set half c r most turned slant framed near narrow low few below few_flips =
     let paper : Paper = border.paper in
     let t : Slant = slant_turned paper scan s in

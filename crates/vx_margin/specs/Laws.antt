@@ -110,4 +110,4 @@ TurnedWindowsHold =
     → half.across ≤ bubble.across → half.down ≤ bubble.down → c ≤ last_column → r ≤ last_row border.paper
     → count_round border.paper (zone_of half) (last_column - c) (last_row border.paper - r) (flips_on s other set) ≤ most
     → dark_round scan (window_of half) (place_of border c r)
-      ≤ count_round border.paper (zone_of half) (last_column - c) (last_row border.paper - r) set + most
+    ≤ count_round border.paper (zone_of half) (last_column - c) (last_row border.paper - r) set + most

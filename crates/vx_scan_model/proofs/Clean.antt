@@ -72,7 +72,7 @@ module _ (paper : Pixels) (shear : Shear) (width height : ℕ) where
   no-flip u v =
       no-flip-by (rectangle (pos 0) (pos 0) width height u v) (dark_at scan u v) (seen s paper u v)
       (λ inside. let k = rectangle-sides (pos 0) (pos 0) width height u v inside in
-        dark_at-in_frame width height (seen s paper) u v k.0 (omega (arith, ints, k.1)) k.2 (omega (arith, ints, k.3)))
+      dark_at-in_frame width height (seen s paper) u v k.0 (omega (arith, ints, k.1)) k.2 (omega (arith, ints, k.3)))
 
   no-flips : (left top : ℤ) (w h : ℕ) (zone : Pixels) → count_in left top w h (flips_in s scan paper zone) ≡ 0
   no-flips left top w h zone = count_in-none left top w h (flips_in s scan paper zone) (λ u v a b c d. second-false (seen s zone u v) (flips s scan paper u v) (no-flip u v))

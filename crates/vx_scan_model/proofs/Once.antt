@@ -42,8 +42,7 @@ fits-one read election scan printed other plan other_plan marks other_marks vali
     let second = read election scan other other_plan other_marks valid whole fits_too in
     let same : first.reading ≡ second.reading = same-reading first.reading second.reading (sym first.is_read ∙ second.is_read) in
     let code : code_of election printed ≡ code_of election other = sym first.says.code_is ∙ (ap (λ (r : PageReading). r.code) same ∙ second.says.code_is) in
-    let states : map state_of_mark marks ≡ map state_of_mark other_marks = sym first.says.states_are ∙ (ap (λ (r : PageReading). r.states) same ∙ second.says.states_are) in
-    (
+    let states : map state_of_mark marks ≡ map state_of_mark other_marks = sym first.says.states_are ∙ (ap (λ (r : PageReading). r.states) same ∙ second.says.states_are) in (
       same-page printed other (ap (λ (c : PageCode). c.card) code) (ap (λ (c : PageCode). c.page) code) (ap (λ (c : PageCode). c.kind) code) (ap (λ (c : PageCode). c.test) code),
       same-marks marks other_marks states,
     )

@@ -57,7 +57,7 @@ by_frame : {P : Type 0} (w h : ℕ) (u v : ℤ) → (pos 0 ≤ℤ u → u <ℤ p
 by_frame w h u v inside outside =
     by_lt_z u (pos 0) (λ a. outside (inl a)) (λ a.
     by_lt_z u (pos w) (λ b. by_lt_z v (pos 0) (λ c. outside (inr (inr (inl c)))) (λ c.
-      by_lt_z v (pos h) (λ d. inside a b c d) (λ d. outside (inr (inr (inr d))))))
+    by_lt_z v (pos h) (λ d. inside a b c d) (λ d. outside (inr (inr (inr d))))))
     (λ b. outside (inr (inl b))))
 
 -- outside the frame of a page that is made of its dark places all is light
@@ -86,10 +86,10 @@ is-turned page whole = record {
       let back_v : h -ℤ (h -ℤ v) ≡ v = omega (arith, ints) in
       by_frame page.width page.height u v
       (λ a b c d.
-        sym (dark_at-in_frame page.width page.height (turned page.width page.height (dark_at page)) (w -ℤ u) (h -ℤ v) (omega (arith, ints, b)) (omega (arith, ints, a)) (omega (arith, ints, d)) (omega (arith, ints, c))
-        ∙ (ap (λ z. dark_at page z (h -ℤ (h -ℤ v))) back_u ∙ ap (λ z. dark_at page u z) back_v)))
+      sym (dark_at-in_frame page.width page.height (turned page.width page.height (dark_at page)) (w -ℤ u) (h -ℤ v) (omega (arith, ints, b)) (omega (arith, ints, a)) (omega (arith, ints, d)) (omega (arith, ints, c))
+      ∙ (ap (λ z. dark_at page z (h -ℤ (h -ℤ v))) back_u ∙ ap (λ z. dark_at page u z) back_v)))
       (λ out. light-outside page whole u v out
-        ∙ sym (dark_at-out_of_frame page.width page.height (turned page.width page.height (dark_at page)) (w -ℤ u) (h -ℤ v) (over page.width page.height u v out)));
+      ∙ sym (dark_at-out_of_frame page.width page.height (turned page.width page.height (dark_at page)) (w -ℤ u) (h -ℤ v) (over page.width page.height u v out)));
 }
   where
     over : (w h : ℕ) (u v : ℤ) → (u <ℤ pos 0) ⊎ (pos w ≤ℤ u) ⊎ (v <ℤ pos 0) ⊎ (pos h ≤ℤ v)
@@ -158,7 +158,7 @@ module _ (laws : AreLaws) (more : AreTurnedLaws) (election : Election) (valid : 
         subst (λ (b : ℕ). Few (33 - c) b) (sym over.1) (subst (λ (a : ℕ). Few a (reserved_place m).1) (sym over.0) (fits.shows.reserved m (omega arith))) in
         let blank : Blank (33 - c) (last_row plan.paper - r) =
         subst (λ (b : ℕ). Blank (33 - c) b) (sym over.1) (subst (λ (a : ℕ). Blank a (reserved_place m).1) (sym over.0)
-          (reserved-blank laws.marks_are plan keeps (boxes_of (code_of election printed)) fits.paper fits.inked.printed m (omega arith) fits.inked.reserved)) in
+        (reserved-blank laws.marks_are plan keeps (boxes_of (code_of election printed)) fits.paper fits.inked.printed m (omega arith) fits.inked.reserved)) in
         let most : dark_round scan (window_of sizes.code_box) (place_of border c r) ≤ count_round plan.paper (zone_of sizes.code_box) (33 - c) (last_row plan.paper - r) fits.paper + 120 =
         more.windows s scan other border fits.paper sizes.code_box c r 120 (is-turned scan whole) fits.shows.slant_is (dark-framed scan whole) near (omega arith) (omega arith)
         (omega (arith, columns.1)) (omega (arith, rows.1, many_rows plan.paper)) wrong in
@@ -191,7 +191,7 @@ module _ (laws : AreLaws) (more : AreTurnedLaws) (election : Election) (valid : 
   unfolding upright_reading_of
   upright-fault =
       by_test (is_allowed election.paper scan) (subst (λ (p : Paper). IsFault (reading_of_border election scan (border_of p scan))) of_paper
-        (by-border (border_of plan.paper scan) (IsBorderOf-border_of laws.corner laws.grows plan.paper scan)))
+      (by-border (border_of plan.paper scan) (IsBorderOf-border_of laws.corner laws.grows plan.paper scan)))
     where
       by_test : (test : Bool) → IsFault (reading_of_border election scan (border_of election.paper scan))
           → IsFault (if test then reading_of_border election scan (border_of election.paper scan) else Err (FrameSize scan.width scan.height))
