@@ -12,14 +12,15 @@ use crate::halt::{Halt, halt_of_election, halt_of_taking};
 use std::alloc::Global;
 use vx_base::Bytes;
 use vx_election::{Election, read_election};
-use vx_io::{Inputs, take};
+use vx_io::{Inputs, take_reusing};
 
 /// The most bytes that an input may have.
 pub const INPUT_LIMIT: u64 = 67_108_864;
 
-/// Takes the input of a word, of at most `limit` bytes, by its name.
+/// Takes the input of a word, of at most `limit` bytes, by its name, into the memory of `old`, which
+/// may be of an input that was taken before.
 pub fn take_input<I: Inputs>(
-    alloc: Global,
+    old: Bytes,
     inputs: &mut I,
     name: &str,
     word: u32,
@@ -33,7 +34,7 @@ pub fn take_input<I: Inputs>(
     ensures inputs { TouchesInputs (I.held inputs.old) (I.held inputs.new)
         (I.faults inputs.old) (I.faults inputs.new) result }
 {
-    match take(alloc, inputs, name, limit) {
+    match take_reusing(old, inputs, name, limit) {
         Ok(bytes) => Ok(bytes),
         Err(fault) => Err(halt_of_taking(word, fault)),
     }
@@ -59,6 +60,6 @@ pub fn take_election<I: Inputs>(alloc: Global, inputs: &mut I, name: &str) -> Re
     ensures inputs { TouchesInputs (I.held inputs.old) (I.held inputs.new)
         (I.faults inputs.old) (I.faults inputs.new) result }
 {
-    let bytes = take_input(alloc, inputs, name, 1, INPUT_LIMIT)?;
+    let bytes = take_input(Bytes::new(alloc), inputs, name, 1, INPUT_LIMIT)?;
     read_bytes(alloc, bytes.as_slice())
 }

@@ -12,6 +12,7 @@ use crate::reading_text::image_text;
 use std::alloc::Global;
 use vx_base::Bytes;
 use vx_command::{Halt, acts_in_order, halt_of_bitmap, steps_in_order, write_text};
+use vx_count::CounterMemory;
 use vx_election_model::Election;
 use vx_io::Sink;
 use vx_layout::CardPlans;
@@ -20,6 +21,7 @@ use vx_pbm::{Image, PbmReader};
 /// Reads the image with a number and writes what it is read as, or its fault.
 fn read_image<S: Sink>(
     alloc: Global,
+    memory: &mut CounterMemory,
     election: &Election,
     plans: &CardPlans,
     number: u64,
@@ -34,14 +36,16 @@ fn read_image<S: Sink>(
     ensures late { (first : Bool) → writes_nothing first result ≡ false }
 {
     steps_in_order::<Bytes>();
-    let text = image_text(alloc, election, plans, number, &image.view())?;
+    let text = image_text(alloc, memory, election, plans, number, &image.view())?;
     write_text(out, text.as_slice())
 }
 
 /// Reads the images of the scan of a word, the first of which has the number `first`, and writes the
-/// text of each. Answers the number after the last one's.
+/// text of each. Answers the number after the last one's. `memory` is that of the last counter, and
+/// gets that of the last image's.
 pub fn read_scan<S: Sink>(
     alloc: Global,
+    memory: &mut CounterMemory,
     election: &Election,
     plans: &CardPlans,
     word: u32,
@@ -67,7 +71,7 @@ pub fn read_scan<S: Sink>(
             Err(fault) => return Err(halt_of_bitmap(word, fault)),
             Ok(None) => return Ok(number),
             Ok(Some(image)) => {
-                read_image(alloc, election, plans, number, image, out)?;
+                read_image(alloc, memory, election, plans, number, image, out)?;
                 number += 1;
             }
         }

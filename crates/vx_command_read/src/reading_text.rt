@@ -12,6 +12,7 @@ use vx_base::{Bytes, OutOfMemory};
 use vx_bits::BitView;
 use vx_code::PageCode;
 use vx_command::{Halt, kind_word};
+use vx_count::CounterMemory;
 use vx_election_model::Election;
 use vx_grid::{Border, State, marks};
 use vx_layout::{Bubble, CardPlans};
@@ -142,6 +143,7 @@ fn push_fault(text: &mut String, number: u64, fault: PageFault) -> Result<(), Ou
 /// Adds what `read` writes of an image.
 fn push_image(
     alloc: Global,
+    memory: &mut CounterMemory,
     text: &mut String,
     election: &Election,
     plans: &CardPlans,
@@ -153,16 +155,17 @@ fn push_image(
     ensures { OnOk result (string_bytes text.new
         ≡ string_bytes text.old ++ image_text_of election.now number page.now) }
 {
-    match read_planned(alloc, election, plans, page) {
+    match read_planned(alloc, memory, election, plans, page) {
         Ok((reading, plan)) => push_block(text, number, plan.bubbles.as_slice(), &reading),
         Err(fault) => push_fault(text, number, fault),
     }
 }
 
 /// What `read` writes of the image with a number, counted from 1: the block of its reading, or the
-/// line of its fault.
+/// line of its fault. `memory` is that of the last counter, and gets this image's.
 pub fn image_text(
     alloc: Global,
+    memory: &mut CounterMemory,
     election: &Election,
     plans: &CardPlans,
     number: u64,
@@ -173,6 +176,6 @@ pub fn image_text(
     ensures { Gives is_no_memory result (Ok (image_text_of election.now number page.now)) }
 {
     let mut text = String::new(alloc);
-    push_image(alloc, &mut text, election, plans, number, page)?;
+    push_image(alloc, memory, &mut text, election, plans, number, page)?;
     Ok(Bytes::from_vec(text.into_bytes()))
 }

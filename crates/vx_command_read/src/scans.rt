@@ -9,17 +9,37 @@ ghost use Rattle.vx_command_read.specs.Scans.{ReadsFirst};
 
 use crate::images::read_scan;
 use std::alloc::Global;
+use std::mem::replace;
 use vx_base::Bytes;
 use vx_command::{Halt, INPUT_LIMIT, acts_in_order, steps_in_order, take_input};
+use vx_count::CounterMemory;
 use vx_election_model::Election;
 use vx_io::{Inputs, Sink};
 use vx_json::Text;
 use vx_layout::CardPlans;
 
+/// What is kept over all scans of a `read`, so that none takes memory anew: that of the last input
+/// and that of the last counter.
+#[derive(Drop)]
+struct ScanMemory {
+    bytes: Bytes,
+    counter: CounterMemory,
+}
+
+impl ScanMemory {
+    fn new(alloc: Global) -> ScanMemory {
+        ScanMemory {
+            bytes: Bytes::new(alloc),
+            counter: CounterMemory::new(alloc),
+        }
+    }
+}
+
 /// Takes the scan of a word under its name and reads its images, the first of which has a number.
 /// Answers the number after the last one's.
 fn read_input<I: Inputs, S: Sink>(
     alloc: Global,
+    memory: &mut ScanMemory,
     election: &Election,
     plans: &CardPlans,
     name: &str,
@@ -43,12 +63,25 @@ fn read_input<I: Inputs, S: Sink>(
     ensures late { writes_nothing false result ≡ false }
 {
     steps_in_order::<Bytes>();
-    let bytes = take_input(alloc, inputs, name, word, INPUT_LIMIT)?;
-    read_scan(alloc, election, plans, word, number, bytes.as_slice(), out)
+    let last = replace(&mut memory.bytes, Bytes::new(alloc));
+    let bytes = take_input(last, inputs, name, word, INPUT_LIMIT)?;
+    let next = read_scan(
+        alloc,
+        &mut memory.counter,
+        election,
+        plans,
+        word,
+        number,
+        bytes.as_slice(),
+        out,
+    );
+    memory.bytes = bytes;
+    next
 }
 
 /// Reads scans one after the other, the first of which is word 2, and writes the texts of their
-/// images, which are numbered over all of them from 1. One input is held at a time.
+/// images, which are numbered over all of them from 1. One input is held at a time, and all are held and
+/// counted in the memory of the greatest.
 pub fn read_scans<I: Inputs, S: Sink>(
     alloc: Global,
     election: &Election,
@@ -70,11 +103,13 @@ pub fn read_scans<I: Inputs, S: Sink>(
     ensures late { writes_nothing false result ≡ false }
 {
     acts_in_order();
+    let mut memory = ScanMemory::new(alloc);
     let mut number = 1;
     let mut word = 2;
     for scan in scans {
         number = read_input(
             alloc,
+            &mut memory,
             election,
             plans,
             scan.as_str(),

@@ -5,7 +5,7 @@ ghost use Rattle.vx_grid.specs.Places.{IsWithin};
 ghost use Rattle.vx_count.specs.Turned.{turned_page};
 
 use crate::cut::cut_at_frame;
-use crate::row_sums::RowSums;
+use crate::row_sums::{CounterMemory, RowSums};
 use std::alloc::{AllocError, Global};
 use std::marker::Model;
 use vx_bits::BitView;
@@ -37,12 +37,27 @@ impl Counter {
         requires height { page.now.height ≤ 4096 }
         ensures { IfOk result (λ counter. counter ≡ page.now) }
     {
+        Counter::reusing(CounterMemory::new(alloc), page)
+    }
+
+    /// A counter of a copy of the page in the memory of an earlier one, whatever that was of; takes
+    /// memory only where it isn't enough.
+    pub fn reusing(memory: CounterMemory, page: &BitView<'_>) -> Result<Counter, AllocError>
+        requires width { page.now.width ≤ 4096 }
+        requires height { page.now.height ≤ 4096 }
+        ensures { IfOk result (λ counter. counter ≡ page.now) }
+    {
         // For the proof alone: what this call's clause says of the page.
         let _width = page.width();
         Ok(Counter {
-            sums: RowSums::new(alloc, page)?,
+            sums: RowSums::reusing(memory, page)?,
             turned: false,
         })
+    }
+
+    /// The memory that the counter took; takes none.
+    pub fn into_memory(self) -> CounterMemory {
+        self.sums.into_memory()
     }
 
     /// The page's number of columns.

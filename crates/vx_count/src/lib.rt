@@ -16,4 +16,4 @@ mod tests;
 
 pub use counter::Counter;
 pub use laws::turned_twice_is_as_before;
-pub use row_sums::RowSums;
+pub use row_sums::{CounterMemory, RowSums};

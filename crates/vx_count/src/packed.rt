@@ -49,13 +49,15 @@ fn word_at(bytes: &[u8], at: usize) -> u64
 }
 
 impl PackedRows {
-    /// A copy of a page of at most 4096 columns.
-    pub fn new(alloc: Global, page: &BitView<'_>) -> Result<PackedRows, AllocError>
+    /// A copy of a page of at most 4096 columns, in the room of `old`.
+    pub fn reusing(old: Vec<u8>, page: &BitView<'_>) -> Result<PackedRows, AllocError>
         requires { page.now.width ≤ 4096 }
         ensures { IfOk result (λ rows. rows ≡ page.now) }
     {
         let rows = page.rows();
-        let mut bytes = Vec::with_capacity(alloc, rows.len() + 8)?;
+        let mut bytes = old;
+        bytes.clear();
+        bytes.try_reserve_exact(rows.len() + 8)?;
         bytes.extend_from_slice(rows)?;
         bytes.extend_from_slice(&[0; 8])?;
         Ok(PackedRows {
@@ -64,6 +66,11 @@ impl PackedRows {
             stride: (page.width() as usize + 7) / 8,
             bytes,
         })
+    }
+
+    /// The room that the rows took.
+    pub fn into_room(self) -> Vec<u8> {
+        self.bytes
     }
 
     /// The page's number of columns.

@@ -35,6 +35,23 @@ impl Model for RowSums {
     ghost invariant = { λ a. AreSums a.rows a.sums.items };
 }
 
+/// The memory of a counter, kept for the next one. What lies in it doesn't matter.
+#[derive(Drop)]
+pub struct CounterMemory {
+    bytes: Vec<u8>,
+    sums: Vec<u16>,
+}
+
+impl CounterMemory {
+    /// No memory yet; takes none.
+    pub fn new(alloc: Global) -> CounterMemory {
+        CounterMemory {
+            bytes: Vec::new(alloc),
+            sums: Vec::new(alloc),
+        }
+    }
+}
+
 /// Writes the sums of a row behind those of the rows above it.
 fn write_sums(sums: &mut [u16], rows: &PackedRows, row: u32)
     requires row { row < rows.now.height }
@@ -52,12 +69,13 @@ fn write_sums(sums: &mut [u16], rows: &PackedRows, row: u32)
     }
 }
 
-/// The sums of all rows.
-fn sums_of(alloc: Global, rows: &PackedRows) -> Result<Vec<u16>, AllocError>
+/// The sums of all rows, in the room of `old`.
+fn sums_of(old: Vec<u16>, rows: &PackedRows) -> Result<Vec<u16>, AllocError>
     ensures { IfOk result (λ sums. AreSums rows.now sums.items) }
 {
     let size = rows.height() as usize * (rows.width() / BLOCK) as usize;
-    let mut sums = vec![in alloc; 0u16; size]?;
+    let mut sums = old;
+    sums.resize(size, 0)?;
     for row in 0..rows.height() {
         write_sums(&mut sums, rows, row);
     }
@@ -70,9 +88,26 @@ impl RowSums {
         requires { page.now.width ≤ 4096 }
         ensures { IfOk result (λ sums. sums ≡ page.now) }
     {
-        let rows = PackedRows::new(alloc, page)?;
-        let sums = sums_of(alloc, &rows)?;
+        RowSums::reusing(CounterMemory::new(alloc), page)
+    }
+
+    /// The same in the memory of an earlier one, whatever that was of; takes memory only where it
+    /// isn't enough.
+    pub fn reusing(memory: CounterMemory, page: &BitView<'_>) -> Result<RowSums, AllocError>
+        requires { page.now.width ≤ 4096 }
+        ensures { IfOk result (λ sums. sums ≡ page.now) }
+    {
+        let rows = PackedRows::reusing(memory.bytes, page)?;
+        let sums = sums_of(memory.sums, &rows)?;
         Ok(RowSums { rows, sums })
+    }
+
+    /// The memory that the copy and its sums took; takes none.
+    pub fn into_memory(self) -> CounterMemory {
+        CounterMemory {
+            bytes: self.rows.into_room(),
+            sums: self.sums,
+        }
     }
 
     /// The page's number of columns.

@@ -121,3 +121,13 @@ fn a_row_of_numbers(rt: HostRuntime) -> Result<(), Fail> {
     assert_eq!(rt; counter.dark_in_frame(1, 0, 8, 1), 4);
     Ok(())
 }
+
+#[test]
+fn a_small_page_in_the_memory_of_a_large_one(rt: HostRuntime) -> Result<(), Fail> {
+    let mut large = BitPage::new(rt.alloc(), 2100, 40)?;
+    large.darken(0, 0, 2100, 40);
+    let memory = Counter::new(rt.alloc(), &large.view())?.into_memory();
+    let counter = Counter::reusing(memory, &BitView::new(9, 1, &[0xa5, 0xff]))?;
+    assert_eq!(rt; counter.dark_in(rect!(-3, -1, 20, 3)), 5);
+    Ok(())
+}

@@ -35,7 +35,7 @@ pub use mem_sink::MemSink;
 pub use outside::{Failed, Inputs, Keeper, KeeperError, Sink};
 pub use std_inputs::StdInputs;
 pub use std_sink::StdSink;
-pub use taking::{TakeFault, take};
+pub use taking::{TakeFault, take, take_reusing};
 pub use words::Words;
 
 #[cfg(test)]

@@ -56,10 +56,34 @@ fn read_whole<I: Inputs>(inputs: &mut I, name: &str, buffer: &mut [u8]) -> Resul
     Ok(())
 }
 
+/// Bytes of a length, in the memory of `old`, whatever is in it.
+fn resized(old: Bytes, len: usize) -> Result<Vec<u8>, AllocError>
+    ensures { IfOk result (λ buffer. length buffer.items ≡ len) }
+{
+    let mut buffer = old.into_vec();
+    buffer.resize(len, 0)?;
+    Ok(buffer)
+}
+
 /// Takes the bytes under the name, where there are at most `limit` of them. It asks for their
 /// number, makes one buffer of that length and reads into it in the largest pieces.
 pub fn take<I: Inputs>(
     alloc: Global,
+    inputs: &mut I,
+    name: &str,
+    limit: u64,
+) -> Result<Bytes, TakeFault>
+    ensures told { IfSome (I.held inputs.old) (λ files. Takes (files name.now) limit result) }
+    ensures within { IsWithin limit result }
+    ensures held { I.held inputs.new ≡ I.held inputs.old }
+    ensures cause { CountsFaults (take_failed result) (I.faults inputs.old) (I.faults inputs.new) }
+{
+    take_reusing(Bytes::new(alloc), inputs, name, limit)
+}
+
+/// The same into the memory of `old`, whatever is in it; takes memory only where it isn't enough.
+pub fn take_reusing<I: Inputs>(
+    old: Bytes,
     inputs: &mut I,
     name: &str,
     limit: u64,
@@ -75,7 +99,7 @@ pub fn take<I: Inputs>(
     if size > limit {
         return Err(TakeFault::TooLong(size));
     }
-    let mut buffer = Vec::from_elem(alloc, 0u8, size as usize)?;
+    let mut buffer = resized(old, size as usize)?;
     read_whole(inputs, name, buffer.as_mut_slice())?;
     Ok(Bytes::from_vec(buffer))
 }

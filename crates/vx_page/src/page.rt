@@ -13,9 +13,10 @@ use crate::bubbles::{scores_of, states_of};
 use crate::code::read_code;
 use crate::named::find_plan;
 use std::alloc::Global;
+use std::mem::replace;
 use vx_bits::BitView;
 use vx_border::trace;
-use vx_count::Counter;
+use vx_count::{Counter, CounterMemory};
 use vx_election_model::Election;
 use vx_grid::{Border, Paper};
 use vx_layout::{CardPlans, PagePlan, plans_have_the_elections_paper, plans_stand_on_the_grid};
@@ -132,10 +133,36 @@ fn read_turned<'a>(
     }
 }
 
-/// The reading of a scan whose frame is allowed, with the plan of its page. Where the scan as it lies
-/// isn't read, its counter is turned and reads on, without a second copy.
+/// The reading of a counter's page, a scan whose frame is allowed, with the plan of the page. Where
+/// the scan as it lies isn't read, its counter is turned and reads on, without a second copy.
+fn read_counted<'a>(
+    alloc: Global,
+    election: &Election,
+    plans: &'a CardPlans,
+    counter: &mut Counter,
+) -> Result<(PageReading, &'a PagePlan), PageFault>
+    requires election { IsValid election.now }
+    requires plans { ArePlansOf election.now plans.now }
+    requires allowed { reading.is_allowed election.now.paper counter.old ≡ true }
+    ensures { GivesWithPlan election.now counter.old result }
+{
+    match read_upright(alloc, election, plans, counter) {
+        Ok(given) => Ok(given),
+        Err(fault) => {
+            if is_no_memory(fault) {
+                return Err(fault);
+            }
+            counter.turn();
+            read_turned(alloc, election, plans, counter, fault)
+        }
+    }
+}
+
+/// The reading of a scan whose frame is allowed, with the plan of its page. The counter takes the
+/// memory of the last one and leaves its own, unless it can't be made.
 fn read_framed<'a>(
     alloc: Global,
+    memory: &mut CounterMemory,
     election: &Election,
     plans: &'a CardPlans,
     page: &BitView<'_>,
@@ -145,17 +172,11 @@ fn read_framed<'a>(
     requires allowed { reading.is_allowed election.now.paper page.now ≡ true }
     ensures { GivesWithPlan election.now page.now result }
 {
-    let mut counter = Counter::new(alloc, page)?;
-    match read_upright(alloc, election, plans, &counter) {
-        Ok(given) => Ok(given),
-        Err(fault) => {
-            if is_no_memory(fault) {
-                return Err(fault);
-            }
-            counter.turn();
-            read_turned(alloc, election, plans, &counter, fault)
-        }
-    }
+    let last = replace(memory, CounterMemory::new(alloc));
+    let mut counter = Counter::reusing(last, page)?;
+    let read = read_counted(alloc, election, plans, &mut counter);
+    *memory = counter.into_memory();
+    read
 }
 
 /// Reads the scan of a page of the election, whose cards are planned so, and answers the plan of the
@@ -168,8 +189,12 @@ fn read_framed<'a>(
 /// followed, `Code` where the boxes show no code of the paper's version, `OtherElection` where the
 /// code has another election's tag, `NoCard` and `NoPage` where it names a card or a page that isn't
 /// planned.
+///
+/// `memory` is that of the last scan's counter and gets this one's, so that all scans of a file are
+/// read in the memory of the greatest.
 pub fn read_planned<'a>(
     alloc: Global,
+    memory: &mut CounterMemory,
     election: &Election,
     plans: &'a CardPlans,
     page: &BitView<'_>,
@@ -179,7 +204,7 @@ pub fn read_planned<'a>(
     ensures { GivesWithPlan election.now page.now result }
 {
     if is_allowed(election.paper, page) {
-        read_framed(alloc, election, plans, page)
+        read_framed(alloc, memory, election, plans, page)
     } else {
         Err(PageFault::FrameSize(page.width(), page.height()))
     }
@@ -211,7 +236,8 @@ pub fn read_page(
     if !is_allowed(election.paper, page) {
         return Err(PageFault::FrameSize(width, height));
     }
-    match read_framed(alloc, election, plans, page) {
+    let mut memory = CounterMemory::new(alloc);
+    match read_framed(alloc, &mut memory, election, plans, page) {
         Ok((reading, _)) => Ok(reading),
         Err(fault) => Err(fault),
     }

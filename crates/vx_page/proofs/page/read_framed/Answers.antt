@@ -1,33 +1,10 @@
 use Rattle.std.proofs.Common.{sym, subst}
-use Rattle.std.specs.Prelude.{Result}
-use Rattle.vx_base.proofs.Results.{Unless-no}
-use Rattle.vx_scan_model.specs.declared.reading.PageReading.{PageReading}
-use Rattle.vx_scan_model.specs.declared.fault.PageFault.{PageFault}
-use Rattle.vx_scan_model.specs.Faults.{is_no_memory}
-use Rattle.vx_page.specs.Named.{GivesOnPlan}
-use Rattle.vx_page.proofs.Answered.{unless-want, allowed-counted, allowed-turned, reading-upright, reading-turned}
+use Rattle.vx_plane.specs.Plane.{Page}
+use Rattle.vx_page.specs.Named.{GivesWithPlan}
+use Rattle.vx_scan_model.specs.Reading.{is_allowed}
 use Rattle.vx_page.proofs.page.read_framed.Goals as goal
-
-pub read_upright-requires-clause-allowed : goal.read_upright-requires-clause-allowed
-read_upright-requires-clause-allowed c =
-    allowed-counted c.args.election.now.paper c.args.page.now c.in_ok-counter.counter c.in_ok-counter.ensures c.requires.allowed
-
-pub returns-in-Ok : goal.returns-in-Ok
-returns-in-Ok c = (
-  reading-upright c.args.election.now c.args.page.now c.in_ok-counter.counter c.in-Ok.given.0 c.in_ok-counter.ensures c.in-Ok.ensures.0,
-  c.in-Ok.ensures.1,
-)
-
-pub returns-then-is_no_memory : goal.returns-then-is_no_memory
-returns-then-is_no_memory c = unless-want _ (is_no_memory c.in-Err.fault) (sym c.if-is_no_memory.ensures)
-
-pub read_turned-requires-clause-allowed : goal.read_turned-requires-clause-allowed
-read_turned-requires-clause-allowed c =
-    allowed-turned c.args.election.now.paper c.args.page.now c.in_ok-counter.counter c.turn.new.self c.in_ok-counter.ensures c.turn.ensures c.requires.allowed
 
 pub returns : goal.returns
 returns c =
-    subst (λ (defined : Result PageReading PageFault). GivesOnPlan c.args.election.now defined c.read_turned.result)
-    (sym (reading-turned c.args.election.now c.args.page.now c.in_ok-counter.counter c.turn.new.self c.in-Err.fault c.in_ok-counter.ensures c.turn.ensures
-    (Unless-no (is_no_memory c.in-Err.fault) (sym c.if-is_no_memory.ensures) c.in-Err.ensures)))
-    c.read_turned.ensures
+    let Given : Page → Type 0 = λ page. GivesWithPlan c.args.election.now page c.read_counted-read.result in
+    subst Given c.in_ok-counter.ensures c.read_counted-read.ensures
