@@ -65,16 +65,9 @@ fn read_input<I: Inputs, S: Sink>(
     steps_in_order::<Bytes>();
     let last = replace(&mut memory.bytes, Bytes::new(alloc));
     let bytes = take_input(last, inputs, name, word, INPUT_LIMIT)?;
-    let next = read_scan(
-        alloc,
-        &mut memory.counter,
-        election,
-        plans,
-        word,
-        number,
-        bytes.as_slice(),
-        out,
-    );
+    let counter = &mut memory.counter;
+    let scan = bytes.as_slice();
+    let next = read_scan(alloc, counter, election, plans, word, number, scan, out);
     memory.bytes = bytes;
     next
 }

@@ -8,4 +8,4 @@ pub returns-clause-done : goal.returns-clause-done
 returns-clause-done g c files told =
     let Read : List ℕ → Type 0 = λ bytes. ReadsScan c.args.election.now c.args.word c.args.number (images_of bytes) (g.S.Sink.taken c.args.out.now) (g.S.Sink.taken c.read_scan-next.new.out) c.read_scan-next.result in
     scan_taken c.steps_in_order.ensures c.args.election.now files c.args.word c.args.number c.args.name.now (g.S.Sink.taken c.args.out.now) (g.S.Sink.taken c.read_scan-next.new.out) c.in_ok-bytes.bytes
-    (c.in_ok-bytes.ensures.told files told) c.read_scan-next.result (subst Read c.as_slice.ensures c.read_scan-next.ensures.read)
+    (c.in_ok-bytes.ensures.told files told) c.read_scan-next.result (subst Read c.as_slice-scan.ensures c.read_scan-next.ensures.read)
