@@ -25,8 +25,8 @@ pub read_turned-requires-clause-allowed : goal.read_turned-requires-clause-allow
 read_turned-requires-clause-allowed c =
     allowed-turned c.args.election.now.paper c.args.counter.now c.args.counter.now c.turn.new.self refl c.turn.ensures c.requires.allowed
 
-pub returns : goal.returns
-returns c =
+pub returns-else-is_no_memory : goal.returns-else-is_no_memory
+returns-else-is_no_memory c =
     subst (λ (defined : Result PageReading PageFault). GivesOnPlan c.args.election.now defined c.read_turned.result)
     (sym (reading-turned c.args.election.now c.args.counter.now c.args.counter.now c.turn.new.self c.in-Err.fault refl c.turn.ensures
     (Unless-no (is_no_memory c.in-Err.fault) (sym c.if-is_no_memory.ensures) c.in-Err.ensures)))

@@ -39,8 +39,8 @@ returns-in-Ok c =
       margin = reads-what_fits c.fitting_scans_are_read.ensures.read c.args.election.now c.args.page.now (Ok c.in-Ok.reading) c.requires.election c.width-width.ensures.whole c.in-Ok.ensures.0;
     }
 
-pub returns-in-Err : goal.returns-in-Err
-returns-in-Err c =
+pub returns : goal.returns
+returns c =
     let allowed = sym c.if-not-is_allowed.ensures in
     record {
       exact = c.in-Err.ensures;
