@@ -1,7 +1,8 @@
 -- The bubbles of a planned page stand on the grid, and what the plans of all cards say of a code.
-use Rattle.std.proofs.Common.{◌≡◌, ℕ, ◌≤◌, ◌<◌, ◌+◌, ◌-◌, ◌==◌, List, length, get_or, Bool, true, false, cond, refl, sym, ap, ◌∙◌, subst, arith}
+use Rattle.std.proofs.Common.{◌≡◌, ℕ, ◌≤◌, ◌<◌, ◌+◌, ◌-◌, ◌==◌, List, length, get_or, Bool, true, false, cond, refl, sym, ap, ap₂, ◌∙◌, subst, arith}
 use Rattle.std.specs.Prelude.{All, slice_get, nat_lt, Option, None, Some, Result, Ok, Err}
 use Rattle.std.proofs.lemmas.Bool.Decides.{nat_tests}
+use Rattle.vx_base.proofs.Numbers.{equal-no, equal-from_yes}
 use Rattle.std.proofs.lemmas.List.Elements.{All-get_or}
 use Rattle.std.proofs.lemmas.Option.{slice_get_within, slice_get_read, slice_get_past, get_or_from_slice_get}
 use Rattle.vx_grid.specs.declared.paper.Paper.{Paper}
@@ -11,7 +12,7 @@ use Rattle.vx_grid.specs.Grid.{first_code_row, first_contest_row, contest_rows}
 use Rattle.vx_election_model.specs.declared.election.Election.{Election}
 use Rattle.vx_election_model.specs.Valid.{IsValid}
 use Rattle.vx_code.specs.declared.code.PageCode.{PageCode}
-use Rattle.vx_code.specs.Code.{tag_of}
+use Rattle.vx_code.specs.Code.{tag_of, version_of}
 use Rattle.vx_styles.specs.Cards.{cards_of}
 use Rattle.vx_layout.specs.declared.pages.PagePlan.{PagePlan}
 use Rattle.vx_layout.specs.declared.plan.CardPlan.{CardPlan}
@@ -20,9 +21,10 @@ use Rattle.vx_layout.specs.declared.fault.LayoutFault.TheVariants.{NoCard as NoS
 use Rattle.vx_layout.specs.Pages.{IsOnGrid, PlansStandOnGrid, PlansHavePaper}
 use Rattle.vx_layout.specs.Plan.{plan_of_card, plan_of}
 use Rattle.vx_layout.specs.Plans.{ArePlansOf}
+use Rattle.vx_layout.specs.Printed.{PrintedPage, IsPlanned, code_of}
 use Rattle.vx_scan_model.specs.declared.fault.PageFault.{PageFault}
 use Rattle.vx_scan_model.specs.declared.fault.PageFault.TheVariants.{OtherElection, NoCard}
-use Rattle.vx_scan_model.specs.Named.{page_numbered, plan_unless, plan_on_card, named_plan}
+use Rattle.vx_scan_model.specs.Named.{page_numbered, plan_unless, plan_on_card, named_plan, IsPrintedCode}
 
 -- all bubbles of a page stand on the grid
 abbrev AreOnGrid : PagePlan → Type 0
@@ -136,3 +138,53 @@ numbered-past card number h past = numbered-other card number h ∙ slice_get_pa
 pub numbered-there : (card : CardPlan) (number : ℕ) (plan : PagePlan) → (number ≡ 0 → ⊥) → number - 1 < length card.pages → plan ≡ get_or card.pages (number - 1) plan → page_numbered card number ≡ Some plan
 numbered-there card number plan h there is =
     numbered-other card number h ∙ slice_get_read card.pages (length card.pages) (number - 1) plan refl there is
+
+-- the page that a code names, as one that is printed
+abbrev pub printed_by : PageCode → PrintedPage
+printed_by code = record { card = code.card; page = code.page; kind = code.kind; test = code.test }
+
+-- a number that counts pages, and the page
+numbered-parts : (test : Bool) (found : Option PagePlan) (plan : PagePlan) → cond test None found ≡ Some plan → (test ≡ false) × (found ≡ Some plan)
+numbered-parts true found plan h = absurd (cc)
+numbered-parts false found plan h = (refl, h)
+
+some-number : (n : ℕ) → (n == 0) ≡ false → 1 ≤ n
+some-number n h = grind (arith, nat_tests)
+
+tag-is : (b : Bool) (named : Result PagePlan PageFault) (fault : PageFault) (plan : PagePlan) → cond b named (Err fault) ≡ Ok plan → b ≡ true
+tag-is true named fault plan h = refl
+tag-is false named fault plan h = absurd (cc)
+
+-- a code that names a page is of this election
+pub named-tag : (election : Election) (code : PageCode) (plan : PagePlan) → named_plan election code ≡ Ok plan → code.tag ≡ tag_of election.digest
+unfolding named_plan
+named-tag election code plan h =
+    let is : (code.tag == tag_of election.digest) ≡ true = tag-is (code.tag == tag_of election.digest) (plan_on_card code (plan_of election code.card)) (OtherElection code.tag) plan h in
+    equal-from_yes code.tag (tag_of election.digest) is
+
+-- and its page is a printed one
+pub named-planned : (election : Election) (code : PageCode) (plan : PagePlan) → named_plan election code ≡ Ok plan → IsPlanned election (printed_by code) plan
+named-planned election code plan h =
+    let is : IsNamed election code plan = parts-of_named election code plan h in
+    let parts = numbered-parts (code.page == 0) (slice_get is.card.pages (code.page - 1)) plan is.page_is in
+    record { card = is.card; card_is = is.card_is; from_one = some-number code.page parts.0; page_is = parts.1 }
+
+-- so with the version of the election's paper it is the code of a printed page
+pub named-printed : (election : Election) (code : PageCode) (plan : PagePlan) → named_plan election code ≡ Ok plan → code.version ≡ version_of election.paper → IsPrintedCode election code plan
+named-printed election code plan h version = record {
+  printed = printed_by code;
+  planned = named-planned election code plan h;
+  code_is =
+      ap₂ (λ v t. let c : PageCode = record { version = v; test = code.test; kind = code.kind; card = code.card; page = code.page; tag = t } in c)
+      version (named-tag election code plan h);
+}
+
+-- the code of a printed page names its plan
+pub planned-named : (election : Election) (printed : PrintedPage) (plan : PagePlan) → IsPlanned election printed plan → named_plan election (code_of election printed) ≡ Ok plan
+planned-named election printed plan planned =
+    let code : PageCode = code_of election printed in
+    let other : (printed.page == 0) ≡ false = equal-no printed.page 0 (λ none. (let one : 1 ≤ printed.page = planned.from_one in absurd (omega (arith, one, none)))) in
+    named-here election code refl
+    ∙ (ap (plan_on_card code) planned.card_is
+    ∙ (ap (λ (t : Bool). plan_unless printed.page (cond t None (slice_get planned.card.pages (printed.page - 1)))) other
+    ∙ ap (plan_unless printed.page) planned.page_is))

@@ -2,10 +2,10 @@ ghost use Rattle.std.specs.Prelude.{◌≡◌, Ok, Err, MatchResult};
 ghost use Rattle.vx_layout.specs.Plans.{ArePlansOf};
 ghost use Rattle.vx_scan_model.specs.Named.{named_plan};
 
+use crate::fault::PageFault;
 use vx_code::{PageCode, tag_of};
 use vx_election_model::Election;
 use vx_layout::{CardPlans, PagePlan};
-use vx_scan_model::PageFault;
 
 /// The plan of the page that a code names, or why it names none: `OtherElection`, `NoCard` or
 /// `NoPage`, in this order. `plans` are those of all cards.

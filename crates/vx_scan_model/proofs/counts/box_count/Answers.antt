@@ -1,5 +1,5 @@
-use Rattle.vx_page.proofs.Plans.{code_row-within}
-use Rattle.vx_page.proofs.code.box_count.Goals as goal
+use Rattle.vx_scan_model.proofs.Plans.{code_row-within}
+use Rattle.vx_scan_model.proofs.counts.box_count.Goals as goal
 
 pub place-requires-clause-row : goal.place-requires-clause-row
 place-requires-clause-row c =

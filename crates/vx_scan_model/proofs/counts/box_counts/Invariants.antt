@@ -1,6 +1,6 @@
 use Rattle.std.proofs.Common.{◌≡◌, ℕ, ◌<◌, length, get_or}
 use Rattle.vx_scan_model.specs.Reading.{box_count_of}
-use Rattle.vx_page.proofs.code.box_counts.Given as goal
+use Rattle.vx_scan_model.proofs.counts.box_counts.Given as goal
 
 -- the boxes so far are counted
 abbrev pub invariant-loop-n : goal.invariant-loop-n

@@ -2,8 +2,8 @@ use Rattle.std.proofs.Common.{◌<◌, ◌≤◌, ◌-◌, List, length, get_or,
 use Rattle.vx_layout.specs.declared.pages.PagePlan.{PagePlan}
 use Rattle.vx_layout.specs.declared.plan.CardPlan.{CardPlan}
 use Rattle.vx_scan_model.specs.Named.{plan_unless}
-use Rattle.vx_page.proofs.Plans.{named-other, named-no_card, named-on_card_plan, numbered-zero, numbered-past, numbered-there}
-use Rattle.vx_page.proofs.named.find_plan.Goals as goal
+use Rattle.vx_scan_model.proofs.Plans.{named-other, named-no_card, named-on_card_plan, numbered-zero, numbered-past, numbered-there}
+use Rattle.vx_scan_model.proofs.named.find_plan.Goals as goal
 
 pub returns-then-code-tag_of : goal.returns-then-code-tag_of
 returns-then-code-tag_of c =
