@@ -24,7 +24,7 @@ pub enum BorderFault {
 }
 
 /// The number of the first mark of the left column.
-fn first_left(paper: Paper) -> u32
+pub fn first_left(paper: Paper) -> u32
     ensures { result ≡ first_left_of (last_row_of paper) }
 {
     34 + last_row(paper)
@@ -69,7 +69,7 @@ fn index_of(paper: Paper, k: u32) -> u32
 }
 
 /// The mark that leads to mark `k`.
-fn leader_of(paper: Paper, k: u32) -> u32
+pub fn leader_of(paper: Paper, k: u32) -> u32
     requires { 0 < k }
     ensures { result ≡ leader_is (last_row_of paper) k }
 {
@@ -77,7 +77,7 @@ fn leader_of(paper: Paper, k: u32) -> u32
 }
 
 /// Where the next mark of a row is expected.
-fn right_of(p: Point) -> Point
+pub fn right_of(p: Point) -> Point
     requires { IsPointWithin 8900 p }
     ensures { result ≡ right_is p }
 {
@@ -88,7 +88,7 @@ fn right_of(p: Point) -> Point
 }
 
 /// Where mark `k` is expected from the mark that leads to it.
-fn expected(paper: Paper, k: u32, leader: Point) -> Point
+pub fn expected(paper: Paper, k: u32, leader: Point) -> Point
     requires { IsPointWithin 8900 leader }
     ensures { result ≡ expected_from (last_row_of paper) k leader }
 {
@@ -113,7 +113,7 @@ fn is_close(expected: i32, found: i32, reach: i32) -> bool
 }
 
 /// Whether a place is near where it is expected: within 10 columns and 6 rows.
-fn is_near(predicted: Point, place: Point) -> bool
+pub fn is_near(predicted: Point, place: Point) -> bool
     requires predicted { IsPointWithin 9000 predicted }
     requires place { IsPointWithin 9000 place }
     ensures { IsTrue result ↔ IsNear predicted place }

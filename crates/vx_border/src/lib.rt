@@ -10,7 +10,7 @@
 mod following;
 mod laws;
 
-pub use following::{BorderFault, trace};
+pub use following::{BorderFault, expected, first_left, is_near, leader_of, right_of, trace};
 pub use laws::{a_list_is_followed, borders_are_one};
 
 #[cfg(test)]

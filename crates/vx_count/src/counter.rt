@@ -2,7 +2,7 @@ ghost use Rattle.std.specs.Prelude.{◌≡◌, ◌+◌, ◌<◌, ◌≤◌, IfOk
 ghost use Rattle.vx_plane.specs.Plane.{page_of, dark_at};
 ghost use Rattle.vx_plane.specs.Count.{count_in};
 ghost use Rattle.vx_grid.specs.Places.{IsWithin};
-ghost use Rattle.vx_count.specs.Turned.{turned_page};
+ghost use Rattle.vx_count.specs.Turned.{turned_page, IsWhole};
 
 use crate::cut::cut_at_frame;
 use crate::row_sums::{CounterMemory, RowSums};
@@ -74,6 +74,14 @@ impl Counter {
         ensures bound { result ≤ 4096 }
     {
         self.sums.height()
+    }
+
+    /// A law of the page, without work: it is made of its dark places.
+    pub fn is_a_whole_page(&self)
+        ensures { IsWhole self.now }
+    {
+        // For the proof alone: what the counter keeps.
+        let _turned = self.turned;
     }
 
     /// Turns the page by 180 degrees; takes no memory.

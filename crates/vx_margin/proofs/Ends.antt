@@ -38,7 +38,7 @@ no-side last c r many one two (inr (inr (inl e))) = omega (arith, one, e)
 no-side last c r many one two (inr (inr (inr e))) = omega (arith, one, e)
 
 -- nor has one right of it
-not-side : (last c r : ℕ) → 40 ≤ last → 1 ≤ c → c ≤ 2 → 1 ≤ r → r ≤ 1 → (r ≡ 0) ⊎ (r ≡ last) ⊎ (c ≡ 0) ⊎ (c ≡ 33) → ⊥
+pub not-side : (last c r : ℕ) → 40 ≤ last → 1 ≤ c → c ≤ 2 → 1 ≤ r → r ≤ 1 → (r ≡ 0) ⊎ (r ≡ last) ⊎ (c ≡ 0) ⊎ (c ≡ 33) → ⊥
 not-side last c r many some few one two (inl e) = omega (arith, one, e)
 not-side last c r many some few one two (inr (inl e)) = omega (arith, two, e, many)
 not-side last c r many some few one two (inr (inr (inl e))) = omega (arith, some, e)

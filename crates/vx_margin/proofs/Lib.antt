@@ -14,3 +14,4 @@ pub mod Turned
 pub mod Ends
 pub mod Reserved
 pub mod TurnedFinds
+pub mod Starts

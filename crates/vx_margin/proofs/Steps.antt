@@ -118,7 +118,7 @@ module _ (s : Slant) (scan : Page) (paper : Paper) (marks : Pixels) (shows : Sho
   first-point : IsBorderPoint paper 0 0
   first-point = record { column = omega arith; row = omega arith; side = inl refl }
 
-  corner-apart : (p : Point) → IsInCornerRegion p → LiesNear 86 86 p first
+  pub corner-apart : (p : Point) → IsInCornerRegion p → LiesNear 86 86 p first
   corner-apart p region = record {
     across = record { low = omega (arith, ints, region.left, start.right); high = omega (arith, ints, region.right, start.left) };
     down = record { low = omega (arith, ints, region.top, start.bottom); high = omega (arith, ints, region.bottom, start.top) };
@@ -132,7 +132,7 @@ module _ (s : Slant) (scan : Page) (paper : Paper) (marks : Pixels) (shows : Sho
       let across : IsWithin 111 (paper_column s u v -ℤ paper_column s first.u first.v) = sum-within 2 109 _ _ alike.across a in
       omega (arith, ints, across.high, column)
 
-  corner-zone : (p : Point) → IsInCornerRegion p → IsInZone s paper p
+  pub corner-zone : (p : Point) → IsInCornerRegion p → IsInZone s paper p
   corner-zone p region = record {
     each = λ u v inside.
         let sides = rectangle-sides (p.u -ℤ pos 23) (p.v -ℤ pos 11) 46 22 u v inside in

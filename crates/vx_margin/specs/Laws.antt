@@ -64,6 +64,14 @@ ChainsLieAtMarks =
     → IsChain scan (last_row paper) n places → LiesNear 4 2 (point_at places 0) (mark_image s paper 0)
     → LieAtMarks s paper n places
 
+-- a chain of accepted places that begins where a corner may be begins at the first mark, and so lies at the marks:
+-- from the mark right of it nothing is accepted at step 33, from the mark below it nothing at step 1
+abbrev pub CornerChainsLieAtMarks : Type 0
+CornerChainsLieAtMarks =
+    (s : Slant) (scan : Page) (paper : Paper) (marks : Pixels) (n : ℕ) (places : List Point)
+    → ShowsBorder s scan paper marks → IsInStartRegion (mark_image s paper 0) → 34 ≤ n → n ≤ marks_of paper
+    → IsChain scan (last_row paper) n places → IsInCornerRegion (point_at places 0) → LieAtMarks s paper n places
+
 -- a grid place between places at the marks lies within 6 columns and 4 rows of the image of its grid point
 abbrev pub GridPlacesLieNear : Type 0
 GridPlacesLieNear =

@@ -1,6 +1,6 @@
 //! Laws of what is found. These functions do nothing; their contracts are the laws.
 
-ghost use Rattle.vx_margin.specs.Laws.{TimingMarksAreMarks, AcceptedBelong, BordersAreFound, ChainsLieAtMarks, GridPlacesLieNear, WindowsHold, FollowedAreChains, TurnedChainsLieAtMarks, TurnedWindowsHold};
+ghost use Rattle.vx_margin.specs.Laws.{TimingMarksAreMarks, AcceptedBelong, BordersAreFound, ChainsLieAtMarks, CornerChainsLieAtMarks, GridPlacesLieNear, WindowsHold, FollowedAreChains, TurnedChainsLieAtMarks, TurnedWindowsHold};
 
 /// The timing marks of a page are those at its border points.
 pub fn timing_marks_are_marks()
@@ -20,6 +20,12 @@ pub fn borders_are_found()
 /// A chain of accepted places that begins at the first mark lies at the marks.
 pub fn chains_lie_at_marks()
     ensures { ChainsLieAtMarks }
+{}
+
+/// A chain of accepted places that begins where a corner may be begins at the first mark, and lies at the
+/// marks.
+pub fn corner_chains_lie_at_marks()
+    ensures { CornerChainsLieAtMarks }
 {}
 
 /// A grid place between places at the marks lies near the image of its grid point.

@@ -9,7 +9,7 @@
 mod laws;
 
 pub use laws::{
-    accepted_places_belong, borders_are_found, chains_lie_at_marks, followed_places_are_chains,
-    grid_places_lie_near, timing_marks_are_marks, turned_chains_lie_at_marks, turned_windows_hold,
-    windows_hold,
+    accepted_places_belong, borders_are_found, chains_lie_at_marks, corner_chains_lie_at_marks,
+    followed_places_are_chains, grid_places_lie_near, timing_marks_are_marks,
+    turned_chains_lie_at_marks, turned_windows_hold, windows_hold,
 };

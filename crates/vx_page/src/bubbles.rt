@@ -5,20 +5,10 @@ ghost use Rattle.vx_layout.specs.Pages.{IsOnGrid};
 
 use std::alloc::{AllocError, Global};
 use vx_count::Counter;
-use vx_fit::place;
 use vx_grid::{Border, States, Thresholds};
 use vx_layout::Bubble;
-use vx_scan_model::Scores;
-use vx_score::{score, state};
-
-/// The score of a bubble, at its grid place.
-fn bubble_score(counter: &Counter, border: &Border, bubble: Bubble) -> u32
-    requires border { AreWithin 9000 border.now.places }
-    requires bubble { IsOnGrid border.now.paper bubble }
-    ensures { result ≡ reading.bubble_score counter.now border.now bubble }
-{
-    score(counter, place(border, bubble.col, bubble.row))
-}
+use vx_scan_model::{Scores, bubble_score};
+use vx_score::state;
 
 /// The scores of a page's bubbles, in their order.
 pub(crate) fn scores_of(

@@ -8,8 +8,6 @@
 
 mod bubbles;
 mod code;
-mod named;
 mod page;
 
-pub use named::find_plan;
 pub use page::{read_page, read_planned};

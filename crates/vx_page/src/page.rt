@@ -11,7 +11,6 @@ ghost use Rattle.vx_page.specs.Margin.{ReadsWhatFits};
 
 use crate::bubbles::{scores_of, states_of};
 use crate::code::read_code;
-use crate::named::find_plan;
 use std::alloc::Global;
 use std::mem::replace;
 use vx_bits::BitView;
@@ -19,18 +18,11 @@ use vx_border::trace;
 use vx_count::{Counter, CounterMemory};
 use vx_election_model::Election;
 use vx_grid::{Border, Paper};
-use vx_layout::{CardPlans, PagePlan, plans_have_the_elections_paper, plans_stand_on_the_grid};
-use vx_scan_model::{PageFault, PageReading, a_border_is_the_border, fitting_scans_are_read};
-
-/// The least and the greatest number of rows of a scan of this paper.
-fn allowed_heights(paper: Paper) -> (u32, u32)
-    ensures { result ≡ reading.allowed_heights paper }
-{
-    match paper {
-        Paper::Letter => (2100, 2400),
-        Paper::Legal => (2700, 3000),
-    }
-}
+use vx_layout::{CardPlans, PagePlan};
+use vx_scan_model::{
+    PageFault, PageReading, a_border_is_the_border, allowed_heights, find_plan,
+    fitting_scans_are_read, named_pages_stand_on_the_grid,
+};
 
 /// Whether a scan has a number of columns and of rows that is read on this paper.
 fn is_allowed(paper: Paper, page: &BitView<'_>) -> bool
@@ -63,8 +55,7 @@ fn read_marked<'a>(
     ensures { GivesOnPlan election.now
         (reading_of_code election.now counter.now border (code_read counter.now border)) result }
 {
-    plans_stand_on_the_grid();
-    plans_have_the_elections_paper();
+    named_pages_stand_on_the_grid();
     let code = match read_code(counter, &border) {
         Ok(code) => code,
         Err(fault) => return Err(PageFault::Code(fault)),

@@ -11,3 +11,6 @@ pub mod Read
 pub mod TurnedRead
 pub mod Once
 pub mod Clean
+pub mod Plans
+pub mod Few
+pub mod Certificates

@@ -31,7 +31,9 @@ use Rattle.vx_geom.specs.Slants.{Slant, slant_of}
 use Rattle.vx_margin.specs.Marks.{mark_image}
 use Rattle.vx_margin.specs.Flips.{flips_on, frame_of}
 use Rattle.vx_margin.specs.Shown.{count_round, dark_round}
-use Rattle.vx_margin.specs.Chains.{LieAtMarks}
+use Rattle.vx_grid.specs.Places.{point_at}
+use Rattle.vx_mark_model.specs.Corner.{IsInCornerRegion}
+use Rattle.vx_margin.specs.Chains.{IsChain, LieAtMarks}
 use Rattle.vx_margin.specs.Turned.{IsTurned, slant_turned}
 use Rattle.vx_margin.specs.Laws.{FollowedAreChains, TurnedChainsLieAtMarks, TurnedWindowsHold}
 use Rattle.vx_scan_model.specs.declared.reading.PageReading.{PageReading}
@@ -113,9 +115,9 @@ no-bit : (left right : ℕ) → left ≤ 120 → right ≤ 120 → bit_of left r
 no-bit left right low low_too = grind (arith, nat_tests)
 
 -- an answer is a fault
-record IsFault {A F : Type 0} (answer : Result A F) : Type 0 where
-  fault : F
-  is : answer ≡ Err fault
+pub record IsFault {A F : Type 0} (answer : Result A F) : Type 0 where
+  pub fault : F
+  pub is : answer ≡ Err fault
 
 module _ (laws : AreLaws) (more : AreTurnedLaws) (election : Election) (valid : IsValid election) (scan : Page) (whole : IsWhole scan) (printed : PrintedPage) (plan : PagePlan) (marks : List Bool)
     (fits : FitsUpright election (turned_page scan) printed plan marks) where
@@ -131,13 +133,17 @@ module _ (laws : AreLaws) (more : AreTurnedLaws) (election : Election) (valid : 
   of_paper : plan.paper ≡ election.paper
   of_paper = laws.paper election printed plan valid fits.planned
 
-  -- the places of a border of the scan as it lies are those of the turned page's marks
-  at-marks : (places : List Point) → (let border : MarkPlaces = record { paper = plan.paper; places = places } in IsBorder plan.paper scan border) → LieAtMarks (slant_turned plan.paper scan s) plan.paper (marks_of plan.paper) places
-  at-marks places border =
+  -- places of the scan as it lies that lead from mark to mark are those of the turned page's marks
+  pub chain-at_marks : (places : List Point) → IsChain scan (last_row plan.paper) (marks_of plan.paper) places → IsInCornerRegion (point_at places 0) → LieAtMarks (slant_turned plan.paper scan s) plan.paper (marks_of plan.paper) places
+  chain-at_marks places chain in_region =
       let bounds = allowed-bounds plan.paper other fits.shows.allowed in
       more.at_marks s scan other plan.paper (timing_marks plan.paper) (marks_of plan.paper) places (is-turned scan whole)
-      (shows-border laws election valid other printed plan marks fits) fits.start bounds.0 bounds.1 (omega arith) (omega arith)
-      (more.chains scan (last_row plan.paper) (marks_of plan.paper) places border.followed) border.followed.corner.in_region
+      (shows-border laws election valid other printed plan marks fits) fits.start bounds.0 bounds.1 (omega arith) (omega arith) chain in_region
+
+  -- so are those of a border
+  at-marks : (places : List Point) → (let border : MarkPlaces = record { paper = plan.paper; places = places } in IsBorder plan.paper scan border) → LieAtMarks (slant_turned plan.paper scan s) plan.paper (marks_of plan.paper) places
+  at-marks places border =
+      chain-at_marks places (more.chains scan (last_row plan.paper) (marks_of plan.paper) places border.followed) border.followed.corner.in_region
 
   module _ (places : List Point) (near : LieAtMarks (slant_turned plan.paper scan s) plan.paper (marks_of plan.paper) places) where
     abbrev border : MarkPlaces
@@ -165,7 +171,7 @@ module _ (laws : AreLaws) (more : AreTurnedLaws) (election : Election) (valid : 
         omega (arith, most, blank)
 
     -- so no code is read there
-    no-code : IsFault (code_read scan border)
+    pub no-code : IsFault (code_read scan border)
     unfolding code_read
     no-code =
         let counts : List ℕ = map (box_count_of scan border) (range_with_len 0 84) in

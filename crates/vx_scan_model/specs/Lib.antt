@@ -5,3 +5,4 @@ pub mod Named
 pub mod Faults
 pub mod Ink
 pub mod Fits
+pub mod Certificate

@@ -1,12 +1,16 @@
 -- The page that a code names.
-use Rattle.std.specs.Prelude.{ℕ, ◌-◌, ◌==◌, if◌then◌else◌, slice_get, Option, Some, None, Result, Ok, Err}
+use Rattle.std.specs.Prelude.{◌≡◌, ◌<◌, ℕ, ◌-◌, ◌==◌, if◌then◌else◌, All, length, slice_get, Option, Some, None, Result, Ok, Err}
 use Rattle.vx_election_model.specs.declared.election.Election.{Election}
+use Rattle.vx_election_model.specs.Valid.{IsValid}
+use Rattle.vx_grid.specs.declared.paper.Paper.{Paper}
 use Rattle.vx_code.specs.declared.code.PageCode.{PageCode}
-use Rattle.vx_code.specs.Code.{tag_of}
+use Rattle.vx_code.specs.Code.{tag_of, version_of}
 use Rattle.vx_layout.specs.declared.pages.PagePlan.{PagePlan}
 use Rattle.vx_layout.specs.declared.plan.CardPlan.{CardPlan}
 use Rattle.vx_layout.specs.declared.fault.LayoutFault.{LayoutFault}
+use Rattle.vx_layout.specs.Pages.{IsOnGrid}
 use Rattle.vx_layout.specs.Plan.{plan_of}
+use Rattle.vx_layout.specs.Printed.{PrintedPage, IsPlanned, code_of}
 use Rattle.vx_scan_model.specs.declared.fault.PageFault.{PageFault}
 use Rattle.vx_scan_model.specs.declared.fault.PageFault.TheVariants.{OtherElection, NoCard, NoPage}
 
@@ -30,3 +34,29 @@ unfoldable pub named_plan : Election → PageCode → Result PagePlan PageFault
 named_plan election code =
     if code.tag == tag_of election.digest then plan_on_card code (plan_of election code.card)
     else Err (OtherElection code.tag)
+
+-- the bubbles of a page stand on the grid of a paper, and are fewer than 1,000
+pub record StandsOnPaper (paper : Paper) (plan : PagePlan) : Type 0 where
+  pub on_grid : All (IsOnGrid paper) plan.bubbles
+  pub few : length plan.bubbles < 1000
+
+-- so do those of a page that a code names, on the election's paper
+abbrev pub NamedStandOnGrid : Type 0
+NamedStandOnGrid =
+    (election : Election) (code : PageCode) (plan : PagePlan) → IsValid election → named_plan election code ≡ Ok plan
+    → StandsOnPaper election.paper plan
+
+-- a code is that of a printed page with this plan
+pub record IsPrintedCode (election : Election) (code : PageCode) (plan : PagePlan) : Type 0 where
+  pub printed : PrintedPage
+  pub planned : IsPlanned election printed plan
+  pub code_is : code ≡ code_of election printed
+
+-- so is each code that names a page, with the version of the election's paper; and the code of a printed page names it
+pub record CodesNamePrintedPages : Type 0 where
+  pub printed :
+      (election : Election) (code : PageCode) (plan : PagePlan) → named_plan election code ≡ Ok plan
+      → code.version ≡ version_of election.paper → IsPrintedCode election code plan
+  pub named :
+      (election : Election) (printed : PrintedPage) (plan : PagePlan) → IsPlanned election printed plan
+      → named_plan election (code_of election printed) ≡ Ok plan

@@ -1,14 +1,21 @@
 //! Laws of borders and of scans that fit. These functions do nothing; their contracts are the laws.
 
 ghost use Rattle.vx_scan_model.specs.Border.{BorderIsGiven, EachScanHasItsBorder};
+ghost use Rattle.vx_scan_model.specs.Certificate.{ReadingsAreCertificates, CertificatesSayWhatFits, PlacesAreTested};
+ghost use Rattle.vx_scan_model.specs.Named.{NamedStandOnGrid, CodesNamePrintedPages};
 ghost use Rattle.vx_scan_model.specs.Fits.{FittingScansAreRead, FitsOnePage, ShearedPrintsFit, CleanPrintsFit};
 
 use vx_border::{a_list_is_followed, borders_are_one};
 use vx_code::{codes_are_given_back, no_bit_is_refused};
-use vx_layout::{planned_pages_can_be_printed, printed_pages_keep_clear};
+use vx_count::turned_twice_is_as_before;
+use vx_layout::{
+    planned_pages_can_be_printed, plans_have_the_elections_paper, plans_stand_on_the_grid,
+    printed_pages_keep_clear,
+};
 use vx_margin::{
-    borders_are_found, followed_places_are_chains, grid_places_lie_near, timing_marks_are_marks,
-    turned_chains_lie_at_marks, turned_windows_hold, windows_hold,
+    borders_are_found, corner_chains_lie_at_marks, followed_places_are_chains,
+    grid_places_lie_near, timing_marks_are_marks, turned_chains_lie_at_marks, turned_windows_hold,
+    windows_hold,
 };
 
 /// What is the border of a scan, or its first fault, is what the function of its page gives: so
@@ -46,6 +53,57 @@ pub fn fitting_scans_are_read()
     followed_places_are_chains();
     turned_chains_lie_at_marks();
     turned_windows_hold();
+}
+
+/// The bubbles of a page that a code names stand on the grid of the election's paper, and are fewer than
+/// 1,000.
+pub fn named_pages_stand_on_the_grid()
+    ensures { NamedStandOnGrid }
+{
+    plans_stand_on_the_grid();
+    plans_have_the_elections_paper();
+    printed_pages_keep_clear();
+}
+
+/// A code that names a page, with the version of the election's paper, is that of a printed page, and the
+/// code of a printed page names its plan.
+pub fn codes_name_printed_pages()
+    ensures { CodesNamePrintedPages }
+{}
+
+/// A place passes the test of a region exactly where it lies there, and that of acceptance exactly where it
+/// is accepted.
+pub fn places_are_tested()
+    ensures { PlacesAreTested }
+{}
+
+/// What a scan is read as is a certificate of it.
+pub fn readings_are_certificates()
+    ensures { ReadingsAreCertificates }
+{
+    a_list_is_followed();
+    followed_places_are_chains();
+}
+
+/// Every certificate of a scan, whoever made it, says the printed page that the scan fits, as it lies or
+/// turned, and its marks: its said code is that page's, its marked bubbles are Marked and all others Clear.
+pub fn certificates_say_what_fits()
+    ensures { CertificatesSayWhatFits }
+{
+    a_list_is_followed();
+    codes_are_given_back();
+    no_bit_is_refused();
+    planned_pages_can_be_printed();
+    printed_pages_keep_clear();
+    timing_marks_are_marks();
+    borders_are_found();
+    grid_places_lie_near();
+    windows_hold();
+    corner_chains_lie_at_marks();
+    followed_places_are_chains();
+    turned_chains_lie_at_marks();
+    turned_windows_hold();
+    turned_twice_is_as_before();
 }
 
 /// The clean print of a planned page, sheared so that it stays in the frame, fits that page with no bubble

@@ -6,18 +6,30 @@
 //! `specs/Fit.antt` of `vx_fit`, scores and states in `specs/Score.antt` of `vx_score`, deficits in
 //! `specs/Mark.antt` of `vx_mark`: all of them are counts of fixed rectangles of `vx_plane`.
 //!
+//! `specs/Certificate.antt` says what a certificate of a scan is. What readers and checkers both count stands here
+//! once: the counts of code boxes and the scores of bubbles at the places of a border, and the plan
+//! that a code names.
+//!
 //! The border is a function of the page here and a relation in `vx_border`; that both say the same
 //! are the laws `a_border_is_the_border` and `every_scan_has_its_border`.
 #![tactic(auto)]
 
+mod counts;
 mod fault;
+mod frame;
 mod laws;
+mod named;
 mod reading;
 #[cfg(test)]
 mod tests;
 
+pub use counts::{box_counts, bubble_score};
 pub use fault::PageFault;
+pub use frame::allowed_heights;
 pub use laws::{
-    a_border_is_the_border, clean_prints_fit, every_scan_has_its_border, fitting_scans_are_read,
+    a_border_is_the_border, certificates_say_what_fits, clean_prints_fit, codes_name_printed_pages,
+    every_scan_has_its_border, fitting_scans_are_read, named_pages_stand_on_the_grid,
+    places_are_tested, readings_are_certificates,
 };
+pub use named::find_plan;
 pub use reading::{PageReading, Scores};

@@ -3,7 +3,6 @@ use Rattle.std.specs.Prelude.{All}
 use Rattle.vx_grid.specs.declared.paper.Paper.{Paper}
 use Rattle.vx_layout.specs.Pages.{IsOnGrid}
 use Rattle.vx_scan_model.specs.Reading.{code_read, scores_of, states_of}
-use Rattle.vx_page.proofs.Plans.{named-on_grid}
 use Rattle.vx_page.proofs.Answered.{gives-fault, reading-unnamed, reading-planned, read-on}
 use Rattle.vx_page.proofs.page.read_marked.Goals as goal
 
@@ -21,7 +20,7 @@ scores_of-requires-clause-bubbles c =
     let OnGrid : Paper → Type 0 = λ paper. All (IsOnGrid paper) c.in_ok-plan.plan.now.bubbles in
     subst (All (IsOnGrid c.args.border.paper)) (sym c.as_slice.ensures)
     (subst OnGrid (sym c.requires.paper)
-    (named-on_grid c.plans_stand_on_the_grid.ensures c.plans_have_the_elections_paper.ensures c.args.election.now c.in-Ok.code c.in_ok-plan.plan.now c.requires.election c.in_ok-plan.ensures))
+    (c.named_pages_stand_on_the_grid.ensures c.args.election.now c.in-Ok.code c.in_ok-plan.plan.now c.requires.election c.in_ok-plan.ensures).on_grid)
 
 pub returns : goal.returns
 returns c =

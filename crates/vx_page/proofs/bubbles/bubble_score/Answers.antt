@@ -1,5 +1,0 @@
-use Rattle.vx_page.proofs.Plans.{contest_row-within}
-use Rattle.vx_page.proofs.bubbles.bubble_score.Goals as goal
-
-pub place-requires-clause-row : goal.place-requires-clause-row
-place-requires-clause-row c = contest_row-within c.args.border.now.paper c.args.bubble.row c.requires.bubble.high
