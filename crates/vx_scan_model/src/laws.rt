@@ -1,6 +1,7 @@
 //! Laws of borders and of scans that fit. These functions do nothing; their contracts are the laws.
 
 ghost use Rattle.vx_scan_model.specs.Border.{BorderIsGiven, EachScanHasItsBorder};
+ghost use Rattle.vx_scan_model.specs.Ink.{BubblesAreOutlined};
 ghost use Rattle.vx_scan_model.specs.Fits.{FittingScansAreRead, FitsOnePage, ShearedPrintsFit, CleanPrintsFit};
 
 use vx_border::{a_list_is_followed, borders_are_one};
@@ -53,6 +54,14 @@ pub fn fitting_scans_are_read()
 pub fn clean_prints_fit()
     ensures sheared { ShearedPrintsFit }
     ensures clean { CleanPrintsFit }
+{
+    printed_pages_keep_clear();
+    timing_marks_are_marks();
+}
+
+/// In the zone of a bubble of a planned page nothing is printed but its outline.
+pub fn bubbles_are_outlined()
+    ensures { BubblesAreOutlined }
 {
     printed_pages_keep_clear();
     timing_marks_are_marks();
