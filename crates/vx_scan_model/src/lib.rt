@@ -18,6 +18,7 @@ mod tests;
 
 pub use fault::PageFault;
 pub use laws::{
-    a_border_is_the_border, bubbles_are_outlined, clean_prints_fit, every_scan_has_its_border, fitting_scans_are_read,
+    a_border_is_the_border, bubbles_are_outlined, clean_prints_fit, every_scan_has_its_border,
+    fitting_scans_are_read,
 };
 pub use reading::{PageReading, Scores};

@@ -1,13 +1,12 @@
 -- Counts of places that were drawn, and of the first pixels of a set.
-use Rattle.std.proofs.Common.{◌≡◌, ◌⊎◌, inl, inr, ℕ, zero, suc, ◌+◌, ◌-◌, ◌*◌, ◌≤◌, ◌<◌, Bool, true, false, ◌&&◌, ◌||◌, List, [], ◌∷◌, length, ℤ, pos, ◌+ℤ◌, ◌-ℤ◌, ◌≤ℤ◌, ◌<ℤ◌, refl, ap, sym, ◌∙◌, arith}
+use Rattle.std.proofs.Common.{◌≡◌, ◌⊎◌, inl, inr, ℕ, ◌+◌, ◌*◌, ◌≤◌, Bool, true, false, ◌&&◌, List, [], ◌∷◌, length, ℤ, pos, ◌+ℤ◌, ◌≤ℤ◌, ◌<ℤ◌, refl, ap, sym, ◌∙◌, arith}
 use Rattle.std.specs.Ordering.{int_eq}
-use Rattle.std.proofs.lemmas.Int.{ints}
 use Rattle.vx_plane.specs.Plane.{Pixels, union, rectangle}
 use Rattle.vx_plane.specs.Count.{one_if, sum_from, count_in}
 use Rattle.vx_plane.proofs.Sums.{sum_from-same, sum_from-le, sum_from-same_number}
 use Rattle.vx_plane.proofs.Counts.{count_in-by_rows, count_in-le, count_in-none, count_in-union_le, count_in-le_area}
 use Rattle.vx_plane.proofs.Pages.{rectangle-inside, rectangle-outside, rectangle-one}
-use Rattle.vx_geom.proofs.Runs.{LiesOutside, run_le}
+use Rattle.vx_geom.proofs.Runs.{run_le}
 use Rattle.vx_simulate.specs.Flips.{places_from}
 
 pub is-false : (b : Bool) → (b ≡ true → ⊥) → b ≡ false

@@ -1,5 +1,5 @@
 -- A simulated scan of a printed page fits that page.
-use Rattle.std.proofs.Common.{◌≡◌, ℕ, ◌+◌, ◌-◌, ◌*◌, ◌≤◌, ◌<◌, Bool, true, List, length, ℤ, pos, ◌+ℤ◌, ◌-ℤ◌, ◌≤ℤ◌, ◌<ℤ◌, refl, ap, sym, subst, ◌∙◌, arith}
+use Rattle.std.proofs.Common.{◌≡◌, ℕ, ◌+◌, ◌≤◌, ◌<◌, Bool, true, List, length, ℤ, pos, ◌-ℤ◌, ◌≤ℤ◌, refl, arith}
 use Rattle.std.proofs.lemmas.Int.{ints}
 use Rattle.std.proofs.lemmas.List.{length-map}
 use Rattle.std.proofs.lemmas.Bool.Decides.{nat_tests}
@@ -8,34 +8,28 @@ use Rattle.vx_plane.specs.Plane.{Pixels, Page, page_of, rectangle}
 use Rattle.vx_plane.proofs.Pages.{rectangle-inside, rectangle-sides}
 use Rattle.vx_grid.specs.declared.paper.Paper.{Paper}
 use Rattle.vx_grid.specs.declared.paper.Paper.TheVariants.{Letter, Legal}
-use Rattle.vx_grid.specs.declared.places.Point.{Point}
 use Rattle.vx_grid.specs.Paper.{last_row, first_y}
 use Rattle.vx_grid.specs.Places.{IsWithin}
-use Rattle.vx_grid.specs.Marks.{marks as marks_count, marks_to, mark_of}
+use Rattle.vx_grid.specs.Marks.{marks_to, mark_of}
 use Rattle.vx_grid.specs.Grid.{x_of, y_of, first_code_row, first_reserved_row}
-use Rattle.vx_grid.specs.Sizes as sizes
-use Rattle.vx_grid.specs.Sizes.{zone_of}
-use Rattle.vx_code.specs.Code.{place_from, place_of_box, reserved_place}
-use Rattle.vx_election_model.specs.declared.election.Election.{Election}
-use Rattle.vx_election_model.specs.Valid.{IsValid}
-use Rattle.vx_layout.specs.declared.bubbles.Bubble.{Bubble}
+use Rattle.vx_code.specs.Code.{place_from, reserved_place}
 use Rattle.vx_layout.specs.declared.pages.PagePlan.{PagePlan}
 use Rattle.vx_layout.specs.Pages.{IsOnGrid}
-use Rattle.vx_layout.specs.Printed.{PrintedPage, IsPlanned, print_of_page, KeepsClear, PrintedKeepClear}
-use Rattle.vx_mark_model.specs.Mark.{IsInFrame}
-use Rattle.vx_geom.specs.declared.shear.Shear.{Shear}
+use Rattle.vx_layout.specs.Printed.{print_of_page, KeepsClear, PrintedKeepClear}
 use Rattle.vx_geom.specs.Slants.{Slant, slant_of, scan_column, scan_row}
-use Rattle.vx_margin.specs.Shown.{IsInStartRegion, ShowsZone}
+use Rattle.vx_margin.specs.Shown.{IsInStartRegion}
 use Rattle.vx_margin.specs.Marks.{mark_image}
 use Rattle.vx_margin.specs.Flips.{differ}
 use Rattle.vx_scan_model.specs.Reading.{is_allowed}
 use Rattle.vx_scan_model.specs.Ink.{bubble_at, BubblesAreOutlined}
-use Rattle.vx_scan_model.specs.Fits.{FitsUpright, ShowsPaper}
+use Rattle.vx_scan_model.specs.Fits.{ShowsPaper}
 use Rattle.vx_simulate.specs.Draws.{draw}
 use Rattle.vx_simulate.specs.Marks.{draw_marks, marks_of, is_marked}
-use Rattle.vx_simulate.specs.Lie.{frame_width, frame_height, shear_to, start_column, start_columns, draw_shear}
+use Rattle.vx_simulate.specs.Lie.{frame_width, frame_height, shear_to, start_column, start_columns}
+use Rattle.vx_simulate.specs.Flips.{draw_flips, drawn_flips}
+use Rattle.vx_geom.specs.Seen.{seen}
 use Rattle.vx_simulate.specs.Ink.{draw_inks, inked}
-use Rattle.vx_simulate.specs.Simulated.{draw_page, scan_of, SimulatedScansFit}
+use Rattle.vx_simulate.specs.Simulated.{SimulatedScansFit}
 use Rattle.vx_simulate.proofs.Drawn.{draw-below}
 use Rattle.vx_simulate.proofs.Lying.{IsFramed, IsWellInside, slant-is, first-row, first-column, well-inside}
 use Rattle.vx_simulate.proofs.Inking.{no_bubble, is-inked}
@@ -131,9 +125,6 @@ module _ (plan : PagePlan) (keeps : KeepsClear plan) (a b u v : ℤ) (rows : IsW
       (omega (arith, ints)) (omega (arith, ints)) (omega (arith, ints)) (omega (arith, ints)))
 
   module _ (paper : Pixels) (g : Lcg) where
-    use Rattle.vx_simulate.specs.Flips.{Flips, draw_flips, drawn_flips}
-    use Rattle.vx_geom.specs.Seen.{seen}
-
     abbrev scan : Page
     scan = page_of frame_width (frame_height plan.paper) (λ p q. differ (drawn_flips s plan (draw_flips plan g).0 p q) (seen s paper p q))
 
@@ -142,7 +133,7 @@ module _ (plan : PagePlan) (keeps : KeepsClear plan) (a b u v : ℤ) (rows : IsW
         let slant = slant-is plan.paper a b u v rows columns in
         let many = rows-between plan.paper in
         record {
-          allowed = frame-allowed plan.paper _;
+          allowed = frame-allowed plan.paper (λ p q. differ (drawn_flips s plan (draw_flips plan g).0 p q) (seen s paper p q));
           slant_is = slant;
           marks = λ k few.
               let c : ℕ = (mark_of (last_row plan.paper) k).0 in

@@ -1,33 +1,32 @@
 -- The flips of a simulated scan are few, wherever there may be only few.
-use Rattle.std.proofs.Common.{◌≡◌, ◌≢◌, ◌⊎◌, inl, inr, ℕ, ◌+◌, ◌-◌, ◌*◌, ◌/◌, ◌%◌, ◌≤◌, ◌<◌, Bool, true, false, not, ◌&&◌, ◌||◌, List, [], length, ℤ, pos, negsuc, ◌+ℤ◌, ◌-ℤ◌, ◌≤ℤ◌, ◌<ℤ◌, refl, ap, sym, subst, ◌∙◌, arith}
+use Rattle.std.proofs.Common.{◌≡◌, ◌≢◌, ◌⊎◌, inl, inr, ℕ, ◌+◌, ◌-◌, ◌≤◌, ◌<◌, Bool, true, false, not, ◌||◌, [], length, ℤ, pos, negsuc, ◌+ℤ◌, ◌-ℤ◌, ◌≤ℤ◌, ◌<ℤ◌, refl, ap, sym, subst, ◌∙◌, arith}
 use Rattle.std.specs.Prelude.{slice_index_or}
 use Rattle.std.specs.List.{range_with_len}
 use Rattle.std.proofs.lemmas.Int.{ints}
 use Rattle.std.proofs.lemmas.Bool.{cases_lt}
 use Rattle.rand_pcg.specs.Lcg.{Lcg}
 use Rattle.vx_base.proofs.Booleans.{and-left, and-right, or-left, or-right, or-cases}
-use Rattle.vx_plane.specs.Plane.{Pixels, Page, page_of, union, in_any, rectangle, dark_at}
+use Rattle.vx_plane.specs.Plane.{Pixels, Page, page_of, union, rectangle, dark_at}
 use Rattle.vx_plane.specs.Count.{count_in}
 use Rattle.vx_plane.proofs.Counts.{count_in-le, count_in-union_le, count_in-same}
 use Rattle.vx_plane.proofs.Pages.{in_any-some, in_any-one, rectangle-inside, rectangle-sides, dark_at-in_frame}
 use Rattle.vx_grid.specs.declared.paper.Paper.{Paper}
 use Rattle.vx_grid.specs.declared.paper.Paper.TheVariants.{Letter, Legal}
 use Rattle.vx_grid.specs.declared.places.Point.{Point}
-use Rattle.vx_grid.specs.Paper.{last_row, first_y}
-use Rattle.vx_grid.specs.Grid.{x_of, y_of, first_code_row, first_reserved_row}
+use Rattle.vx_grid.specs.Paper.{last_row}
+use Rattle.vx_grid.specs.Grid.{x_of, y_of}
 use Rattle.vx_grid.specs.Regions.{frame_zone}
 use Rattle.vx_grid.specs.Sizes as sizes
 use Rattle.vx_grid.specs.Sizes.{zone_of}
-use Rattle.vx_code.specs.Code.{place_from, place_of_box, reserved_place}
+use Rattle.vx_code.specs.Code.{place_of_box, reserved_place}
 use Rattle.vx_mark_model.specs.Mark.{IsInFrame}
-use Rattle.vx_layout.specs.declared.bubbles.Bubble.{Bubble}
 use Rattle.vx_layout.specs.declared.pages.PagePlan.{PagePlan}
 use Rattle.vx_layout.specs.Pages.{IsOnGrid}
-use Rattle.vx_layout.specs.Zones.{bubble_zone_of, bubble_box_of, box_zone_at, code_zones, reserved_zones, Apart}
+use Rattle.vx_layout.specs.Zones.{bubble_zone_of, box_zone_at, code_zones, reserved_zones}
 use Rattle.vx_layout.specs.Printed.{KeepsClear}
 use Rattle.vx_geom.specs.Slants.{Slant, IsSlant, paper_column, paper_row, scan_column, scan_row}
 use Rattle.vx_geom.specs.Seen.{seen, laid_back}
-use Rattle.vx_geom.specs.Laws.{IsNearlyMoved, ConservesCounts}
+use Rattle.vx_geom.specs.Laws.{IsNearlyMoved}
 use Rattle.vx_geom.proofs.Ways.{paper_column-scan, paper_row-scan, scan_column-paper, scan_row-paper}
 use Rattle.vx_geom.proofs.Pieces.{nearly-moved}
 use Rattle.vx_geom.proofs.Shown.{conserves-counts}
@@ -35,8 +34,8 @@ use Rattle.vx_margin.specs.Flips.{differ, flips, flips_in, flips_on}
 use Rattle.vx_margin.specs.Shown.{count_at, count_round}
 use Rattle.vx_scan_model.specs.Ink.{bubble_at}
 use Rattle.vx_simulate.specs.Lie.{frame_width, frame_height}
-use Rattle.vx_simulate.specs.Flips.{Flips, draw_flips, bubble_places, box_places, tile_places, paper_flips, scan_flips, drawn_flips, draw_at_bubbles, draw_at_boxes}
-use Rattle.vx_simulate.proofs.Counting.{is-false, false-true, count-places, count-among}
+use Rattle.vx_simulate.specs.Flips.{Flips, draw_flips, bubble_places, box_places, paper_flips, scan_flips, drawn_flips, draw_at_bubbles, draw_at_boxes}
+use Rattle.vx_simulate.proofs.Counting.{false-true, count-places, count-among}
 use Rattle.vx_simulate.proofs.Drawn.{lists-few, lists-inside}
 use Rattle.vx_simulate.proofs.Inking.{no_bubble, decide}
 use Rattle.vx_simulate.proofs.Tiles.{tiles, window-few, windows-few}
@@ -271,6 +270,13 @@ module _ (plan : PagePlan) (keeps : KeepsClear plan) (s : Slant) (slant : IsSlan
       let tile_few = windows-few plan.paper (draw_at_boxes (draw_at_bubbles plan g).1).1 l.0 t.0 in
       omega (arith, most, goes, same, tile_few)
     where
+      far : (k : ℕ) (x y : ℤ) → k < 84 → box_zone_at plan.paper (reserved_place n) x y ≡ true → box_places plan.paper drawn.at_boxes k x y ≡ true → ⊥
+      far k x y within zone at =
+          let a = rectangle-sides (pos (x_of (reserved_place n).0) -ℤ pos 30) (pos (y_of plan.paper (reserved_place n).1) -ℤ pos 22) 60 44 x y zone in
+          let b = rectangle-sides (pos (x_of (place_of_box plan.paper k).0) -ℤ pos 30) (pos (y_of plan.paper (place_of_box plan.paper k).1) -ℤ pos 22) 60 44 x y (box-zoned k x y at) in
+          let rows = many-rows plan.paper in
+          omega (arith, ints, a.2, a.3, b.2, b.3, rows, few, within)
+
       tiled : (x y : ℤ) → box_zone_at plan.paper (reserved_place n) x y ≡ true → flips_on s scan paper x y ≡ true → in_tiles (scan_column s x y) (scan_row s x y) ≡ true
       tiled x y zone h =
           laid-cases x y h
@@ -278,10 +284,3 @@ module _ (plan : PagePlan) (keeps : KeepsClear plan) (s : Slant) (slant : IsSlan
           (λ k within at. absurd ((keeps.clear.zones_from_reserved k no_bubble within).apart x y (bubble-zoned k x y at) (in-reserved n x y few zone)))
           (λ k within at. absurd (far k x y within zone at)))
           (λ tile frame no_code. tile)
-
-      far : (k : ℕ) (x y : ℤ) → k < 84 → box_zone_at plan.paper (reserved_place n) x y ≡ true → box_places plan.paper drawn.at_boxes k x y ≡ true → ⊥
-      far k x y within zone at =
-          let a = rectangle-sides (pos (x_of (reserved_place n).0) -ℤ pos 30) (pos (y_of plan.paper (reserved_place n).1) -ℤ pos 22) 60 44 x y zone in
-          let b = rectangle-sides (pos (x_of (place_of_box plan.paper k).0) -ℤ pos 30) (pos (y_of plan.paper (place_of_box plan.paper k).1) -ℤ pos 22) 60 44 x y (box-zoned k x y at) in
-          let rows = many-rows plan.paper in
-          omega (arith, ints, a.2, a.3, b.2, b.3, rows, few, within)

@@ -1,10 +1,10 @@
 -- The first places of a set are as many as there are to be.
-use Rattle.std.proofs.Common.{◌≡◌, ℕ, zero, suc, ◌+◌, ◌≤◌, ◌<◌, min, Bool, true, false, ◌&&◌, ℤ, pos, ◌+ℤ◌, ◌-ℤ◌, ◌≤ℤ◌, ◌<ℤ◌, nat_abs, refl, ap, sym, ◌∙◌, arith}
+use Rattle.std.proofs.Common.{◌≡◌, inl, inr, ℕ, zero, suc, ◌+◌, min, Bool, true, false, ◌&&◌, ℤ, pos, ◌+ℤ◌, ◌-ℤ◌, nat_abs, ap, sym, ◌∙◌, arith}
 use Rattle.std.specs.Prelude.{nat_lt}
 use Rattle.std.proofs.lemmas.Int.{ints}
 use Rattle.vx_base.proofs.Numbers.{below-yes, below-no}
 use Rattle.std.proofs.lemmas.Bool.{cases_lt}
-use Rattle.vx_plane.specs.Plane.{Pixels, rectangle}
+use Rattle.vx_plane.specs.Plane.{Pixels}
 use Rattle.vx_plane.specs.Count.{one_if, sum_from, count_in}
 use Rattle.vx_plane.proofs.Sums.{sum_from-same, sum_from-more}
 use Rattle.vx_plane.proofs.Counts.{count_in-by_rows, count_in-rows, count_in-columns, count_in-one, count_in-no_rows, count_in-no_columns}

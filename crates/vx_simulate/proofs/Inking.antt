@@ -1,12 +1,11 @@
 -- The ink of a simulated voter is that of the marks.
-use Rattle.std.proofs.Common.{◌≡◌, ◌≢◌, ◌⊎◌, inl, inr, ℕ, ◌+◌, ◌-◌, ◌≤◌, ◌<◌, min, Bool, true, false, not, ◌&&◌, ◌||◌, if◌then◌else◌, List, map, length, ℤ, pos, negsuc, ◌+ℤ◌, ◌-ℤ◌, ◌≤ℤ◌, ◌<ℤ◌, refl, ap, sym, subst, ◌∙◌, arith}
+use Rattle.std.proofs.Common.{◌≡◌, ◌≢◌, ◌⊎◌, inl, inr, ℕ, ◌+◌, ◌-◌, ◌≤◌, ◌<◌, min, Bool, true, false, not, ◌&&◌, ◌||◌, List, length, ℤ, pos, negsuc, ◌+ℤ◌, ◌-ℤ◌, refl, ap, sym, subst, ◌∙◌, arith}
 use Rattle.std.specs.Prelude.{slice_index_or, nat_lt, ◌==◌}
 use Rattle.std.proofs.lemmas.Int.{ints}
-use Rattle.std.proofs.lemmas.List.{length-map}
 use Rattle.rand_pcg.specs.Lcg.{Lcg}
-use Rattle.vx_base.proofs.Booleans.{and-left, and-right, or-right, or-cases}
+use Rattle.vx_base.proofs.Booleans.{and-left, and-right}
 use Rattle.vx_base.proofs.Numbers.{equal-yes, equal-from_yes, below-from_no}
-use Rattle.vx_plane.specs.Plane.{Pixels, union, placed, in_any, rectangle}
+use Rattle.vx_plane.specs.Plane.{Pixels, placed}
 use Rattle.vx_plane.specs.Count.{count_in}
 use Rattle.vx_plane.proofs.Counts.{count_in-le, count_in-same, count_in-moved}
 use Rattle.vx_plane.proofs.Pages.{in_any-some, in_any-one, rectangle-inside, rectangle-sides}
@@ -15,19 +14,18 @@ use Rattle.vx_grid.specs.declared.state.Thresholds.{Thresholds}
 use Rattle.vx_grid.specs.Grid.{x_of, y_of}
 use Rattle.vx_grid.specs.Sizes as sizes
 use Rattle.vx_grid.specs.Sizes.{zone_of}
-use Rattle.vx_grid.specs.Regions.{frame_zone}
 use Rattle.vx_election_model.specs.Valid.{AreThresholds}
 use Rattle.vx_layout.specs.declared.bubbles.Bubble.{Bubble}
 use Rattle.vx_layout.specs.declared.pages.PagePlan.{PagePlan}
 use Rattle.vx_layout.specs.Print.{inner_ellipse, bubble_box, outline, bubble_pixels}
-use Rattle.vx_layout.specs.Zones.{bubble_zone_of, bubble_box_of, code_zones, reserved_zones, Apart}
+use Rattle.vx_layout.specs.Zones.{bubble_zone_of, bubble_box_of}
 use Rattle.vx_layout.specs.Printed.{KeepsClear}
 use Rattle.vx_margin.specs.Shown.{count_round}
 use Rattle.vx_scan_model.specs.Ink.{added_to, bubble_at, HasInk, IsInked}
-use Rattle.vx_simulate.specs.Draws.{draw, draw_all}
-use Rattle.vx_simulate.specs.Ink.{Ink, first_pixels, whole_box, ink_pixels, draw_ink, draw_inks, inked_bubble, inked}
-use Rattle.vx_simulate.proofs.Counting.{is-false, false-true, count-inside}
-use Rattle.vx_simulate.proofs.Drawn.{draw-below, all-many, all-at}
+use Rattle.vx_simulate.specs.Draws.{draw}
+use Rattle.vx_simulate.specs.Ink.{Ink, first_pixels, whole_box, ink_pixels, draw_mark, draw_ink, draw_inks, inked_bubble, inked}
+use Rattle.vx_simulate.proofs.Counting.{false-true, count-inside}
+use Rattle.vx_simulate.proofs.Drawn.{draw-below, all-at}
 use Rattle.vx_simulate.proofs.Fronts.{count-first}
 
 inner-in_box : count_in (negsuc 19) (negsuc 12) 40 26 inner_ellipse ≡ 624
@@ -86,8 +84,7 @@ whole-added = box-unprinted
 mark-added : (thresholds : Thresholds) (g : Lcg) → AreThresholds thresholds → thresholds.def + 12 ≤ count_in (negsuc 19) (negsuc 12) 40 26 (unprinted (ink_pixels (draw_ink thresholds true g).0))
 mark-added thresholds g are = by_test (nat_lt 612 thresholds.def) refl
   where
-    by_test : (test : Bool) → nat_lt 612 thresholds.def ≡ test
-        → thresholds.def + 12 ≤ count_in (negsuc 19) (negsuc 12) 40 26 (unprinted (ink_pixels (if test then (whole_box, g) else (let more = draw (624 - thresholds.def - 11) g in (first_pixels (thresholds.def + 12 + more.0), more.1))).0))
+    by_test : (test : Bool) → nat_lt 612 thresholds.def ≡ test → thresholds.def + 12 ≤ count_in (negsuc 19) (negsuc 12) 40 26 (unprinted (ink_pixels (draw_mark test thresholds g).0))
     by_test true e = (let whole = whole-added in omega (arith, whole, are.high))
     by_test false e =
         let most : thresholds.def ≤ 612 = below-from_no 612 thresholds.def e in

@@ -1,17 +1,14 @@
 -- A simulated page lies in its frame.
-use Rattle.std.proofs.Common.{◌≡◌, ℕ, ◌+◌, ◌*◌, ◌≤◌, ◌<◌, true, ℤ, pos, ◌+ℤ◌, ◌-ℤ◌, ◌*ℤ◌, ◌≤ℤ◌, ◌<ℤ◌, refl, ap, sym, ◌∙◌, arith}
+use Rattle.std.proofs.Common.{◌≡◌, ℕ, ◌+◌, ◌*◌, ◌≤◌, ℤ, pos, ◌+ℤ◌, ◌-ℤ◌, ◌*ℤ◌, ◌≤ℤ◌, refl, ap, arith}
 use Rattle.std.proofs.lemmas.Int.{ints}
-use Rattle.vx_plane.specs.Plane.{rectangle, page_of, nowhere}
-use Rattle.vx_plane.proofs.Pages.{rectangle-inside}
 use Rattle.vx_grid.specs.declared.paper.Paper.{Paper}
 use Rattle.vx_grid.specs.declared.paper.Paper.TheVariants.{Letter, Legal}
 use Rattle.vx_grid.specs.Paper.{last_row, first_y}
 use Rattle.vx_grid.specs.Places.{IsWithin}
-use Rattle.vx_geom.specs.declared.shear.Shear.{Shear}
 use Rattle.vx_geom.specs.Slants.{Slant, IsSlant, slant_of, whole_of, down_by, right_by, scan_row, scan_column}
 use Rattle.vx_geom.proofs.Shears.{down_by-shear, right_by-shear}
 use Rattle.vx_geom.proofs.Floors.{down-near, right-near}
-use Rattle.vx_simulate.specs.Lie.{frame_width, frame_height, shear_to, start_column}
+use Rattle.vx_simulate.specs.Lie.{frame_height, shear_to, start_column}
 
 -- a place of the frame of timing marks
 pub record IsFramed (paper : Paper) (x y : ℤ) : Type 0 where

@@ -1,5 +1,5 @@
 -- How many of the flips that are drawn in tiles lie in a window.
-use Rattle.std.proofs.Common.{◌≡◌, inl, inr, ℕ, ◌+◌, ◌*◌, ◌/◌, ◌%◌, ◌≤◌, ◌<◌, Bool, true, false, ◌||◌, List, [], length, ℤ, pos, ◌+ℤ◌, ◌-ℤ◌, ◌≤ℤ◌, ◌<ℤ◌, refl, ap, sym, subst, ◌∙◌, arith}
+use Rattle.std.proofs.Common.{◌≡◌, inl, inr, ℕ, ◌+◌, ◌*◌, ◌/◌, ◌%◌, ◌≤◌, Bool, true, false, ◌||◌, List, [], length, ℤ, pos, ◌+ℤ◌, refl, subst, arith}
 use Rattle.std.specs.Prelude.{slice_index_or}
 use Rattle.std.specs.List.{range_with_len}
 use Rattle.std.proofs.lemmas.Int.{ints}
@@ -60,18 +60,22 @@ module _ (paper : Paper) (g : Lcg) where
       let at = rectangle-sides (pos (46 * (k % 40))) (pos (22 * (k / 40))) 46 22 u v (tile-inside k u v some.2) in
       let k0 : ℕ = 40 * (t / 22) + l / 46 in
       let Here : ℕ → Type 0 = λ m. tile_places drawn m u v ≡ true in
+      let a : Bool = tile_places drawn k0 u v in
+      let b : Bool = tile_places drawn (k0 + 1) u v in
+      let c : Bool = tile_places drawn (k0 + 40) u v in
+      let d : Bool = tile_places drawn (k0 + 41) u v in
       let column_low : l / 46 ≤ k % 40 = omega (arith, ints, window.0, at.1) in
       let column_high : k % 40 ≤ l / 46 + 1 = omega (arith, ints, window.1, at.0) in
       let row_low : t / 22 ≤ k / 40 = omega (arith, ints, window.2, at.3) in
       let row_high : k / 40 ≤ t / 22 + 1 = omega (arith, ints, window.3, at.2) in
       elim (cases_lt (k / 40) (t / 22 + 1)) [
         | inl upper ↦ elim (cases_lt (k % 40) (l / 46 + 1)) [
-          | inl nearer ↦ (let is : k ≡ k0 = omega (arith, upper, nearer, column_low, row_low) in first-of _ _ _ _ (subst Here is some.2))
-          | inr farther ↦ (let is : k ≡ k0 + 1 = omega (arith, upper, farther, column_high, row_low) in second-of _ _ _ _ (subst Here is some.2))
+          | inl nearer ↦ (let is : k ≡ k0 = omega (arith, upper, nearer, column_low, row_low) in first-of a b c d (subst Here is some.2))
+          | inr farther ↦ (let is : k ≡ k0 + 1 = omega (arith, upper, farther, column_high, row_low) in second-of a b c d (subst Here is some.2))
         ]
         | inr lower ↦ elim (cases_lt (k % 40) (l / 46 + 1)) [
-          | inl nearer ↦ (let is : k ≡ k0 + 40 = omega (arith, lower, nearer, column_low, row_high) in third-of _ _ _ _ (subst Here is some.2))
-          | inr farther ↦ (let is : k ≡ k0 + 41 = omega (arith, lower, farther, column_high, row_high) in fourth-of _ _ _ _ (subst Here is some.2))
+          | inl nearer ↦ (let is : k ≡ k0 + 40 = omega (arith, lower, nearer, column_low, row_high) in third-of a b c d (subst Here is some.2))
+          | inr farther ↦ (let is : k ≡ k0 + 41 = omega (arith, lower, farther, column_high, row_high) in fourth-of a b c d (subst Here is some.2))
         ]
       ]
 

@@ -1,9 +1,9 @@
 -- The pixels that a simulated scanner gets wrong. This project's own rule.
-use Rattle.std.specs.Prelude.{ℕ, ◌+◌, ◌-◌, ◌*◌, ◌/◌, ◌%◌, ◌&&◌, not, List, map, length, slice_index_or, Bool, ℤ, pos, ◌+ℤ◌, ◌-ℤ◌, []}
+use Rattle.std.specs.Prelude.{ℕ, ◌+◌, ◌*◌, ◌/◌, ◌%◌, ◌&&◌, not, List, length, slice_index_or, ℤ, pos, ◌+ℤ◌, ◌-ℤ◌, []}
 use Rattle.std.specs.Ordering.{int_eq}
 use Rattle.std.specs.List.{list_any, range_with_len}
 use Rattle.rand_pcg.specs.Lcg.{Lcg}
-use Rattle.vx_plane.specs.Plane.{Pixels, union, in_any, any_of, rectangle}
+use Rattle.vx_plane.specs.Plane.{Pixels, union, in_any}
 use Rattle.vx_grid.specs.declared.paper.Paper.{Paper}
 use Rattle.vx_grid.specs.declared.sizes.HalfSides.{HalfSides}
 use Rattle.vx_grid.specs.Grid.{x_of, y_of}

@@ -1,12 +1,11 @@
 -- The ink that a simulated voter leaves in the bubbles. This project's own rule.
-use Rattle.std.specs.Prelude.{ℕ, ◌+◌, ◌-◌, ◌&&◌, min, List, Bool, true, false, if◌then◌else◌, nat_lt, ℤ, pos, ◌-ℤ◌, nat_abs, length, slice_index_or}
+use Rattle.std.specs.Prelude.{ℕ, ◌+◌, ◌-◌, ◌&&◌, min, List, Bool, true, false, nat_lt, ℤ, pos, ◌-ℤ◌, nat_abs, length, slice_index_or}
 use Rattle.rand_pcg.specs.Lcg.{Lcg}
 use Rattle.vx_plane.specs.Plane.{Pixels, union, in_any, placed, rectangle}
 use Rattle.vx_plane.specs.Count.{count_in}
 use Rattle.vx_grid.specs.declared.state.Thresholds.{Thresholds}
 use Rattle.vx_grid.specs.Grid.{x_of, y_of}
 use Rattle.vx_grid.specs.Sizes.{bubble, inner_pixels}
-use Rattle.vx_layout.specs.declared.bubbles.Bubble.{Bubble}
 use Rattle.vx_layout.specs.declared.pages.PagePlan.{PagePlan}
 use Rattle.vx_layout.specs.Print.{inner_ellipse, bubble_box}
 use Rattle.vx_scan_model.specs.Ink.{bubble_at}
@@ -14,8 +13,8 @@ use Rattle.vx_simulate.specs.Draws.{draw, draw_all}
 
 -- ink in a bubble: the first so many pixels inside its outline, row by row from the left, or its whole box
 pub data Ink : Type 0 where
-  | first_pixels : ℕ → Ink
-  | whole_box : Ink
+  first_pixels : ℕ → Ink
+  whole_box : Ink
 
 -- how many places of a set come before a place, row by row from the left, from a corner on
 abbrev pub before : ℤ → ℤ → ℕ → Pixels → ℤ → ℤ → ℕ
@@ -33,12 +32,16 @@ ink_pixels (first_pixels n) =
     first_of (pos 0 -ℤ pos bubble.across) (pos 0 -ℤ pos bubble.down) (bubble.across + bubble.across) (bubble.down + bubble.down) inner_ellipse n
 ink_pixels whole_box = bubble_box
 
--- a mark has at least 12 pixels more than the definite threshold; where the outline doesn't hold them, the whole box
--- is dark and nothing is drawn. A slip of the pen has at least 13 fewer than the marginal one
+-- a mark has at least 12 pixels more than the definite threshold; where there isn't room for them inside the outline,
+-- the whole box is dark and nothing is drawn
+abbrev pub draw_mark : Bool → Thresholds → Lcg → Ink × Lcg
+draw_mark true thresholds g = (whole_box, g)
+draw_mark false thresholds g =
+    let more = draw (inner_pixels - thresholds.def - 11) g in (first_pixels (thresholds.def + 12 + more.0), more.1)
+
+-- the ink of a bubble that is marked or not: a slip of the pen has at least 13 pixels fewer than the marginal threshold
 abbrev pub draw_ink : Thresholds → Bool → Lcg → Ink × Lcg
-draw_ink thresholds true g =
-    if nat_lt 612 thresholds.def then (whole_box, g)
-    else let more = draw (inner_pixels - thresholds.def - 11) g in (first_pixels (thresholds.def + 12 + more.0), more.1)
+draw_ink thresholds true g = draw_mark (nat_lt 612 thresholds.def) thresholds g
 draw_ink thresholds false g =
     let some = draw (thresholds.marg - 12) g in (first_pixels (min inner_pixels some.0), some.1)
 

@@ -1,5 +1,5 @@
 -- How a simulated page lies in its scan. This project's own rule.
-use Rattle.std.specs.Prelude.{ℕ, ◌+◌, ℤ, pos, ◌+ℤ◌, ◌-ℤ◌, ◌*ℤ◌}
+use Rattle.std.specs.Prelude.{ℕ, ◌+◌, ℤ, pos, ◌-ℤ◌, ◌*ℤ◌}
 use Rattle.rand_pcg.specs.Lcg.{Lcg}
 use Rattle.vx_grid.specs.declared.paper.Paper.{Paper}
 use Rattle.vx_grid.specs.declared.paper.Paper.TheVariants.{Letter, Legal}

@@ -1,10 +1,11 @@
 -- Which bubbles of a page are marked: drawn contest by contest. This project's own rule.
-use Rattle.std.specs.Prelude.{ℕ, ◌+◌, ◌==◌, ◌&&◌, List, map, filter, length, Bool, slice_index}
+use Rattle.std.specs.Prelude.{ℕ, ◌+◌, ◌==◌, ◌&&◌, List, map, filter, length, Bool}
 use Rattle.std.specs.List.{list_any, range_with_len}
 use Rattle.rand_pcg.specs.Lcg.{Lcg}
 use Rattle.vx_election_model.specs.declared.election.Election.{Election}
 use Rattle.vx_election_model.specs.declared.contest.Contest.{Contest}
 use Rattle.vx_election_model.specs.Options.{options_of}
+use Rattle.vx_layout.specs.Flow.{contest_at}
 use Rattle.vx_layout.specs.declared.bubbles.Bubble.{Bubble}
 use Rattle.vx_layout.specs.declared.pages.PagePlan.{PagePlan}
 use Rattle.vx_simulate.specs.Draws.{draw, draws, draw_all}
@@ -17,10 +18,6 @@ has_bubble plan contest = list_any (λ (bubble : Bubble). bubble.contest == cont
 abbrev pub contests_on : Election → PagePlan → List ℕ
 contests_on election plan = filter (has_bubble plan) (range_with_len 0 (length election.contests))
 
--- a contest of the election by its place
-abbrev pub contest_at : Election → ℕ → Contest
-contest_at election contest = slice_index election.contests contest
-
 -- options that were drawn for a contest, perhaps one of them twice
 pub record Drawn : Type 0 where
   pub contest : ℕ
@@ -29,7 +26,7 @@ pub record Drawn : Type 0 where
 -- what is drawn for a contest: how many options, up to its seats, and then as many of its options
 abbrev pub draw_options : Election → ℕ → Lcg → Drawn × Lcg
 draw_options election contest g =
-    let of_it : Contest = contest_at election contest in
+    let of_it : Contest = contest_at election.contests contest in
     let many : ℕ × Lcg = draw (of_it.seats + 1) g in
     let some : List ℕ × Lcg = draws many.0 (options_of of_it) many.1 in
     (record { contest = contest; options = some.0 }, some.1)

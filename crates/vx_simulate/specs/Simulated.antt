@@ -1,5 +1,5 @@
 -- A simulated scan of a printed page. This project's own rule.
-use Rattle.std.specs.Prelude.{◌≡◌, ℕ, List, Bool, map}
+use Rattle.std.specs.Prelude.{List, Bool}
 use Rattle.rand_pcg.specs.Lcg.{Lcg}
 use Rattle.vx_plane.specs.Plane.{Pixels, Page, page_of}
 use Rattle.vx_election_model.specs.declared.election.Election.{Election}
@@ -11,7 +11,7 @@ use Rattle.vx_geom.specs.Slants.{slant_of}
 use Rattle.vx_geom.specs.Seen.{seen}
 use Rattle.vx_margin.specs.Flips.{differ}
 use Rattle.vx_scan_model.specs.Fits.{FitsUpright}
-use Rattle.vx_simulate.specs.Marks.{Drawn, draw_marks, marks_of}
+use Rattle.vx_simulate.specs.Marks.{draw_marks, marks_of}
 use Rattle.vx_simulate.specs.Lie.{frame_width, frame_height, draw_shear}
 use Rattle.vx_simulate.specs.Ink.{Ink, draw_inks, inked}
 use Rattle.vx_simulate.specs.Flips.{Flips, draw_flips, drawn_flips}
