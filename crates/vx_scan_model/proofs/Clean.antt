@@ -1,5 +1,5 @@
 -- The clean print of a page, sheared, fits that page.
-use Rattle.std.proofs.Common.{◌≡◌, inl, inr, ℕ, ◌+◌, ◌*◌, ◌≤◌, ◌<◌, Bool, true, false, not, ◌&&◌, List, map, length, ℤ, pos, ◌+ℤ◌, ◌-ℤ◌, ◌*ℤ◌, ◌≤ℤ◌, ◌<ℤ◌, refl, ap, sym, subst, ◌∙◌, arith}
+use Rattle.std.proofs.Common.{◌≡◌, ℕ, ◌+◌, ◌*◌, ◌≤◌, ◌<◌, Bool, true, false, not, ◌&&◌, length, ℤ, pos, ◌+ℤ◌, ◌-ℤ◌, ◌*ℤ◌, ◌≤ℤ◌, ◌<ℤ◌, refl, ap, sym, subst, ◌∙◌, arith}
 use Rattle.std.specs.Prelude.{slice_index_or}
 use Rattle.std.proofs.lemmas.Int.{ints}
 use Rattle.std.specs.Int.{int_div_euclid}
@@ -12,32 +12,25 @@ use Rattle.vx_plane.proofs.Counts.{count_in-none}
 use Rattle.vx_plane.proofs.Pages.{dark_at-in_frame, rectangle-sides, rectangle-inside, page_of-same}
 use Rattle.vx_grid.specs.declared.paper.Paper.{Paper}
 use Rattle.vx_grid.specs.declared.paper.Paper.TheVariants.{Letter, Legal}
-use Rattle.vx_grid.specs.declared.places.Point.{Point}
 use Rattle.vx_grid.specs.Paper.{page_width, page_height, last_row, first_y}
 use Rattle.vx_grid.specs.Marks.{marks as marks_of, marks_to, mark_of}
 use Rattle.vx_grid.specs.Grid.{x_of, y_of, first_code_row}
 use Rattle.vx_grid.specs.Regions.{frame_zone}
-use Rattle.vx_grid.specs.Sizes as sizes
-use Rattle.vx_grid.specs.Sizes.{zone_of, round}
-use Rattle.vx_mark_model.specs.Mark.{IsInFrame}
 use Rattle.vx_code.specs.Code.{place_of_box, reserved_place}
-use Rattle.vx_election_model.specs.declared.election.Election.{Election}
-use Rattle.vx_election_model.specs.Valid.{IsValid}
 use Rattle.vx_layout.specs.declared.bubbles.Bubble.{Bubble}
 use Rattle.vx_layout.specs.declared.pages.PagePlan.{PagePlan}
 use Rattle.vx_layout.specs.Zones.{Apart}
-use Rattle.vx_layout.specs.Printed.{PrintedPage, IsPlanned, print_of_page, KeepsClear, PrintedKeepClear}
+use Rattle.vx_layout.specs.Printed.{print_of_page, KeepsClear, PrintedKeepClear}
 use Rattle.vx_layout.specs.Pages.{IsOnGrid}
 use Rattle.vx_geom.specs.declared.shear.Shear.{Shear}
 use Rattle.vx_geom.specs.Slants.{Slant, slant_of, whole_of, down_by, right_by, scan_column, scan_row, paper_column, paper_row}
 use Rattle.vx_geom.specs.Seen.{seen}
-use Rattle.vx_margin.specs.Flips.{differ, flips, flips_in, flips_on, frame_of}
-use Rattle.vx_margin.specs.Shown.{count_round, ShowsZone}
-use Rattle.vx_scan_model.specs.Ink.{added_to, bubble_at, HasInk, IsInked}
+use Rattle.vx_margin.specs.Flips.{differ, flips, flips_in, flips_on}
+use Rattle.vx_scan_model.specs.Ink.{added_to, bubble_at, HasInk}
 use Rattle.vx_margin.specs.Laws.{TimingMarksAreMarks}
 use Rattle.vx_scan_model.specs.Reading.{is_allowed}
 use Rattle.vx_scan_model.proofs.Printed.{many_rows, round-sides, place-columns, place-rows}
-use Rattle.vx_scan_model.specs.Fits.{ShowsPaper, FitsUpright, sheared_print, KeepsInFrame, no_marks, ShearedPrintsFit, CleanPrintsFit}
+use Rattle.vx_scan_model.specs.Fits.{FitsUpright, sheared_print, KeepsInFrame, no_marks, ShearedPrintsFit, CleanPrintsFit}
 
 nothing-added : (b : Bool) → (b && not b) ≡ false
 nothing-added true = refl

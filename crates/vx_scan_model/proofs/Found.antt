@@ -1,12 +1,11 @@
 -- The border of a scan that shows a page's marks.
-use Rattle.std.proofs.Common.{◌≡◌, ℕ, ◌≤◌, ◌<◌, List, Result, Ok, Err, refl, ap, sym, subst, ◌∙◌, arith}
-use Rattle.vx_plane.specs.Plane.{Pixels, Page}
+use Rattle.std.proofs.Common.{◌≡◌, List, Result, Ok, Err, ap, sym, subst, arith}
+use Rattle.vx_plane.specs.Plane.{Page}
 use Rattle.vx_grid.specs.declared.paper.Paper.{Paper}
 use Rattle.vx_grid.specs.declared.places.Point.{Point}
 use Rattle.vx_grid.specs.Paper.{last_row}
 use Rattle.vx_grid.specs.Marks.{marks as marks_of}
 use Rattle.vx_grid.specs.Borders.{MarkPlaces}
-use Rattle.vx_mark_model.specs.Corner.{IsCorner}
 use Rattle.vx_mark_model.specs.Best.{IsNear, IsBest}
 use Rattle.vx_border.specs.declared.following.BorderFault.{BorderFault}
 use Rattle.vx_border.specs.declared.following.BorderFault.TheVariants.{NoCorner, NoMark, OpenBorder}

@@ -1,8 +1,8 @@
 -- How much ink the paper of a page has in its boxes and zones.
-use Rattle.std.proofs.Common.{◌≡◌, inl, inr, ℕ, ◌+◌, ◌-◌, ◌*◌, ◌≤◌, ◌<◌, Bool, true, false, not, ◌&&◌, ◌||◌, if◌then◌else◌, List, length, ℤ, pos, negsuc, ◌+ℤ◌, ◌-ℤ◌, ◌≤ℤ◌, ◌<ℤ◌, le_trans, refl, ap, ap₂, sym, subst, ◌∙◌, arith}
+use Rattle.std.proofs.Common.{◌≡◌, ℕ, ◌+◌, ◌≤◌, ◌<◌, Bool, true, false, not, ◌&&◌, ◌||◌, if◌then◌else◌, List, length, ℤ, pos, negsuc, ◌+ℤ◌, ◌-ℤ◌, refl, ap, ◌∙◌, arith}
 use Rattle.std.specs.Prelude.{slice_index_or}
 use Rattle.std.proofs.lemmas.Int.{ints}
-use Rattle.vx_plane.specs.Plane.{Pixels, union, placed, nowhere, in_any}
+use Rattle.vx_plane.specs.Plane.{Pixels, union, placed, nowhere}
 use Rattle.vx_plane.specs.Count.{count_in}
 use Rattle.vx_plane.proofs.Counts.{count_in-same, count_in-le, count_in-all, count_in-none, count_in-moved, count_in-union_le, count_in-union_apart}
 use Rattle.vx_plane.proofs.Pages.{in_any-one}
@@ -13,13 +13,13 @@ use Rattle.vx_grid.specs.Sizes.{zone_of, round}
 use Rattle.vx_code.specs.Code.{place_of_box, reserved_place}
 use Rattle.vx_layout.specs.declared.bubbles.Bubble.{Bubble}
 use Rattle.vx_layout.specs.declared.pages.PagePlan.{PagePlan}
-use Rattle.vx_layout.specs.Print.{box_pixels, printed_box, outline, bubble_pixels, print_of}
-use Rattle.vx_layout.specs.Zones.{bubble_zone_of, bubble_box_of, box_zone_at, code_zones, reserved_zones, Apart}
+use Rattle.vx_layout.specs.Print.{box_pixels, outline, bubble_pixels, print_of}
+use Rattle.vx_layout.specs.Zones.{box_zone_at, code_zones, reserved_zones, Apart}
 use Rattle.vx_layout.specs.Printed.{KeepsClear}
 use Rattle.vx_margin.specs.Laws.{TimingMarksAreMarks}
 use Rattle.vx_margin.specs.Shown.{count_round}
 use Rattle.vx_scan_model.specs.Ink.{added_to, bubble_at}
-use Rattle.vx_scan_model.proofs.Printed.{round-inside, round-sides, bubble-printed, code-printed, reserved-empty, box-in_zone}
+use Rattle.vx_scan_model.proofs.Printed.{round-inside, bubble-printed, code-printed, reserved-empty, box-in_zone}
 
 -- the outline of a bubble has 192 pixels
 outline-in_zone : count_in (negsuc 35) (negsuc 24) 72 50 outline ≡ 192

@@ -1,13 +1,10 @@
 -- A scan fits one printed page at most.
-use Rattle.std.proofs.Common.{◌≡◌, ◌∙◌, sym, ap, ℕ, List, [], ◌∷◌, map, Bool, true, false, Result, Ok, refl}
-use Rattle.vx_grid.specs.declared.kind.Kind.{Kind}
-use Rattle.vx_grid.specs.declared.state.State.{State}
+use Rattle.std.proofs.Common.{◌≡◌, ◌∙◌, sym, ap, List, [], ◌∷◌, map, Bool, true, false, Result, Ok, refl}
 use Rattle.vx_code.specs.declared.code.PageCode.{PageCode}
-use Rattle.vx_election_model.specs.declared.election.Election.{Election}
 use Rattle.vx_layout.specs.Printed.{PrintedPage, code_of}
 use Rattle.vx_scan_model.specs.declared.reading.PageReading.{PageReading}
 use Rattle.vx_scan_model.specs.declared.fault.PageFault.{PageFault}
-use Rattle.vx_scan_model.specs.Fits.{state_of_mark, Says, FittingScansAreRead, FitsOnePage}
+use Rattle.vx_scan_model.specs.Fits.{state_of_mark, FittingScansAreRead, FitsOnePage}
 
 same-reading : (a b : PageReading) → ◌≡◌ {A = Result PageReading PageFault} (Ok a) (Ok b) → a ≡ b
 same-reading a b e = cc

@@ -1,5 +1,5 @@
 -- What is printed where on a page.
-use Rattle.std.proofs.Common.{◌≡◌, ◌≢◌, ◌⊎◌, inl, inr, ℕ, ◌+◌, ◌-◌, ◌*◌, ◌/◌, ◌%◌, ◌≤◌, ◌<◌, Bool, true, false, not, ◌&&◌, ◌||◌, if◌then◌else◌, ◌==◌, List, [], length, get_or, ℤ, pos, ◌+ℤ◌, ◌-ℤ◌, ◌≤ℤ◌, ◌<ℤ◌, refl, ap, sym, subst, ◌∙◌, arith}
+use Rattle.std.proofs.Common.{◌≡◌, ◌≢◌, ◌⊎◌, inl, inr, ℕ, ◌+◌, ◌-◌, ◌*◌, ◌≤◌, ◌<◌, Bool, true, false, not, ◌&&◌, ◌||◌, if◌then◌else◌, ◌==◌, List, [], length, ℤ, pos, ◌+ℤ◌, ◌-ℤ◌, ◌≤ℤ◌, ◌<ℤ◌, refl, ap, sym, subst, ◌∙◌, arith}
 use Rattle.std.specs.Prelude.{slice_index_or}
 use Rattle.std.proofs.lemmas.Int.{ints}
 use Rattle.vx_base.proofs.Numbers.{equal-yes, equal-from_yes}
@@ -18,9 +18,9 @@ use Rattle.vx_layout.specs.declared.bubbles.Bubble.{Bubble}
 use Rattle.vx_layout.specs.declared.lines.TextLine.{TextLine}
 use Rattle.vx_layout.specs.declared.pages.PagePlan.{PagePlan}
 use Rattle.vx_layout.specs.Print.{box_pixels, printed_box, code_pixels, outline, bubble_pixels, line_pixels, print_of}
-use Rattle.vx_layout.specs.Zones.{bubble_zone_of, bubble_box_of, box_zone_at, code_zones, reserved_zones, Apart, IsClear, AreApart}
+use Rattle.vx_layout.specs.Zones.{bubble_zone_of, bubble_box_of, box_zone_at, code_zones, reserved_zones}
 use Rattle.vx_layout.specs.Printed.{KeepsClear}
-use Rattle.vx_margin.specs.Marks.{IsBorderPoint, IsInMark, AreMarks}
+use Rattle.vx_margin.specs.Marks.{IsInMark}
 use Rattle.vx_margin.specs.Laws.{TimingMarksAreMarks}
 use Rattle.vx_scan_model.specs.Ink.{bubble_at}
 

@@ -1,49 +1,41 @@
 -- A scan that fits a printed page is read as that page.
-use Rattle.std.proofs.Common.{◌≡◌, inl, inr, ℕ, ◌+◌, ◌-◌, ◌*◌, ◌≤◌, ◌<◌, Bool, true, false, not, ◌&&◌, nat_le, nat_lt, if◌then◌else◌, List, map, length, get_or, Result, Ok, Err, ℤ, pos, ◌+ℤ◌, ◌-ℤ◌, ◌≤ℤ◌, ◌<ℤ◌, refl, ap, sym, subst, ◌∙◌, le_trans, arith}
-use Rattle.std.specs.Prelude.{slice_index_or, slice_index, slice_get, Some, None, ◌==◌}
+use Rattle.std.proofs.Common.{◌≡◌, ℕ, ◌-◌, ◌≤◌, ◌<◌, Bool, true, false, not, ◌&&◌, nat_le, nat_lt, if◌then◌else◌, List, map, length, Ok, Err, ℤ, pos, ◌-ℤ◌, refl, ap, sym, subst, ◌∙◌, le_trans, arith}
+use Rattle.std.specs.Prelude.{slice_index_or, slice_get, None, ◌==◌}
 use Rattle.std.specs.List.{range_with_len}
-use Rattle.std.proofs.lemmas.Int.{ints}
 use Rattle.std.proofs.lemmas.Bool.Decides.{nat_tests}
 use Rattle.std.proofs.lemmas.List.{ext_get_or, get_or-map, length-map}
 use Rattle.std.proofs.lemmas.List.FromFn.{get_or-map-range_with_len, length-map-range_with_len}
 use Rattle.vx_plane.specs.Plane.{Pixels, Page, rectangle, dark_at}
-use Rattle.vx_plane.specs.Count.{count_in}
 use Rattle.vx_plane.proofs.Counts.{count_in-le}
 use Rattle.vx_grid.specs.declared.paper.Paper.{Paper}
 use Rattle.vx_grid.specs.declared.places.Point.{Point}
 use Rattle.vx_grid.specs.declared.state.State.{State}
-use Rattle.vx_grid.specs.declared.state.State.TheVariants.{Marked, Marginal, Clear}
+use Rattle.vx_grid.specs.declared.state.State.TheVariants.{Marked, Clear}
 use Rattle.vx_grid.specs.declared.state.Thresholds.{Thresholds}
-use Rattle.vx_grid.specs.Paper.{last_row}
 use Rattle.vx_grid.specs.Grid.{first_code_row}
 use Rattle.vx_grid.specs.Marks.{marks as marks_of, timing_marks}
 use Rattle.vx_grid.specs.Borders.{MarkPlaces}
 use Rattle.vx_grid.specs.Regions.{frame_zone}
 use Rattle.vx_grid.specs.Sizes as sizes
 use Rattle.vx_grid.specs.Sizes.{zone_of, window_of}
-use Rattle.vx_mark_model.specs.Mark.{IsInFrame}
 use Rattle.vx_border.specs.Laws.{CornerIsFollowed, FollowedGrows}
 use Rattle.vx_fit.specs.Fit.{place_of}
-use Rattle.vx_score.specs.Score.{score_of, state_of}
+use Rattle.vx_score.specs.Score.{state_of}
 use Rattle.vx_code.specs.declared.code.PageCode.{PageCode}
-use Rattle.vx_code.specs.Code.{tag_of, place_of_box, boxes_of, version_of, IsInRange, IsShown, Shows, code_shown_by, CodesAreGivenBack}
+use Rattle.vx_code.specs.Code.{tag_of, place_of_box, boxes_of, version_of, IsShown, Shows, CodesAreGivenBack}
 use Rattle.vx_election_model.specs.declared.election.Election.{Election}
 use Rattle.vx_election_model.specs.Valid.{IsValid}
-use Rattle.vx_layout.specs.declared.bubbles.Bubble.{Bubble}
 use Rattle.vx_layout.specs.declared.pages.PagePlan.{PagePlan}
 use Rattle.vx_layout.specs.Plan.{plan_of}
-use Rattle.vx_layout.specs.Print.{print_of}
 use Rattle.vx_layout.specs.Pages.{IsOnGrid}
-use Rattle.vx_layout.specs.Printed.{PrintedPage, IsPlanned, code_of, print_of_page, KeepsClear, PrintedKeepClear, PrintedHaveCodes, PrintedHavePaper}
-use Rattle.vx_geom.specs.Slants.{Slant, IsSlant, slant_of}
+use Rattle.vx_layout.specs.Printed.{PrintedPage, code_of, print_of_page, KeepsClear, PrintedKeepClear, PrintedHaveCodes, PrintedHavePaper}
+use Rattle.vx_geom.specs.Slants.{Slant, slant_of}
 use Rattle.vx_geom.specs.Seen.{seen}
-use Rattle.vx_margin.specs.Marks.{image_of, mark_image, LiesNear}
+use Rattle.vx_margin.specs.Marks.{image_of, LiesNear}
 use Rattle.vx_margin.specs.Flips.{flips, flips_in, differ}
-use Rattle.vx_margin.specs.Shown.{ShowsMarks, ShowsBorder, count_at, count_round, dark_round}
+use Rattle.vx_margin.specs.Shown.{ShowsMarks, ShowsBorder, count_round}
 use Rattle.vx_margin.specs.Chains.{LieAtMarks}
 use Rattle.vx_margin.specs.Laws.{TimingMarksAreMarks, BordersAreFound, GridPlacesLieNear, WindowsHold, HoldsWindow, FindsBorder}
-use Rattle.vx_scan_model.specs.declared.reading.PageReading.{PageReading}
-use Rattle.vx_scan_model.specs.declared.fault.PageFault.{PageFault}
 use Rattle.vx_scan_model.specs.declared.fault.PageFault.TheVariants.{FrameSize, OtherElection}
 use Rattle.vx_base.specs.Results.{◌>>=◌}
 use Rattle.vx_base.proofs.Numbers.{equal-yes, equal-no}
@@ -51,7 +43,7 @@ use Rattle.vx_scan_model.specs.Border.{border_of}
 use Rattle.vx_scan_model.specs.Named.{named_plan, plan_on_card, plan_unless}
 use Rattle.vx_scan_model.specs.Reading.{is_allowed, box_count_of, code_read, bubble_score, scores_of, states_of, reading_on, reading_of_code, reading_of_border, upright_reading_of}
 use Rattle.vx_scan_model.specs.Ink.{added_to, bubble_at, HasInk}
-use Rattle.vx_scan_model.specs.Fits.{ShowsPaper, FitsUpright, state_of_mark, Says, IsReadUpright}
+use Rattle.vx_scan_model.specs.Fits.{FitsUpright, state_of_mark, IsReadUpright}
 use Rattle.vx_scan_model.proofs.Borders.{IsBorderOf-border_of}
 use Rattle.vx_scan_model.proofs.Printed.{many_rows, frame-printed, place-columns, place-rows}
 use Rattle.vx_scan_model.proofs.Inks.{zone-ink, box-ink, box-full, box-empty}

@@ -1,17 +1,17 @@
 -- A scan that fits a printed page when it is turned isn't read as it lies, and is read turned.
-use Rattle.std.proofs.Common.{◌≡◌, ◌⊎◌, inl, inr, ℕ, ◌+◌, ◌-◌, ◌*◌, ◌/◌, ◌%◌, ◌≤◌, ◌<◌, Bool, true, false, ◌&&◌, nat_le, if◌then◌else◌, List, map, length, Option, None, Result, Ok, Err, ℤ, pos, ◌+ℤ◌, ◌-ℤ◌, ◌≤ℤ◌, ◌<ℤ◌, refl, ap, ap₂, sym, subst, ◌∙◌, arith}
+use Rattle.std.proofs.Common.{◌≡◌, ◌⊎◌, inl, inr, ℕ, ◌+◌, ◌-◌, ◌*◌, ◌≤◌, ◌<◌, Bool, true, false, if◌then◌else◌, List, map, None, Result, Ok, Err, ℤ, pos, ◌-ℤ◌, ◌≤ℤ◌, ◌<ℤ◌, refl, ap, sym, subst, ◌∙◌, arith}
 use Rattle.std.specs.Prelude.{slice_index}
 use Rattle.std.specs.List.{range_with_len}
 use Rattle.std.proofs.lemmas.Int.{ints, by_lt_z}
 use Rattle.std.proofs.lemmas.Bool.Decides.{nat_tests}
 use Rattle.std.proofs.lemmas.List.FromFn.{get_or-map-range_with_len, length-map-range_with_len}
-use Rattle.vx_plane.specs.Plane.{Pixels, Page, page_of, dark_at, rectangle}
+use Rattle.vx_plane.specs.Plane.{Page, dark_at}
 use Rattle.vx_plane.proofs.Pages.{dark_at-in_frame, dark_at-out_of_frame, rectangle-inside}
 use Rattle.vx_grid.specs.declared.paper.Paper.{Paper}
 use Rattle.vx_grid.specs.declared.paper.Paper.TheVariants.{Letter, Legal}
 use Rattle.vx_grid.specs.declared.places.Point.{Point}
 use Rattle.vx_grid.specs.Paper.{last_row}
-use Rattle.vx_grid.specs.Grid.{first_code_row, first_reserved_row, last_column}
+use Rattle.vx_grid.specs.Grid.{first_code_row}
 use Rattle.vx_grid.specs.Marks.{marks as marks_of, timing_marks}
 use Rattle.vx_grid.specs.Borders.{MarkPlaces}
 use Rattle.vx_grid.specs.Sizes as sizes
@@ -20,15 +20,12 @@ use Rattle.vx_count.specs.Turned.{turned, turned_page, IsWhole}
 use Rattle.vx_border.specs.declared.following.BorderFault.{BorderFault}
 use Rattle.vx_border.specs.Border.{IsBorder, IsBorderOf}
 use Rattle.vx_fit.specs.Fit.{place_of}
-use Rattle.vx_code.specs.declared.code.PageCode.{PageCode}
-use Rattle.vx_code.specs.declared.code.CodeFault.{CodeFault}
-use Rattle.vx_code.specs.Code.{boxes_of, place_from, place_of_box, reserved_place, bit_of, code_shown_by, NoBitIsRefused}
+use Rattle.vx_code.specs.Code.{boxes_of, place_of_box, reserved_place, bit_of, NoBitIsRefused}
 use Rattle.vx_election_model.specs.declared.election.Election.{Election}
 use Rattle.vx_election_model.specs.Valid.{IsValid}
 use Rattle.vx_layout.specs.declared.pages.PagePlan.{PagePlan}
 use Rattle.vx_layout.specs.Printed.{PrintedPage, code_of, KeepsClear}
 use Rattle.vx_geom.specs.Slants.{Slant, slant_of}
-use Rattle.vx_margin.specs.Marks.{mark_image}
 use Rattle.vx_margin.specs.Flips.{flips_on, frame_of}
 use Rattle.vx_margin.specs.Shown.{count_round, dark_round}
 use Rattle.vx_grid.specs.Places.{point_at}
@@ -36,12 +33,10 @@ use Rattle.vx_mark_model.specs.Corner.{IsInCornerRegion}
 use Rattle.vx_margin.specs.Chains.{IsChain, LieAtMarks}
 use Rattle.vx_margin.specs.Turned.{IsTurned, slant_turned}
 use Rattle.vx_margin.specs.Laws.{FollowedAreChains, TurnedChainsLieAtMarks, TurnedWindowsHold}
-use Rattle.vx_scan_model.specs.declared.reading.PageReading.{PageReading}
-use Rattle.vx_scan_model.specs.declared.fault.PageFault.{PageFault}
 use Rattle.vx_scan_model.specs.declared.fault.PageFault.TheVariants.{FrameSize, Border, Code}
 use Rattle.vx_scan_model.specs.Border.{border_of}
-use Rattle.vx_scan_model.specs.Reading.{is_allowed, allowed_heights, box_count_of, code_read, reading_of_code, reading_of_border, upright_reading_of, told_turned, either_way, reading_of}
-use Rattle.vx_scan_model.specs.Fits.{FitsUpright, Fits, Says, IsReadAs, IsReadUpright}
+use Rattle.vx_scan_model.specs.Reading.{is_allowed, box_count_of, code_read, reading_of_code, reading_of_border, upright_reading_of, told_turned, either_way, reading_of}
+use Rattle.vx_scan_model.specs.Fits.{FitsUpright, Fits, IsReadAs, IsReadUpright}
 use Rattle.vx_scan_model.proofs.Borders.{IsBorderOf-border_of}
 use Rattle.vx_scan_model.proofs.Printed.{many_rows, place-columns, place-rows}
 use Rattle.vx_scan_model.proofs.Inks.{reserved-blank}

@@ -24,8 +24,6 @@ use Rattle.vx_margin.specs.Marks.{mark_image}
 use Rattle.vx_margin.specs.Flips.{flips_in, flips_on}
 use Rattle.vx_margin.specs.Shown.{count_at, count_round, IsInStartRegion, ShowsZone}
 use Rattle.vx_scan_model.specs.declared.reading.PageReading.{PageReading}
-use Rattle.vx_scan_model.specs.declared.fault.PageFault.{PageFault}
-use Rattle.vx_scan_model.specs.Faults.{is_no_memory}
 use Rattle.vx_election_model.specs.Valid.{IsValid}
 use Rattle.vx_scan_model.specs.Reading.{is_allowed, upright_reading_of, reading_of}
 use Rattle.vx_scan_model.specs.Ink.{IsInked, bubble_at}

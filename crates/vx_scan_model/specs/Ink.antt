@@ -8,7 +8,11 @@ use Rattle.vx_grid.specs.Sizes as sizes
 use Rattle.vx_grid.specs.Sizes.{zone_of}
 use Rattle.vx_layout.specs.declared.bubbles.Bubble.{Bubble}
 use Rattle.vx_layout.specs.declared.pages.PagePlan.{PagePlan}
-use Rattle.vx_layout.specs.Zones.{Apart, code_zones, reserved_zones}
+use Rattle.vx_election_model.specs.declared.election.Election.{Election}
+use Rattle.vx_election_model.specs.Valid.{IsValid}
+use Rattle.vx_layout.specs.Print.{bubble_pixels}
+use Rattle.vx_layout.specs.Printed.{PrintedPage, IsPlanned, print_of_page}
+use Rattle.vx_layout.specs.Zones.{Apart, bubble_zone_of, code_zones, reserved_zones}
 use Rattle.vx_margin.specs.Shown.{count_round}
 
 -- the pixels of the paper that aren't printed: what was added
@@ -38,3 +42,10 @@ pub record IsInked (thresholds : Thresholds) (plan : PagePlan) (print : Pixels) 
   pub ink :
       (n : ℕ) → n < length plan.bubbles
       → HasInk (slice_index_or marks n false) thresholds plan.paper (bubble_at plan n) (added_to print paper)
+
+-- in the zone of a bubble of a planned page nothing is printed but its outline
+abbrev pub BubblesAreOutlined : Type 0
+BubblesAreOutlined =
+    (election : Election) (printed : PrintedPage) (plan : PagePlan) → IsValid election → IsPlanned election printed plan
+    → (n : ℕ) → n < length plan.bubbles → (x y : ℤ) → bubble_zone_of plan.paper (bubble_at plan n) x y ≡ true
+    → print_of_page election plan printed x y ≡ bubble_pixels plan.paper (bubble_at plan n) x y

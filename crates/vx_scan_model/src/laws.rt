@@ -3,6 +3,7 @@
 ghost use Rattle.vx_scan_model.specs.Border.{BorderIsGiven, EachScanHasItsBorder};
 ghost use Rattle.vx_scan_model.specs.Certificate.{ReadingsAreCertificates, CertificatesSayWhatFits, PlacesAreTested};
 ghost use Rattle.vx_scan_model.specs.Named.{NamedStandOnGrid, CodesNamePrintedPages};
+ghost use Rattle.vx_scan_model.specs.Ink.{BubblesAreOutlined};
 ghost use Rattle.vx_scan_model.specs.Fits.{FittingScansAreRead, FitsOnePage, ShearedPrintsFit, CleanPrintsFit};
 
 use vx_border::{a_list_is_followed, borders_are_one};
@@ -111,6 +112,14 @@ pub fn certificates_say_what_fits()
 pub fn clean_prints_fit()
     ensures sheared { ShearedPrintsFit }
     ensures clean { CleanPrintsFit }
+{
+    printed_pages_keep_clear();
+    timing_marks_are_marks();
+}
+
+/// In the zone of a bubble of a planned page nothing is printed but its outline.
+pub fn bubbles_are_outlined()
+    ensures { BubblesAreOutlined }
 {
     printed_pages_keep_clear();
     timing_marks_are_marks();

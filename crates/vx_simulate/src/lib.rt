@@ -1,0 +1,10 @@
+//! Simulated scans of printed pages: marked at random, sheared, with wrong pixels, all within the
+//! bounds in which a page is read as it was printed and marked.
+//!
+//! What is drawn from the generator, in which order, stands in `specs/`: the marks, how the page lies
+//! in its scan, the ink, the flips, and the scan that comes of them (`Simulated.antt`).
+#![tactic(auto)]
+
+mod laws;
+
+pub use laws::simulated_scans_fit;
