@@ -1,6 +1,6 @@
 -- A scan that fits a printed page is read as that page.
 use Rattle.std.proofs.Common.{◌≡◌, inl, inr, ℕ, ◌+◌, ◌-◌, ◌*◌, ◌≤◌, ◌<◌, Bool, true, false, not, ◌&&◌, nat_le, nat_lt, if◌then◌else◌, List, map, length, get_or, Result, Ok, Err, ℤ, pos, ◌+ℤ◌, ◌-ℤ◌, ◌≤ℤ◌, ◌<ℤ◌, refl, ap, sym, subst, ◌∙◌, le_trans, arith}
-use Rattle.std.specs.Prelude.{slice_index_or, slice_index, slice_get, Some, None, ◌==◌}
+use Rattle.std.specs.Prelude.{slice_index_or, slice_index}
 use Rattle.std.specs.List.{range_with_len}
 use Rattle.std.proofs.lemmas.Int.{ints}
 use Rattle.std.proofs.lemmas.Bool.Decides.{nat_tests}
@@ -26,15 +26,14 @@ use Rattle.vx_border.specs.Laws.{CornerIsFollowed, FollowedGrows}
 use Rattle.vx_fit.specs.Fit.{place_of}
 use Rattle.vx_score.specs.Score.{score_of, state_of}
 use Rattle.vx_code.specs.declared.code.PageCode.{PageCode}
-use Rattle.vx_code.specs.Code.{tag_of, place_of_box, boxes_of, version_of, IsInRange, IsShown, Shows, code_shown_by, CodesAreGivenBack}
+use Rattle.vx_code.specs.Code.{place_of_box, boxes_of, version_of, IsInRange, IsShown, Shows, code_shown_by, CodesAreGivenBack}
 use Rattle.vx_election_model.specs.declared.election.Election.{Election}
 use Rattle.vx_election_model.specs.Valid.{IsValid}
 use Rattle.vx_layout.specs.declared.bubbles.Bubble.{Bubble}
 use Rattle.vx_layout.specs.declared.pages.PagePlan.{PagePlan}
-use Rattle.vx_layout.specs.Plan.{plan_of}
 use Rattle.vx_layout.specs.Print.{print_of}
 use Rattle.vx_layout.specs.Pages.{IsOnGrid}
-use Rattle.vx_layout.specs.Printed.{PrintedPage, IsPlanned, code_of, print_of_page, KeepsClear, PrintedKeepClear, PrintedHaveCodes, PrintedHavePaper}
+use Rattle.vx_layout.specs.Printed.{PrintedPage, code_of, print_of_page, KeepsClear, PrintedKeepClear, PrintedHaveCodes, PrintedHavePaper}
 use Rattle.vx_geom.specs.Slants.{Slant, IsSlant, slant_of}
 use Rattle.vx_geom.specs.Seen.{seen}
 use Rattle.vx_margin.specs.Marks.{image_of, mark_image, LiesNear}
@@ -44,15 +43,14 @@ use Rattle.vx_margin.specs.Chains.{LieAtMarks}
 use Rattle.vx_margin.specs.Laws.{TimingMarksAreMarks, BordersAreFound, GridPlacesLieNear, WindowsHold, HoldsWindow, FindsBorder}
 use Rattle.vx_scan_model.specs.declared.reading.PageReading.{PageReading}
 use Rattle.vx_scan_model.specs.declared.fault.PageFault.{PageFault}
-use Rattle.vx_scan_model.specs.declared.fault.PageFault.TheVariants.{FrameSize, OtherElection}
+use Rattle.vx_scan_model.specs.declared.fault.PageFault.TheVariants.{FrameSize}
 use Rattle.vx_base.specs.Results.{◌>>=◌}
-use Rattle.vx_base.proofs.Numbers.{equal-yes, equal-no}
 use Rattle.vx_scan_model.specs.Border.{border_of}
-use Rattle.vx_scan_model.specs.Named.{named_plan, plan_on_card, plan_unless}
 use Rattle.vx_scan_model.specs.Reading.{is_allowed, box_count_of, code_read, bubble_score, scores_of, states_of, reading_on, reading_of_code, reading_of_border, upright_reading_of}
 use Rattle.vx_scan_model.specs.Ink.{added_to, bubble_at, HasInk}
 use Rattle.vx_scan_model.specs.Fits.{ShowsPaper, FitsUpright, state_of_mark, Says, IsReadUpright}
 use Rattle.vx_scan_model.proofs.Borders.{IsBorderOf-border_of}
+use Rattle.vx_scan_model.proofs.Names.{names_plan}
 use Rattle.vx_scan_model.proofs.Printed.{many_rows, frame-printed, place-columns, place-rows}
 use Rattle.vx_scan_model.proofs.Inks.{zone-ink, box-ink, box-full, box-empty}
 use Rattle.vx_scan_model.proofs.Found.{IsFoundNear, found-near}
@@ -223,18 +221,6 @@ module _ (laws : AreLaws) (election : Election) (valid : IsValid election) (scan
         ∙ (scored n few (slice_index_or marks n false) (fits.inked.ink n few)
         ∙ sym (get_or-map state_of_mark marks n false Clear in_marks))))
 
-  -- the code of a printed page names its plan
-  named : named_plan election (code_of election printed) ≡ Ok plan
-  unfolding named_plan
-  named =
-      let card : plan_of election printed.card ≡ Ok fits.planned.card = fits.planned.card_is in
-      let tag : (tag_of election.digest == tag_of election.digest) ≡ true = equal-yes _ _ refl in
-      let page : (printed.page == 0) ≡ false = (let one : 1 ≤ printed.page = fits.planned.from_one in equal-no printed.page 0 (λ none. absurd (omega (arith, one, none)))) in
-      ap (λ t. if t then plan_on_card (code_of election printed) (plan_of election printed.card) else Err (OtherElection (tag_of election.digest))) tag
-      ∙ (ap (plan_on_card (code_of election printed)) card
-      ∙ (ap (λ t. plan_unless printed.page (if t then None else slice_get fits.planned.card.pages (printed.page - 1))) page
-      ∙ ap (plan_unless printed.page) fits.planned.page_is))
-
   -- the scan is read, as it lies
   pub upright-read : IsReadUpright election scan printed marks
   unfolding upright_reading_of
@@ -251,6 +237,6 @@ module _ (laws : AreLaws) (election : Election) (valid : IsValid election) (scan
             ap (λ t. if t then reading_of_border election scan (border_of election.paper scan) else Err (FrameSize scan.width scan.height)) allowed
             ∙ (ap (reading_of_border election scan) is
             ∙ (ap (reading_of_code election scan found) (code-at places near)
-            ∙ ap (λ p. p >>= (λ (q : PagePlan). Ok (reading_on election scan found code q))) named));
+            ∙ ap (λ p. p >>= (λ (q : PagePlan). Ok (reading_on election scan found code q))) (names_plan election printed plan fits.planned)));
         says = record { code_is = refl; states_are = states-at places near };
       }

@@ -1,5 +1,5 @@
 -- The page that a code names.
-use Rattle.std.specs.Prelude.{ℕ, ◌-◌, ◌==◌, if◌then◌else◌, slice_get, Option, Some, None, Result, Ok, Err}
+use Rattle.std.specs.Prelude.{◌≡◌, ℕ, ◌-◌, ◌==◌, if◌then◌else◌, slice_get, Option, Some, None, Result, Ok, Err}
 use Rattle.vx_election_model.specs.declared.election.Election.{Election}
 use Rattle.vx_code.specs.declared.code.PageCode.{PageCode}
 use Rattle.vx_code.specs.Code.{tag_of}
@@ -7,6 +7,7 @@ use Rattle.vx_layout.specs.declared.pages.PagePlan.{PagePlan}
 use Rattle.vx_layout.specs.declared.plan.CardPlan.{CardPlan}
 use Rattle.vx_layout.specs.declared.fault.LayoutFault.{LayoutFault}
 use Rattle.vx_layout.specs.Plan.{plan_of}
+use Rattle.vx_layout.specs.Printed.{PrintedPage, IsPlanned, code_of}
 use Rattle.vx_scan_model.specs.declared.fault.PageFault.{PageFault}
 use Rattle.vx_scan_model.specs.declared.fault.PageFault.TheVariants.{OtherElection, NoCard, NoPage}
 
@@ -30,3 +31,9 @@ unfoldable pub named_plan : Election → PageCode → Result PagePlan PageFault
 named_plan election code =
     if code.tag == tag_of election.digest then plan_on_card code (plan_of election code.card)
     else Err (OtherElection code.tag)
+
+-- the code of a printed page names its plan
+abbrev pub CodesNamePlans : Type 0
+CodesNamePlans =
+    (election : Election) (printed : PrintedPage) (plan : PagePlan) → IsPlanned election printed plan
+    → named_plan election (code_of election printed) ≡ Ok plan

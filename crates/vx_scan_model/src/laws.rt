@@ -1,6 +1,7 @@
 //! Laws of borders and of scans that fit. These functions do nothing; their contracts are the laws.
 
 ghost use Rattle.vx_scan_model.specs.Border.{BorderIsGiven, EachScanHasItsBorder};
+ghost use Rattle.vx_scan_model.specs.Named.{CodesNamePlans};
 ghost use Rattle.vx_scan_model.specs.Fits.{FittingScansAreRead, FitsOnePage, ShearedPrintsFit, CleanPrintsFit};
 
 use vx_border::{a_list_is_followed, borders_are_one};
@@ -27,6 +28,11 @@ pub fn every_scan_has_its_border()
 {
     a_list_is_followed();
 }
+
+/// The code of a printed page names its plan.
+pub fn codes_name_plans()
+    ensures { CodesNamePlans }
+{}
 
 /// Every scan that fits a printed page with its marks, as it lies or turned, is read as that page: its
 /// marked bubbles are Marked and all others Clear. So a scan fits at most one page, with one set of marks.

@@ -18,6 +18,7 @@ mod tests;
 
 pub use fault::PageFault;
 pub use laws::{
-    a_border_is_the_border, clean_prints_fit, every_scan_has_its_border, fitting_scans_are_read,
+    a_border_is_the_border, clean_prints_fit, codes_name_plans, every_scan_has_its_border,
+    fitting_scans_are_read,
 };
 pub use reading::{PageReading, Scores};
