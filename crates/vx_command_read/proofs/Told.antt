@@ -101,17 +101,17 @@ parted : (election : Election) (images : List Page) (place : ℕ) (image : Page)
     → texts_of_images election 1 images ≡ texts_round election images place (image_text election (place + 1) image)
 parted election images place image at =
     let within : place < length images = slice_get_within images place image at in
-    let before : List Page = take place images in
-    let behind : List Page = drop (place + 1) images in
-    let here : drop place images ≡ image ∷ behind =
-    drop_more images place image within ∙ ap (λ (page : Page). page ∷ behind) (get_or_from_slice_get images place image image at) in
-    let split : images ≡ before ++ (image ∷ behind) = sym (take-append-drop place images) ∙ ap (λ (rest : List Page). before ++ rest) here in
-    let count : 1 + length before ≡ place + 1 = omega (arith, length-take-le place images (omega arith)) in
+    let here : drop place images ≡ image ∷ drop (place + 1) images =
+    drop_more images place image within ∙ ap (λ (page : Page). page ∷ drop (place + 1) images) (get_or_from_slice_get images place image image at) in
+    let split : images ≡ take place images ++ (image ∷ drop (place + 1) images) =
+    sym (take-append-drop place images) ∙ ap (λ (rest : List Page). take place images ++ rest) here in
+    let full : length (take place images) ≡ place = length-take-le place images (omega arith) in
+    let count : 1 + length (take place images) ≡ place + 1 = omega (arith, full) in
     let next : place + 1 + 1 ≡ place + 2 = omega arith in
     ap (texts_of_images election 1) split
-    ∙ texts-append election 1 before (image ∷ behind)
-    ∙ ap (λ (n : ℕ). texts_of_images election 1 before ++ texts_of_images election n (image ∷ behind)) count
-    ∙ ap (λ (n : ℕ). texts_of_images election 1 before ++ (image_text election (place + 1) image ++ texts_of_images election n behind)) next
+    ∙ texts-append election 1 (take place images) (image ∷ drop (place + 1) images)
+    ∙ ap (λ (n : ℕ). texts_of_images election 1 (take place images) ++ texts_of_images election n (image ∷ drop (place + 1) images)) count
+    ∙ ap (λ (n : ℕ). texts_of_images election 1 (take place images) ++ (image_text election (place + 1) image ++ texts_of_images election n (drop (place + 1) images))) next
 
 -- all images are whole
 unless-whole : (fault : Option PbmFault) (more : List Page) → All IsWholePage more → All IsWholePage (unless_faulty_before fault more)
