@@ -3,7 +3,9 @@
 
 ghost use Rattle.std.specs.Prelude.{◌<◌, ◌≤◌};
 
-use crate::readings::{CLEAR, FIRST, Painted, marked_beside, marked_within, paint_page, read_on, turned};
+use crate::readings::{
+    CLEAR, FIRST, Painted, marked_beside, marked_within, paint_page, read_on, turned,
+};
 use std::alloc::Global;
 use std::test::Fail;
 use vx_bits::BitPage;
@@ -76,7 +78,13 @@ fn show_row(lie: Lie, row: &[u8], y: u32, scan: &mut BitPage)
 }
 
 /// The scan of a page that lies so in a frame.
-fn scan_of(alloc: Global, page: &BitPage, lie: Lie, width: u32, height: u32) -> Result<BitPage, Fail>
+fn scan_of(
+    alloc: Global,
+    page: &BitPage,
+    lie: Lie,
+    width: u32,
+    height: u32,
+) -> Result<BitPage, Fail>
     requires width { (0 < width) × (width ≤ 4096) }
     requires height { (0 < height) × (height ≤ 4096) }
 {
@@ -143,7 +151,10 @@ fn a_legal_page_is_read_up_to_the_last_corner(rt: HostRuntime) -> Result<(), Fai
     };
     let page = paint_page(alloc, legal)?;
     for (lie, begins) in [
-        (moved(60, 31), "page 1 card 0 side 1 kind precinct\nborder 116,104 165,104 "),
+        (
+            moved(60, 31),
+            "page 1 card 0 side 1 kind precinct\nborder 116,104 165,104 ",
+        ),
         (moved(61, 31), "page 1 fault 2.1 NoCorner\n"),
         (moved(60, 32), "page 1 fault 2.1 NoCorner\n"),
     ] {
