@@ -1,5 +1,5 @@
 -- What a command wrote, as one text: the texts of its acts in order, so far as the acts are done.
-use Rattle.std.specs.Prelude.{◌≡◌, ℕ, Bool, true, false, List, Ok, Err}
+use Rattle.std.specs.Prelude.{◌≡◌, ℕ, Bool, true, false, List, Err}
 use Rattle.std.specs.List.{flat_map}
 use Rattle.vx_io.specs.Outside.{Took, TookFront}
 use Rattle.vx_command.specs.declared.halt.Halt.TheVariants.{ReadFault, WriteFault, KeeperFault, NoMemory}

@@ -1,12 +1,11 @@
 -- Images that fit printed pages, and their blocks among the texts of all images.
-use Rattle.std.proofs.Common.{◌≡◌, ◌+◌, ◌<◌, ◌⊎◌, inl, inr, ℕ, Bool, List, [], ◌∷◌, ◌++◌, length, take, drop, map, codes, Option, Some, None, Result, Ok, Err, arith, refl, sym, ap, ap₂, subst, ◌∙◌, append_assoc}
+use Rattle.std.proofs.Common.{◌≡◌, ◌+◌, ◌<◌, ◌⊎◌, inl, inr, ℕ, Bool, List, [], ◌∷◌, ◌++◌, length, take, drop, codes, Option, Some, None, Result, Ok, Err, arith, refl, sym, ap, ap₂, subst, ◌∙◌, append_assoc}
 use Rattle.std.specs.Prelude.{All, slice_get}
 use Rattle.std.specs.List.{flat_map}
 use Rattle.std.proofs.lemmas.Grind.{flat_map-append}
 use Rattle.std.proofs.lemmas.List.{take-append-drop, drop_more, length-take-le}
 use Rattle.std.proofs.lemmas.List.Elements.{All-nil, All-append}
 use Rattle.std.proofs.lemmas.Option.{slice_get_within, get_or_from_slice_get}
-use Rattle.vx_base.specs.Results.{◌>>=◌}
 use Rattle.vx_base.proofs.Results.{bind_ok}
 use Rattle.vx_plane.specs.Plane.{Page}
 use Rattle.vx_grid.specs.declared.state.State.{State}
@@ -25,11 +24,9 @@ use Rattle.vx_pbm.specs.Images.{Images, images_of, IsWholePage, ImagesAreWhole}
 use Rattle.vx_scan_model.specs.declared.reading.PageReading.{PageReading}
 use Rattle.vx_scan_model.specs.declared.fault.PageFault.{PageFault}
 use Rattle.vx_scan_model.specs.Named.{named_plan, CodesNamePlans}
-use Rattle.vx_scan_model.specs.Reading.{reading_of}
-use Rattle.vx_scan_model.specs.Fits.{FitsUpright, Fits, state_of_mark, IsReadAs, FittingScansAreRead}
+use Rattle.vx_scan_model.specs.Fits.{FitsUpright, IsReadAs, FittingScansAreRead}
 use Rattle.vx_command.specs.declared.halt.Halt.{Halt}
-use Rattle.vx_command.specs.Acts.{Answer, Outcome, text_of, goes_on, taking, input_of, input_limit}
-use Rattle.vx_command.specs.Done.{Taken, Held, IsDone}
+use Rattle.vx_command.specs.Acts.{Outcome, text_of, goes_on, taking, input_of, input_limit}
 use Rattle.vx_command.specs.Elections.{election_read, election_in, plans_in, once_planned}
 use Rattle.vx_command.specs.Texts.{Wrote, texts_of, TextsInOrder}
 use Rattle.vx_command_read.specs.ReadingText.{line_of, page_line, border_line, bubble_lines, block_text, bubbles_on, reading_text, image_text}

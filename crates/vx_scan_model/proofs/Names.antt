@@ -1,5 +1,5 @@
 -- The code of a printed page names its plan.
-use Rattle.std.proofs.Common.{◌≡◌, ◌≤◌, ◌-◌, ℕ, true, false, if◌then◌else◌, Ok, Err, refl, ap, ◌∙◌, arith}
+use Rattle.std.proofs.Common.{◌≡◌, ◌≤◌, ◌-◌, true, false, if◌then◌else◌, Ok, Err, refl, ap, ◌∙◌, arith}
 use Rattle.std.specs.Prelude.{slice_get, None, ◌==◌}
 use Rattle.vx_base.proofs.Numbers.{equal-yes, equal-no}
 use Rattle.vx_code.specs.Code.{tag_of}
