@@ -3,6 +3,7 @@ ghost use Rattle.vx_io.specs.Outside.{Files};
 ghost use Rattle.vx_command.specs.Devices.{LeavesInputs, LeavesKeeper, LeavesSink, writes_nothing};
 ghost use Rattle.vx_command.specs.Done.{IsDone};
 ghost use Rattle.vx_command.specs.Status.{answer_of};
+ghost use Rattle.vx_command_read.specs.Margin.{ReadTellsWhatFits};
 ghost use Rattle.vx_app.specs.declared.command.Command.{Command as CommandOf};
 ghost use Rattle.vx_app.specs.Words.{IsSound, NoCommand, Spells};
 ghost use Rattle.vx_app.specs.Outcome.{outcome_of, takes_first, uses_keeper};
@@ -13,7 +14,7 @@ use std::alloc::Global;
 use std::thread::Threads;
 use vx_command::{Halt, Status, acts_in_order, status_of};
 use vx_command_print::print;
-use vx_command_read::read;
+use vx_command_read::{fitting_scans_are_told, read};
 use vx_io::{Inputs, Keeper, Sink, Words};
 
 /// Does a command.
@@ -43,15 +44,8 @@ fn obey<I: Inputs, S: Sink, K: Keeper>(
     }
 }
 
-/// Does a command, whole: reads its words, takes its inputs, writes what it writes and keeps what
-/// it keeps.
-///
-/// Where the inputs tell what they hold, and the keeper if the command uses it, the acts of the
-/// command's outcome are done in order: all of them, and the status is the outcome's; or up to one at
-/// which a device failed, with that device's fault as the status, or before which memory ran out. A
-/// device's count of faults rises where the status is its fault, and stands still otherwise.
-pub fn run<R: Threads + Sync, I: Inputs, S: Sink, K: Keeper>(
-    _rt: &R,
+/// Does the command that the words spell.
+fn run_words<I: Inputs, S: Sink, K: Keeper>(
     alloc: Global,
     words: &Words,
     inputs: &mut I,
@@ -81,4 +75,46 @@ pub fn run<R: Threads + Sync, I: Inputs, S: Sink, K: Keeper>(
         Ok(None) => Status::Usage,
         Ok(Some(command)) => status_of(obey(alloc, command, inputs, out, keeper)),
     }
+}
+
+/// Does a command, whole: reads its words, takes its inputs, writes what it writes and keeps what
+/// it keeps.
+///
+/// Where the inputs tell what they hold, and the keeper if the command uses it, the acts of the
+/// command's outcome are done in order: all of them, and the status is the outcome's; or up to one at
+/// which a device failed, with that device's fault as the status, or before which memory ran out. A
+/// device's count of faults rises where the status is its fault, and stands still otherwise. What `read`
+/// writes tells each image that fits a printed page with some marks as that page with those marks.
+pub fn run<R: Threads + Sync, I: Inputs, S: Sink, K: Keeper>(
+    _rt: &R,
+    alloc: Global,
+    words: &Words,
+    inputs: &mut I,
+    out: &mut S,
+    keeper: &mut K,
+) -> Status
+    ensures usage { (result ≡ Status.Usage) ↔ NoCommand words.now }
+    ensures done { (files : Files) → I.held inputs.old ≡ Some files →
+        (command : CommandOf) → Spells words.now command →
+        (records : List (List ℕ)) → (uses_keeper command ≡ true → K.held keeper.old ≡ Some records) →
+        IsDone (outcome_of command files records)
+        (S.taken out.old) (S.taken out.new) (K.held keeper.old) (K.held keeper.new) (answer_of result) }
+    // What halts the command before its first text comes before anything is written.
+    ensures nothing_written { (command : CommandOf) → Spells words.now command →
+        writes_nothing (takes_first command) (answer_of result) ≡ true →
+        S.taken out.new ≡ S.taken out.old }
+    ensures usage_writes_nothing { result ≡ Status.Usage → S.taken out.new ≡ S.taken out.old }
+    ensures inputs { LeavesInputs (I.held inputs.old) (I.held inputs.new)
+        (I.faults inputs.old) (I.faults inputs.new) (answer_of result) }
+    ensures sink { LeavesSink (S.faults out.old) (S.faults out.new) (answer_of result) }
+    ensures keeper { LeavesKeeper (K.faults keeper.old) (K.faults keeper.new) (answer_of result) }
+    ensures keeper_held { K.held keeper.new ≡ K.held keeper.old }
+    // Each image of the scans that fits a printed page of the election with some marks, as it lies or
+    // turned, is told as that page with those marks.
+    ensures margin { (files : Files) → I.held inputs.old ≡ Some files →
+        (election : List ℕ) (scans : List (List ℕ)) → Spells words.now (Command.Read election scans) →
+        ReadTellsWhatFits election scans files (S.taken out.old) (S.taken out.new) (answer_of result) }
+{
+    fitting_scans_are_told();
+    run_words(alloc, words, inputs, out, keeper)
 }

@@ -6,4 +6,5 @@ pub mod Devices
 pub mod Steps
 pub mod Status
 pub mod Laws
+pub mod Texts
 pub mod Kinds

@@ -2,6 +2,7 @@
 //! that calls one has its laws among the facts of that call, and hands them to its lemmas.
 
 ghost use Rattle.vx_command.specs.Laws.{ActLaws, StepLaws};
+ghost use Rattle.vx_command.specs.Texts.{TextsInOrder};
 
 /// Acts that are done, or broken off, and then the rest of a command.
 pub fn acts_in_order()
@@ -11,4 +12,9 @@ pub fn acts_in_order()
 /// A step that gives a command something to go on with, or halts it.
 pub fn steps_in_order<T>()
     ensures { StepLaws T }
+{}
+
+/// However far a command has come, it wrote the texts of its acts in order.
+pub fn texts_in_order()
+    ensures { TextsInOrder }
 {}

@@ -18,7 +18,7 @@ mod writing;
 
 pub use halt::{Halt, halt_of_bitmap, halt_of_card};
 pub use kinds::kind_word;
-pub use laws::{acts_in_order, steps_in_order};
+pub use laws::{acts_in_order, steps_in_order, texts_in_order};
 pub use plans::plan_all;
 pub use status::{Message, Status, status_of};
 pub use taking::{INPUT_LIMIT, take_election, take_input};

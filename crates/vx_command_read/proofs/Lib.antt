@@ -1,3 +1,4 @@
 pub mod ReadingTexts
 pub mod ImageActs
 pub mod ScanActs
+pub mod Told

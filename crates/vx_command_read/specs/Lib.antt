@@ -1,3 +1,4 @@
 pub mod ReadingText
 pub mod Outcome
 pub mod Scans
+pub mod Margin

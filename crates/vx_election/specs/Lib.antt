@@ -10,3 +10,4 @@ pub mod Settings
 pub mod Papers
 pub mod Reading
 pub mod FaultTexts
+pub mod Laws

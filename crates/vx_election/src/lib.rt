@@ -12,6 +12,7 @@ mod date;
 mod directory;
 mod fault;
 mod ids;
+mod laws;
 mod members;
 mod names;
 mod paper;
@@ -21,6 +22,7 @@ mod settings;
 mod styles;
 
 pub use fault::ElectionFault;
+pub use laws::defined_elections_are_valid;
 pub use reading::read_election;
 pub use vx_election_model::{
     Choice, Choices, Contest, Contests, Election, Indexes, Named, NamedList, Reason, ReasonSet,

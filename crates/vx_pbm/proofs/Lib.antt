@@ -8,3 +8,4 @@ pub mod Plains
 pub mod Steps
 pub mod Walks
 pub mod Whole
+pub mod WholePages

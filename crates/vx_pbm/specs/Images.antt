@@ -1,5 +1,5 @@
 -- The images of bytes: raw images one after another with nothing between, or one plain image.
-use Rattle.std.specs.Prelude.{◌≡◌, ℕ, zero, suc, ◌+◌, ◌==◌, ◌&&◌, Bool, true, false, not, List, [], ◌∷◌, ◌++◌, length, drop, if◌then◌else◌, MatchBool, Option, Some, None, option_map, Result, Ok, Err}
+use Rattle.std.specs.Prelude.{◌≡◌, All, ℕ, zero, suc, ◌+◌, ◌==◌, ◌&&◌, Bool, true, false, not, List, [], ◌∷◌, ◌++◌, length, drop, if◌then◌else◌, MatchBool, Option, Some, None, option_map, Result, Ok, Err}
 use Rattle.vx_base.specs.Results.{◌>>=◌}
 use Rattle.vx_plane.specs.Plane.{Page, page_of, dark_at}
 use Rattle.vx_pbm.specs.declared.fault.PbmFault.{PbmFault}
@@ -126,6 +126,10 @@ JoinsRawImages = (front rest : List ℕ) → AreRaw front → is_plain rest ≡ 
 pub record IsWholePage (page : Page) : Type 0 where
   pub whole : page ≡ page_of page.width page.height (dark_at page)
   pub sized : IsSized page.width page.height
+
+-- the images of bytes are such pages
+abbrev pub ImagesAreWhole : Type 0
+ImagesAreWhole = (bytes : List ℕ) → All IsWholePage (images_of bytes).pages
 
 -- what is written of a page is read as that page alone
 abbrev pub ReadsBack : Type 0

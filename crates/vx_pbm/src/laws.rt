@@ -1,6 +1,6 @@
 //! Laws of the images of bytes. These functions do no work; their contracts are the laws.
 
-ghost use Rattle.vx_pbm.specs.Images.{JoinsRawImages, ReadsBack, WalksAllImages};
+ghost use Rattle.vx_pbm.specs.Images.{ImagesAreWhole, JoinsRawImages, ReadsBack, WalksAllImages};
 
 use vx_bits::rasters_show_their_pages;
 
@@ -21,4 +21,9 @@ pub fn what_is_written_reads_back()
 /// images of the bytes.
 pub fn a_walk_gives_all_images()
     ensures { WalksAllImages }
+{}
+
+/// The images of bytes are pages with all their rows, as wide as they say, of 1 to 4096 pixels each way.
+pub fn images_are_whole()
+    ensures { ImagesAreWhole }
 {}

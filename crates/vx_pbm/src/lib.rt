@@ -22,6 +22,8 @@ mod tests;
 
 pub use fault::PbmFault;
 pub use image::Image;
-pub use laws::{a_walk_gives_all_images, raw_images_join, what_is_written_reads_back};
+pub use laws::{
+    a_walk_gives_all_images, images_are_whole, raw_images_join, what_is_written_reads_back,
+};
 pub use raw::write_p4;
 pub use reader::PbmReader;

@@ -8,6 +8,8 @@ mod elections;
 #[cfg(test)]
 mod layouts;
 #[cfg(test)]
+mod margins;
+#[cfg(test)]
 mod outside;
 #[cfg(test)]
 mod painting;

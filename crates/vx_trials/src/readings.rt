@@ -27,13 +27,13 @@ const LEGAL_BORDER: &str =
     "border 56,73 105,73 153,73 201,73 249,73 297,73 345,73 393,73 441,73 489,73 537,73 585,73 633,73 681,73 729,73 777,73 825,73 873,73 921,73 969,73 1017,73 1065,73 1113,73 1161,73 1209,73 1257,73 1305,73 1353,73 1401,73 1449,73 1497,73 1545,73 1593,73 1641,73 1641,125 1641,177 1641,229 1641,281 1641,333 1641,385 1641,437 1641,489 1641,541 1641,593 1641,645 1641,697 1641,749 1641,801 1641,853 1641,905 1641,957 1641,1009 1641,1061 1641,1113 1641,1165 1641,1217 1641,1269 1641,1321 1641,1373 1641,1425 1641,1477 1641,1529 1641,1581 1641,1633 1641,1685 1641,1737 1641,1789 1641,1841 1641,1893 1641,1945 1641,1997 1641,2049 1641,2101 1641,2153 1641,2205 1641,2257 1641,2309 1641,2361 1641,2413 1641,2465 1641,2517 1641,2569 1641,2621 1641,2673 1641,2725 57,125 57,177 57,229 57,281 57,333 57,385 57,437 57,489 57,541 57,593 57,645 57,697 57,749 57,801 57,853 57,905 57,957 57,1009 57,1061 57,1113 57,1165 57,1217 57,1269 57,1321 57,1373 57,1425 57,1477 57,1529 57,1581 57,1633 57,1685 57,1737 57,1789 57,1841 57,1893 57,1945 57,1997 57,2049 57,2101 57,2153 57,2205 57,2257 57,2309 57,2361 57,2413 57,2465 57,2517 57,2569 57,2621 57,2673 57,2725 105,2725 153,2725 201,2725 249,2725 297,2725 345,2725 393,2725 441,2725 489,2725 537,2725 585,2725 633,2725 681,2725 729,2725 777,2725 825,2725 873,2725 921,2725 969,2725 1017,2725 1065,2725 1113,2725 1161,2725 1209,2725 1257,2725 1305,2725 1353,2725 1401,2725 1449,2725 1497,2725 1545,2725 1593,2725\n";
 
 /// The first page without a mark.
-const CLEAR: &str = "bubble 0 0 0 0 clear\nbubble 1 0 1 0 clear\n";
+pub(crate) const CLEAR: &str = "bubble 0 0 0 0 clear\nbubble 1 0 1 0 clear\n";
 
 /// What is painted on a page: its paper, which page of the card, and the card, the page and the tag of
 /// its code.
 #[derive(Clone, Copy)]
-struct Painted {
-    paper: Paper,
+pub(crate) struct Painted {
+    pub(crate) paper: Paper,
     page: usize,
     card: u32,
     number: u32,
@@ -41,7 +41,7 @@ struct Painted {
 }
 
 /// The first page.
-const FIRST: Painted = Painted {
+pub(crate) const FIRST: Painted = Painted {
     paper: Paper::Letter,
     page: 0,
     card: 0,
@@ -61,7 +61,7 @@ fn tag_on(election: &Election, is_other: bool) -> u32
 }
 
 /// A page of the town's card.
-fn paint_page(alloc: Global, painted: Painted) -> Result<BitPage, Fail> {
+pub(crate) fn paint_page(alloc: Global, painted: Painted) -> Result<BitPage, Fail> {
     let election = town_on(alloc, painted.paper)?;
     let plan = plan_card(alloc, &election, 0).map_err(|_| "no plan")?;
     let page = plan.pages.as_slice().get(painted.page).ok_or("no page")?;
@@ -82,7 +82,7 @@ fn read_text(alloc: Global, page: &BitPage) -> Result<Vec<u8>, Fail> {
 }
 
 /// The text that `read` writes of a page of the town on a paper.
-fn read_on(alloc: Global, paper: Paper, page: &BitPage) -> Result<Vec<u8>, Fail> {
+pub(crate) fn read_on(alloc: Global, paper: Paper, page: &BitPage) -> Result<Vec<u8>, Fail> {
     let definition = definition_on(alloc, paper)?;
     let mut scan = Bytes::new(alloc);
     write_p4(&page.view(), &mut scan)?;
@@ -113,7 +113,7 @@ fn block(alloc: Global, side: u32, bubbles: &str) -> Result<String, Fail> {
 }
 
 /// The first page, with 19 pixels within the second bubble and so many beside it.
-fn marked_beside(alloc: Global, beside: u32) -> Result<BitPage, Fail> {
+pub(crate) fn marked_beside(alloc: Global, beside: u32) -> Result<BitPage, Fail> {
     let mut page = paint_page(alloc, FIRST)?;
     page.darken(246, 524, 10, 1);
     page.darken(246, 525, 9, 1);
@@ -122,7 +122,7 @@ fn marked_beside(alloc: Global, beside: u32) -> Result<BitPage, Fail> {
 }
 
 /// The first page, with 87 pixels within the second bubble, and 12 of its outline light.
-fn marked_within(alloc: Global) -> Result<BitPage, Fail> {
+pub(crate) fn marked_within(alloc: Global) -> Result<BitPage, Fail> {
     let mut page = paint_page(alloc, FIRST)?;
     page.darken(246, 524, 10, 8);
     page.darken(246, 532, 7, 1);
@@ -231,7 +231,7 @@ fn turn_row(page: &BitView<'_>, y: u32, back: &mut BitPage)
 }
 
 /// A page turned by 180 degrees.
-fn turned(alloc: Global, page: &BitPage) -> Result<BitPage, Fail> {
+pub(crate) fn turned(alloc: Global, page: &BitPage) -> Result<BitPage, Fail> {
     let (width, height) = (page.width(), page.height());
     let mut back = BitPage::new(alloc, width, height)?;
     for y in 0..height {
