@@ -32,7 +32,7 @@ const CLEAR: &str = "bubble 0 0 0 0 clear\nbubble 1 0 1 0 clear\n";
 /// What is painted on a page: its paper, which page of the card, and the card, the page and the tag of
 /// its code.
 #[derive(Clone, Copy)]
-struct Painted {
+pub(crate) struct Painted {
     paper: Paper,
     page: usize,
     card: u32,
@@ -41,7 +41,7 @@ struct Painted {
 }
 
 /// The first page.
-const FIRST: Painted = Painted {
+pub(crate) const FIRST: Painted = Painted {
     paper: Paper::Letter,
     page: 0,
     card: 0,
@@ -61,7 +61,7 @@ fn tag_on(election: &Election, is_other: bool) -> u32
 }
 
 /// A page of the town's card.
-fn paint_page(alloc: Global, painted: Painted) -> Result<BitPage, Fail> {
+pub(crate) fn paint_page(alloc: Global, painted: Painted) -> Result<BitPage, Fail> {
     let election = town_on(alloc, painted.paper)?;
     let plan = plan_card(alloc, &election, 0).map_err(|_| "no plan")?;
     let page = plan.pages.as_slice().get(painted.page).ok_or("no page")?;
@@ -231,7 +231,7 @@ fn turn_row(page: &BitView<'_>, y: u32, back: &mut BitPage)
 }
 
 /// A page turned by 180 degrees.
-fn turned(alloc: Global, page: &BitPage) -> Result<BitPage, Fail> {
+pub(crate) fn turned(alloc: Global, page: &BitPage) -> Result<BitPage, Fail> {
     let (width, height) = (page.width(), page.height());
     let mut back = BitPage::new(alloc, width, height)?;
     for y in 0..height {
