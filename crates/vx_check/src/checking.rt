@@ -115,7 +115,8 @@ pub fn check(
     turned_twice_is_as_before();
     certificates_say_what_fits();
     counter.is_a_whole_page();
-    if !reading.turned {
+    let over = reading.turned;
+    if !over {
         return check_upright(election, plans, counter, reading);
     }
     counter.turn();
