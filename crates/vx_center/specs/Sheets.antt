@@ -1,5 +1,6 @@
 -- The sheets that were added.
-use Rattle.std.specs.Prelude.{ℕ, ◌+◌, ◌&&◌, ◌==◌, Bool, List, [], ◌∷◌, ◌++◌, bytes_eq, find, position, Option, Some, None}
+use Rattle.std.specs.Prelude.{ℕ, ◌+◌, ◌&&◌, ◌==◌, Bool, List, [], ◌∷◌, ◌++◌, bytes_eq, find, Option, Some, None}
+use Rattle.std.specs.List.{position_from}
 use Rattle.vx_rules.specs.declared.marks.ContestMarks.{ContestMarks}
 use Rattle.vx_rules.specs.declared.marks.SheetMarks.{SheetMarks}
 use Rattle.vx_events.specs.declared.event.Event.{Event}
@@ -38,7 +39,7 @@ has_key key added = same_key key added.key
 
 -- the place of the sheet with a key, in the order of adding
 abbrev pub place_in : List Event → Key → Option ℕ
-place_in kept key = position (has_key key) (sheets_in kept)
+place_in kept key = position_from (has_key key) 0 (sheets_in kept)
 
 -- the sheet of an added one
 abbrev pub sheet_of : Option Added → Option SheetMarks

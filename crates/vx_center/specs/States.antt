@@ -43,27 +43,28 @@ pub record IsQuiet (kept : List Event) (key : Key) : Type 0 where
   pub undecided : decided_of kept key ≡ []
 
 -- the events are a history of a valid election, and what is kept beside them is what they say
-pub record IsKept (election : Election) (kept : List Event) (entries : List (SheetName × Entry)) : Type 0 where
+pub record IsKept (election : Election) (kept : List Event) (beside : List (SheetName × Entry)) : Type 0 where
   pub valid : IsValid election
   pub history : IsHistory election kept
-  pub entries : entries ≡ map (named_entry kept) (sheets_in kept)
+  pub entries : beside ≡ map (named_entry kept) (sheets_in kept)
+  pub own : (place : ℕ) (added : Added) → slice_get (sheets_in kept) place ≡ Some added → place_in kept added.key ≡ Some place
   pub quiet : (key : Key) → place_in kept key ≡ None → IsQuiet kept key
 
 -- a sheet that was added with a key, as it is found: it fits the election, and its entry says who holds
 -- it and what was decided of it
 pub record IsFound (election : Election) (kept : List Event) (key : Key) (sheet : SheetMarks) (entry : Entry) : Type 0 where
-  pub sheet : sheet_in kept key ≡ Some sheet
+  pub there : sheet_in kept key ≡ Some sheet
   pub fits : is_sheet election sheet ≡ true
-  pub holder : holder_of kept key ≡ entry.holder
-  pub decided : decided_of kept key ≡ entry.decided
+  pub held : holder_of kept key ≡ entry.holder
+  pub ruled : decided_of kept key ≡ entry.decided
 
 -- the sheet at a place in the order of adding, as it is found
 pub record IsAt (election : Election) (kept : List Event) (place : ℕ) (key : Key) (sheet : SheetMarks) (entry : Entry) : Type 0 where
   pub added : Added
   pub there : slice_get (sheets_in kept) place ≡ Some added
-  pub key : added.key ≡ key
-  pub sheet : added.sheet ≡ sheet
-  pub entry : entry_of kept added ≡ entry
+  pub keyed : added.key ≡ key
+  pub read : added.sheet ≡ sheet
+  pub known : entry_of kept added ≡ entry
   pub fits : is_sheet election sheet ≡ true
 
 -- an event gives the sheet with a key to a station, or frees it

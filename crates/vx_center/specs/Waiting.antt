@@ -1,5 +1,5 @@
 -- Which contests wait for a decision, and which is the next. This project's own rules.
-use Rattle.std.specs.Prelude.{◌≡◌, ◌<◌, ◌⊎◌, ℕ, ◌&&◌, ◌||◌, Bool, true, false, not, List, [], ◌∷◌, slice_get, Option, Some, None}
+use Rattle.std.specs.Prelude.{◌≡◌, ◌<◌, ◌≤◌, ◌⊎◌, ℕ, ◌&&◌, ◌||◌, Bool, true, false, not, List, [], ◌∷◌, slice_get, Option, Some, None}
 use Rattle.std.specs.List.{list_any}
 use Rattle.vx_grid.specs.declared.state.State.{State}
 use Rattle.vx_election_model.specs.declared.contest.Contest.{Contest}
@@ -8,11 +8,13 @@ use Rattle.vx_election_model.specs.declared.reason.Reason.TheVariants.{Overvote,
 use Rattle.vx_election_model.specs.declared.reason.ReasonSet.{ReasonSet}
 use Rattle.vx_election_model.specs.Reasons.{has_reason}
 use Rattle.vx_rules.specs.declared.marks.ContestMarks.{ContestMarks}
+use Rattle.vx_rules.specs.declared.marks.SheetMarks.{SheetMarks}
 use Rattle.vx_rules.specs.Reasons.{is_marginal, is_blank_sheet, reasons_of}
 use Rattle.vx_events.specs.declared.event.Event.{Event}
 use Rattle.vx_events.specs.declared.decision.Decision.{Decision}
 use Rattle.vx_center.specs.Sheets.{Added, sheets_in}
-use Rattle.vx_center.specs.Decisions.{decisions_of}
+use Rattle.vx_center.specs.declared.decided.Decided.{Decided}
+use Rattle.vx_center.specs.Decisions.{decided_of, decisions_on}
 
 -- whether a set has any reason
 abbrev pub has_any : ReasonSet → Bool
@@ -32,26 +34,34 @@ is_exported contest enabled sheet_blank states decisions =
     is_decided decisions
     || (not (list_any is_marginal states) && not (has_any (reasons_of contest states sheet_blank enabled)))
 
--- the same of what a contest was read as on an added sheet; a contest that the election hasn't is none
-abbrev pub is_exported_on : Election → List Event → Added → ContestMarks → Option Contest → Bool
-is_exported_on election kept added marks None = false
-is_exported_on election kept added marks (Some contest) =
-    is_exported contest election.reasons (is_blank_sheet added.sheet) marks.states
-        (decisions_of kept added.key marks.contest)
+-- the same of a contest of a sheet of which so much was decided; a contest that the election hasn't is
+-- never exported
+abbrev pub exports_with : Election → Bool → List Decision → List State → Option Contest → Bool
+exports_with election sheet_blank decisions states None = false
+exports_with election sheet_blank decisions states (Some contest) =
+    is_exported contest election.reasons sheet_blank states decisions
+
+-- whether a contest of a sheet of which so much was decided is exported
+abbrev pub exports_by : Election → Bool → List Decided → ContestMarks → Bool
+exports_by election sheet_blank decided marks =
+    exports_with election sheet_blank (decisions_on marks.contest decided) marks.states
+        (slice_get election.contests marks.contest)
 
 -- whether a contest of an added sheet is exported
 abbrev pub exports : Election → List Event → Added → ContestMarks → Bool
-exports election kept added marks = is_exported_on election kept added marks (slice_get election.contests marks.contest)
+exports election kept added marks =
+    exports_by election (is_blank_sheet added.sheet) (decided_of kept added.key) marks
 
 -- whether a contest of a sheet waits, if the sheet has so many
-abbrev pub waits_in : Election → List Event → Added → Option ContestMarks → Bool
-waits_in election kept added None = false
-waits_in election kept added (Some marks) = not (exports election kept added marks)
+abbrev pub waits_by : Election → SheetMarks → List Decided → Option ContestMarks → Bool
+waits_by election sheet decided None = false
+waits_by election sheet decided (Some marks) = not (exports_by election (is_blank_sheet sheet) decided marks)
 
--- whether a contest of a sheet waits, if so many were added
+-- whether a contest of a sheet waits, if so many sheets were added
 abbrev pub waits_on : Election → List Event → ℕ → Option Added → Bool
 waits_on election kept contest None = false
-waits_on election kept contest (Some added) = waits_in election kept added (slice_get added.sheet.contests contest)
+waits_on election kept contest (Some added) =
+    waits_by election added.sheet (decided_of kept added.key) (slice_get added.sheet.contests contest)
 
 -- whether the contest at a place of a sheet waits; the sheet is known by its place in the order of adding
 abbrev pub waits_at : Election → List Event → ℕ → ℕ → Bool
@@ -82,3 +92,33 @@ pub record IsFirstWaiting (election : Election) (kept : List Event) (after : Opt
 abbrev pub IsNextWaiting : Election → List Event → Option (ℕ × ℕ) → Option (ℕ × ℕ) → Type 0
 IsNextWaiting election kept after None = NothingWaits election kept after
 IsNextWaiting election kept after (Some next) = IsFirstWaiting election kept after next
+
+-- no number from one on passes
+pub record NoneFrom (test : ℕ → Bool) (from : ℕ) : Type 0 where
+  pub none : (number : ℕ) → from ≤ number → test number ≡ false
+
+-- the first number from one on that passes
+pub record IsFirstFrom (test : ℕ → Bool) (from next : ℕ) : Type 0 where
+  pub reached : from ≤ next
+  pub passes : test next ≡ true
+  pub before : (number : ℕ) → from ≤ number → number < next → test number ≡ false
+
+-- the first number from one on that passes, if there is one
+abbrev pub FirstFrom : (ℕ → Bool) → ℕ → Option ℕ → Type 0
+FirstFrom test from None = NoneFrom test from
+FirstFrom test from (Some next) = IsFirstFrom test from next
+
+-- nothing waits from a sheet on
+pub record NothingFrom (election : Election) (kept : List Event) (from : ℕ) : Type 0 where
+  pub none : (sheet contest : ℕ) → from ≤ sheet → waits_at election kept sheet contest ≡ false
+
+-- the first that waits from a sheet on
+pub record IsFirstSheet (election : Election) (kept : List Event) (from : ℕ) (next : ℕ × ℕ) : Type 0 where
+  pub reached : from ≤ next.0
+  pub waits : waits_at election kept next.0 next.1 ≡ true
+  pub first : (sheet contest : ℕ) → from ≤ sheet → IsBefore sheet contest next.0 next.1 → waits_at election kept sheet contest ≡ false
+
+-- what waits first from a sheet on, if anything does
+abbrev pub FirstSheetFrom : Election → List Event → ℕ → Option (ℕ × ℕ) → Type 0
+FirstSheetFrom election kept from None = NothingFrom election kept from
+FirstSheetFrom election kept from (Some next) = IsFirstSheet election kept from next

@@ -1,4 +1,4 @@
-ghost use Rattle.std.specs.Prelude.{◌≡◌, ◌++◌, ◌∷◌, [], ℕ, IfOk, IsSome, MatchOption, OnErr, OnOk, slice_get};
+ghost use Rattle.std.specs.Prelude.{◌≡◌, ◌++◌, ◌∷◌, [], ℕ, IfOk, ◌≤◌, IsSome, MatchOption, OnErr, OnOk, length, slice_get};
 ghost use Rattle.vx_election_model.specs.Valid.{IsValid};
 ghost use Rattle.vx_events.specs.Fits.{fits as fits_of, Fits};
 ghost use Rattle.vx_rules.specs.declared.marks.SheetMarks.{SheetMarks};
@@ -43,6 +43,7 @@ impl<'e> Model for Center<'e> {
 }
 
 /// A sheet that was added: its key, what it was read as, and what is kept beside it.
+#[derive(Clone, Copy)]
 pub(crate) struct Found<'a> {
     pub(crate) key: &'a Key,
     pub(crate) sheet: &'a SheetMarks,
@@ -94,7 +95,7 @@ impl<'e> Center<'e> {
         ensures reply { IfOk result (λ reply. reply ≡ reply_of self.old.election self.old.events event.now) }
         ensures next { OnOk result (self.new ≡ record self.old { events = next_of self.old.election self.old.events event.now }) }
         ensures as_before { OnErr result (self.new ≡ self.old) }
-        ensures no_refusal { OnErr result (reply_of self.old.election self.old.events event.now ≡ Done) }
+        ensures no_refusal { OnErr result (reply_of self.old.election self.old.events event.now ≡ Reply.Done) }
     {
         match self.reply(event) {
             Reply::Done => {
@@ -266,6 +267,14 @@ impl<'e> Center<'e> {
             Some(Event::Add { key, sheet }) => Some(Found { key, sheet, entry }),
             _ => None,
         }
+    }
+
+    /// How many sheets were added.
+    pub(crate) fn sheet_count(&self) -> usize
+        ensures count { result ≡ length (sheets_in self.now.events) }
+        ensures few { result ≤ 1000000 }
+    {
+        self.sheets.len()
     }
 
     /// The election, lent.

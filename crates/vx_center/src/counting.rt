@@ -103,7 +103,7 @@ fn is_read_marked(states: &[State], option: usize) -> bool
 
 /// Whether an option of a contest that was read and last ruled so counts as selected.
 pub(crate) fn is_selected(states: &[State], ruling: Option<&Decision>, option: usize) -> bool
-    ensures { result ≡ list_any (nat_eq option) (selected_by states.now (option_copied ruling)) }
+    ensures { result ≡ list_any (nat_eq option) (selected_by states.now (option_copied ruling.entry)) }
 {
     match ruling {
         Some(Decision::Selections(options)) => is_among(options.as_slice(), option),

@@ -89,7 +89,7 @@ fn name_reply(contest: &Contest, name: &WriteInName) -> Reply
 
 fn has_slot(contest: &Contest, states: &[State], ruling: Option<&Decision>, slot: u32) -> bool
     requires { options_of contest.now ≤ 150 }
-    ensures { result ≡ replies.has_slot contest.now (selected_by states.now (option_copied ruling)) slot }
+    ensures { result ≡ replies.has_slot contest.now (selected_by states.now (option_copied ruling.entry)) slot }
 {
     slot < slots(contest) && is_selected(states, ruling, contest.choices.len() + slot as usize)
 }
@@ -102,7 +102,7 @@ fn slot_reply(
     name: &WriteInName,
 ) -> Reply
     requires { options_of contest.now ≤ 150 }
-    ensures { result ≡ replies.slot_reply contest.now (selected_by states.now (option_copied ruling)) slot name.now }
+    ensures { result ≡ replies.slot_reply contest.now (selected_by states.now (option_copied ruling.entry)) slot name.now }
 {
     if has_slot(contest, states, ruling, slot) {
         name_reply(contest, name)
@@ -120,7 +120,7 @@ fn naming_reply(
 ) -> Reply
     requires few { options_of contest.now ≤ 150 }
     requires states { length states.now ≡ options_of contest.now }
-    ensures { result ≡ replies.naming_reply contest.now states.now (option_copied ruling) slot name.now }
+    ensures { result ≡ replies.naming_reply contest.now states.now (option_copied ruling.entry) slot name.now }
 {
     if ruling.is_some() {
         return slot_reply(contest, states, ruling, slot, name);
@@ -150,7 +150,7 @@ fn decision_reply(
 ) -> Reply
     requires few { options_of contest.now ≤ 150 }
     requires states { length states.now ≡ options_of contest.now }
-    ensures { result ≡ replies.decision_reply contest.now states.now (option_copied ruling) decision.now }
+    ensures { result ≡ replies.decision_reply contest.now states.now (option_copied ruling.entry) decision.now }
 {
     match decision {
         Decision::Selections(options) => selections_reply(contest, options),

@@ -1,0 +1,74 @@
+-- How many there are at most: options, contests, events.
+use Rattle.std.proofs.Common.{◌≡◌, ℕ, zero, suc, ◌+◌, ◌-◌, ◌<◌, ◌≤◌, ◌⊎◌, inl, inr, Bool, true, false, cond, ◌==◌, List, [], ◌∷◌, length, take, map, get_or, refl, sym, ap, ◌∙◌, subst, arith, length-take, length-map}
+use Rattle.std.specs.Prelude.{◌&&◌, All, Option, Some, None, nat_lt, nat_le, slice_get, find}
+use Rattle.std.specs.List.{list_all}
+use Rattle.std.proofs.lemmas.Option.{slice_get_within, slice_get-get_or}
+use Rattle.vx_base.proofs.Booleans.{and-left, and-right, chosen-none}
+use Rattle.vx_base.proofs.Numbers.{equal-from_yes, below-yes, below-from_yes, at_most-yes, at_most-from_yes}
+use Rattle.vx_election_model.specs.declared.contest.Contest.{Contest}
+use Rattle.vx_election_model.specs.declared.choice.Choice.{Choice}
+use Rattle.vx_election_model.specs.declared.election.Election.{Election}
+use Rattle.vx_election_model.specs.Options.{options_of}
+use Rattle.vx_election_model.specs.Valid.{IsContest, HasChoices, HasAnswers, HasCandidates, IsValid}
+use Rattle.vx_rules.specs.declared.marks.ContestMarks.{ContestMarks}
+use Rattle.vx_rules.specs.declared.marks.SheetMarks.{SheetMarks}
+use Rattle.vx_events.specs.declared.event.Event.{Event}
+use Rattle.vx_events.specs.declared.reply.Reply.TheVariants.{Done, Full}
+use Rattle.vx_events.specs.Ascending.{ascends_from, is_ascending}
+use Rattle.vx_events.specs.Fits.{has_options, is_read, contests_of, is_sheet}
+use Rattle.vx_center.specs.Replies.{reply_of, reply_with_room, event_limit}
+use Rattle.vx_center.specs.Histories.{IsHistory}
+
+-- numbers that ascend from one on and stay below another
+ascending-room : (least n : ℕ) (numbers : List ℕ) → ascends_from least numbers ≡ true → find (nat_le n) numbers ≡ None → least ≤ n → least + length numbers ≤ n
+ascending-room least n [] up none room = omega arith
+ascending-room least n (number ∷ numbers) up none room =
+    let parts = chosen-none (nat_le n number) number (find (nat_le n) numbers) none in
+    let low : least ≤ number = at_most-from_yes least number (and-left _ _ up) in
+    let below : number < n = grind (arith, nat_tests, parts.0) in
+    let rest = ascending-room (number + 1) n numbers (and-right (nat_le least number) _ up) parts.1 (omega arith) in
+    omega arith
+
+pub ascending-few : (n : ℕ) (numbers : List ℕ) → is_ascending numbers ≡ true → find (nat_le n) numbers ≡ None → length numbers ≤ n
+ascending-few n numbers up none = let room = ascending-room 0 n numbers up none (omega arith) in omega arith
+
+either-le : (b : Bool) (m n most : ℕ) → m ≤ most → n ≤ most → cond b m n ≤ most
+either-le true m n most h k = h
+either-le false m n most h k = k
+
+few-choices : (is_yes_no : Bool) (contest : Contest) → HasChoices is_yes_no contest → length contest.choices ≤ 100
+few-choices true contest has = let two = ap length has.answers.2.0 in omega (arith, two)
+few-choices false contest has = has.few
+
+-- a valid contest has at most 150 options
+pub few-options : (election : Election) (number : ℕ) (contest : Contest) → IsValid election → slice_get election.contests number ≡ Some contest → options_of contest ≤ 150
+few-options election number contest valid there =
+    let is = subst (IsContest (length election.parties) (length election.districts)) (get_or_from_slice_get election.contests number contest contest there)
+        (valid.contests.each number contest (slice_get_within election.contests number contest there)) in
+    omega (arith, few-choices contest.is_yes_no contest is.choices, is.seats.1, either-le contest.write_ins contest.seats 0 50 is.seats.1 (omega arith))
+
+contest-below : (election : Election) (marks : ContestMarks) → is_read election marks ≡ true → marks.contest < length election.contests
+contest-below election marks read = by (slice_get election.contests marks.contest) refl
+  where
+    by : (o : Option Contest) → slice_get election.contests marks.contest ≡ o → marks.contest < length election.contests
+    by None e = let no = sym (ap (λ (o : Option Contest). has_options o (length marks.states)) e) ∙ read in absurd cc
+    by (Some contest) e = slice_get_within election.contests marks.contest contest e
+
+contests-room : (election : Election) (least : ℕ) (list : List ContestMarks) → ascends_from least (contests_of list) ≡ true → list_all (is_read election) list ≡ true → least ≤ length election.contests → least + length list ≤ length election.contests
+contests-room election least [] up read room = omega arith
+contests-room election least (marks ∷ list) up read room =
+    let low : least ≤ marks.contest = at_most-from_yes least marks.contest (and-left _ _ up) in
+    let below = contest-below election marks (and-left _ _ read) in
+    let rest = contests-room election (marks.contest + 1) list (and-right (nat_le least marks.contest) _ up) (and-right (is_read election marks) _ read) (omega arith) in
+    omega arith
+
+-- a sheet that fits a valid election has at most 500 contests
+pub few-contests : (election : Election) (sheet : SheetMarks) → IsValid election → is_sheet election sheet ≡ true → length sheet.contests ≤ 500
+few-contests election sheet valid fits =
+    let room = contests-room election 0 sheet.contests (sheet-ascends fits) (sheet-read fits) (omega arith) in
+    omega (arith, room, valid.contests.few)
+  where
+    sheet-read : is_sheet election sheet ≡ true → list_all (is_read election) sheet.contests ≡ true
+    sheet-read h = and-right _ _ h
+    sheet-ascends : is_sheet election sheet ≡ true → is_ascending (contests_of sheet.contests) ≡ true
+    sheet-ascends h = and-right _ _ (and-left _ _ h)

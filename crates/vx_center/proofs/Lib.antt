@@ -1,0 +1,5 @@
+pub mod Places
+pub mod Adding
+pub mod Keys
+pub mod Following
+pub mod Entries
