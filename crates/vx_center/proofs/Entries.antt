@@ -4,7 +4,7 @@ use Rattle.std.specs.Prelude.{Option, Some, None, slice_get}
 use Rattle.std.specs.Option.{option_map}
 use Rattle.std.specs.List.{position_from}
 use Rattle.std.specs.Map.{values_of}
-use Rattle.std.specs.Layout.Columns.{set_value_at}
+use Rattle.indexmap.specs.IndexMap.{set_value_at}
 use Rattle.std.proofs.lemmas.List.{map_push}
 use Rattle.std.proofs.lemmas.Option.{same_Some, slice_get-map}
 use Rattle.vx_election_model.specs.declared.election.Election.{Election}
@@ -91,7 +91,7 @@ module _ (election : Election) (kept : List Event) (entries : List (SheetName ×
     added-there =
         let is-added = done-asks election kept event asks done in
         let same : is-added.index ≡ place = same_Some _ _ (sym is-added.place ∙ found) in
-        (is-added.added, subst (λ n. slice_get (sheets_in kept) n ≡ Some is-added.added) same is-added.there, sym is-added.key)
+        (is-added.added, subst (λ n. slice_get (sheets_in kept) n ≡ Some is-added.added) same is-added.there, sym is-added.keyed)
 
     -- what is kept of it
     pub entry-there : (old : Entry) → slice_get (values_of entries) place ≡ Some old → entry_of kept added-there.0 ≡ old

@@ -1,13 +1,15 @@
 -- How many there are at most: options, contests, events.
-use Rattle.std.proofs.Common.{◌≡◌, ℕ, zero, suc, ◌+◌, ◌-◌, ◌<◌, ◌≤◌, ◌⊎◌, inl, inr, Bool, true, false, cond, ◌==◌, List, [], ◌∷◌, length, take, map, get_or, refl, sym, ap, ◌∙◌, subst, arith, length-take, length-map}
+use Rattle.std.proofs.Common.{◌≡◌, ℕ, zero, suc, ◌+◌, ◌-◌, ◌%◌, ◌<◌, ◌≤◌, ◌⊎◌, inl, inr, Bool, true, false, cond, ◌==◌, List, [], ◌∷◌, length, take, map, get_or, refl, sym, ap, ◌∙◌, subst, arith, length-take}
 use Rattle.std.specs.Prelude.{◌&&◌, All, Option, Some, None, nat_lt, nat_le, slice_get, find}
 use Rattle.std.specs.List.{list_all}
-use Rattle.std.proofs.lemmas.Option.{slice_get_within, slice_get-get_or}
+use Rattle.std.proofs.lemmas.Option.{slice_get_within, get_or_from_slice_get}
+use Rattle.std.proofs.lemmas.Bool.Decides.{nat_tests}
 use Rattle.vx_base.proofs.Booleans.{and-left, and-right, chosen-none}
 use Rattle.vx_base.proofs.Numbers.{equal-from_yes, below-yes, below-from_yes, at_most-yes, at_most-from_yes}
 use Rattle.vx_election_model.specs.declared.contest.Contest.{Contest}
 use Rattle.vx_election_model.specs.declared.choice.Choice.{Choice}
 use Rattle.vx_election_model.specs.declared.election.Election.{Election}
+use Rattle.vx_election_model.specs.Lists.{card_count}
 use Rattle.vx_election_model.specs.Options.{options_of}
 use Rattle.vx_election_model.specs.Valid.{IsContest, HasChoices, HasAnswers, HasCandidates, IsValid}
 use Rattle.vx_rules.specs.declared.marks.ContestMarks.{ContestMarks}
@@ -37,7 +39,7 @@ either-le true m n most h k = h
 either-le false m n most h k = k
 
 few-choices : (is_yes_no : Bool) (contest : Contest) → HasChoices is_yes_no contest → length contest.choices ≤ 100
-few-choices true contest has = let two = ap length has.answers.2.0 in omega (arith, two)
+few-choices true contest has = let two = ap length has.answers.2 in omega (arith, two)
 few-choices false contest has = has.few
 
 -- a valid contest has at most 150 options
@@ -62,13 +64,51 @@ contests-room election least (marks ∷ list) up read room =
     let rest = contests-room election (marks.contest + 1) list (and-right (nat_le least marks.contest) _ up) (and-right (is_read election marks) _ read) (omega arith) in
     omega arith
 
+abbrev head-of : Election → SheetMarks → Bool
+head-of election sheet = nat_lt sheet.card (card_count election.styles) && (sheet.front % 2 == 1) && nat_lt sheet.front 64
+
+-- what a sheet that fits has
+pub sheet-read : (election : Election) (sheet : SheetMarks) → is_sheet election sheet ≡ true → list_all (is_read election) sheet.contests ≡ true
+sheet-read election sheet h = and-right (head-of election sheet && is_ascending (contests_of sheet.contests)) (list_all (is_read election) sheet.contests) h
+
+pub sheet-ascends : (election : Election) (sheet : SheetMarks) → is_sheet election sheet ≡ true → is_ascending (contests_of sheet.contests) ≡ true
+sheet-ascends election sheet h =
+    and-right (head-of election sheet) (is_ascending (contests_of sheet.contests))
+    (and-left (head-of election sheet && is_ascending (contests_of sheet.contests)) (list_all (is_read election) sheet.contests) h)
+
 -- a sheet that fits a valid election has at most 500 contests
 pub few-contests : (election : Election) (sheet : SheetMarks) → IsValid election → is_sheet election sheet ≡ true → length sheet.contests ≤ 500
 few-contests election sheet valid fits =
-    let room = contests-room election 0 sheet.contests (sheet-ascends fits) (sheet-read fits) (omega arith) in
+    let room = contests-room election 0 sheet.contests (sheet-ascends election sheet fits) (sheet-read election sheet fits) (omega arith) in
     omega (arith, room, valid.contests.few)
+
+nothing-past : (election : Election) (kept : List Event) (event : Event) → reply_of election kept event ≡ Done → length kept < event_limit
+nothing-past election kept event h = by (nat_lt (length kept) event_limit) refl
   where
-    sheet-read : is_sheet election sheet ≡ true → list_all (is_read election) sheet.contests ≡ true
-    sheet-read h = and-right _ _ h
-    sheet-ascends : is_sheet election sheet ≡ true → is_ascending (contests_of sheet.contests) ≡ true
-    sheet-ascends h = and-right _ _ (and-left _ _ h)
+    by : (b : Bool) → nat_lt (length kept) event_limit ≡ b → length kept < event_limit
+    by true e = below-from_yes (length kept) event_limit e
+    by false e =
+        let full : Full event_limit ≡ Done = sym (ap (λ (b : Bool). cond b (reply_with_room election kept event) (Full event_limit)) e) ∙ h in
+        absurd cc
+
+-- a list is empty, or something stands at its last place
+last-place : (kept : List Event) → (length kept ≡ 0) ⊎ ((place : ℕ) × (event : Event) × (slice_get kept place ≡ Some event) × (length kept ≡ place + 1))
+last-place [] = inl refl
+last-place (event ∷ kept) = by (last-place kept)
+  where
+    by : (length kept ≡ 0) ⊎ ((place : ℕ) × (event : Event) × (slice_get kept place ≡ Some event) × (length kept ≡ place + 1))
+        → (suc (length kept) ≡ 0) ⊎ ((place : ℕ) × (one : Event) × (slice_get (event ∷ kept) place ≡ Some one) × (suc (length kept) ≡ place + 1))
+    by (inl none) = inr (0, event, refl, omega (arith, none))
+    by (inr some) = inr (suc some.0, some.1, some.2, omega (arith, some.3))
+
+-- a history is no longer than the limit
+pub few-events : (election : Election) (kept : List Event) → IsHistory election kept → length kept ≤ 1000000
+unfolding event_limit
+few-events election kept history = by (last-place kept)
+  where
+    by : (length kept ≡ 0) ⊎ ((place : ℕ) × (event : Event) × (slice_get kept place ≡ Some event) × (length kept ≡ place + 1)) → length kept ≤ 1000000
+    by (inl none) = omega (arith, none)
+    by (inr some) =
+        let before = nothing-past election (take some.0 kept) some.1 (history.done some.0 some.1 some.2) in
+        let size = length-take some.0 kept in
+        omega (arith, before, size, some.3)

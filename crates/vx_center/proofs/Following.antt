@@ -91,7 +91,7 @@ pub record IsAdded (kept : List Event) (key : Key) : Type 0 where
   pub place : place_in kept key ≡ Some index
   pub sheet : sheet_in kept key ≡ Some added.sheet
   pub there : slice_get (sheets_in kept) index ≡ Some added
-  pub key : key ≡ added.key
+  pub keyed : key ≡ added.key
 
 pub look-up : (kept : List Event) (key : Key) → NotAdded kept key ⊎ IsAdded kept key
 look-up kept key = by (locate (has_key key) 0 (sheets_in kept))
@@ -106,7 +106,7 @@ look-up kept key = by (locate (has_key key) 0 (sheets_in kept))
           place = located.place ∙ ap Some same;
           sheet = ap sheet_of located.found;
           there = located.there;
-          key = same-equal key located.element.key located.passes;
+          keyed = same-equal key located.element.key located.passes;
         })
 
 -- an event that asks something of a sheet: any but an Add
@@ -130,7 +130,7 @@ pub done-asks : (election : Election) (kept : List Event) (event : Event) → As
 done-asks election kept event asks h = by (look-up kept (key_of event))
   where
     by : NotAdded kept (key_of event) ⊎ IsAdded kept (key_of event) → IsAdded kept (key_of event)
-    by (inl no) = absurd (refused election kept event asks no.sheet (with-room election kept event h))
+    by (inl missing) = absurd (refused election kept event asks missing.sheet (with-room election kept event h))
     by (inr is) = is
 
 -- and where an Add is Done it wasn't

@@ -2,7 +2,7 @@
 use Rattle.std.proofs.Common.{◌≡◌, ◌≢◌, ℕ, zero, suc, ◌+◌, ◌<◌, ◌⊎◌, inl, inr, Bool, true, false, cond, List, [], ◌∷◌, ◌++◌, length, map, refl, sym, ap, ap₂, subst, ◌∙◌, arith}
 use Rattle.std.specs.Prelude.{Option, Some, None, nat_lt, slice_get, find, position}
 use Rattle.std.specs.List.{position_from, position_or_len}
-use Rattle.std.specs.Layout.Columns.{set_value_at}
+use Rattle.indexmap.specs.IndexMap.{set_value_at}
 use Rattle.std.proofs.lemmas.Bool.Decides.{nat_tests}
 
 -- no element passes
@@ -80,26 +80,26 @@ position_from-same {X} p q from (x ∷ xs) same =
 -- what is found in front is found there behind which more stands
 pub position_from-front : {X : Type 0} (p : X → Bool) (from : ℕ) (xs ys : List X) (place : ℕ) → position_from p from xs ≡ Some place → position_from p from (xs ++ ys) ≡ Some place
 position_from-front p from [] ys place h = absurd cc
-position_from-front {X} p from (x ∷ xs) ys place h = by (p x) refl
+position_from-front {X} p from (x ∷ xs) ys place h = by (p x) refl (position_from-front p (from + 1) xs ys place)
   where
-    by : (b : Bool) → p x ≡ b → cond (p x) (Some from) (position_from p (from + 1) (xs ++ ys)) ≡ Some place
-    by true e = ap (λ (c : Bool). cond c (Some from) (position_from p (from + 1) (xs ++ ys))) e ∙ sym (ap (λ (c : Bool). cond c (Some from) (position_from p (from + 1) xs)) e) ∙ h
-    by false e =
+    by : (b : Bool) → p x ≡ b → (position_from p (from + 1) xs ≡ Some place → position_from p (from + 1) (xs ++ ys) ≡ Some place) → cond (p x) (Some from) (position_from p (from + 1) (xs ++ ys)) ≡ Some place
+    by true e rest = ap (λ (c : Bool). cond c (Some from) (position_from p (from + 1) (xs ++ ys))) e ∙ sym (ap (λ (c : Bool). cond c (Some from) (position_from p (from + 1) xs)) e) ∙ h
+    by false e rest =
         ap (λ (c : Bool). cond c (Some from) (position_from p (from + 1) (xs ++ ys))) e
-        ∙ position_from-front p (from + 1) xs ys place (sym (ap (λ (c : Bool). cond c (Some from) (position_from p (from + 1) xs)) e) ∙ h)
+        ∙ rest (sym (ap (λ (c : Bool). cond c (Some from) (position_from p (from + 1) xs)) e) ∙ h)
 
 -- what isn't found in front is found behind
 pub position_from-behind : {X : Type 0} (p : X → Bool) (from : ℕ) (xs ys : List X) → position_from p from xs ≡ None → position_from p from (xs ++ ys) ≡ position_from p (from + length xs) ys
 position_from-behind p from [] ys h =
     let same : from ≡ from + 0 = omega arith in ap (λ n. position_from p n ys) same
-position_from-behind {X} p from (x ∷ xs) ys h = by (p x) refl
+position_from-behind {X} p from (x ∷ xs) ys h = by (p x) refl (position_from-behind p (from + 1) xs ys)
   where
-    by : (b : Bool) → p x ≡ b → cond (p x) (Some from) (position_from p (from + 1) (xs ++ ys)) ≡ position_from p (from + suc (length xs)) ys
-    by true e = absurd cc
-    by false e =
+    by : (b : Bool) → p x ≡ b → (position_from p (from + 1) xs ≡ None → position_from p (from + 1) (xs ++ ys) ≡ position_from p (from + 1 + length xs) ys) → cond (p x) (Some from) (position_from p (from + 1) (xs ++ ys)) ≡ position_from p (from + suc (length xs)) ys
+    by true e rest = let some = sym (ap (λ (c : Bool). cond c (Some from) (position_from p (from + 1) xs)) e) ∙ h in absurd cc
+    by false e rest =
         let same : from + 1 + length xs ≡ from + suc (length xs) = omega arith in
         ap (λ (c : Bool). cond c (Some from) (position_from p (from + 1) (xs ++ ys))) e
-        ∙ position_from-behind p (from + 1) xs ys (sym (ap (λ (c : Bool). cond c (Some from) (position_from p (from + 1) xs)) e) ∙ h)
+        ∙ rest (sym (ap (λ (c : Bool). cond c (Some from) (position_from p (from + 1) xs)) e) ∙ h)
         ∙ ap (λ n. position_from p n ys) same
 
 -- what isn't found anywhere isn't found in front

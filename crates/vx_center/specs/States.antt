@@ -1,5 +1,5 @@
 -- What a center keeps beside the events, so that no call looks through them.
-use Rattle.std.specs.Prelude.{◌≡◌, ℕ, ◌-◌, true, List, [], ◌++◌, length, map, replicate, slice_get, Option, Some, None}
+use Rattle.std.specs.Prelude.{◌≡◌, ℕ, ◌-◌, Bool, true, false, List, [], ◌++◌, length, map, replicate, slice_get, Option, Some, None}
 use Rattle.vx_election_model.specs.declared.election.Election.{Election}
 use Rattle.vx_election_model.specs.Valid.{IsValid}
 use Rattle.vx_rules.specs.declared.marks.SheetMarks.{SheetMarks}
@@ -58,6 +58,11 @@ pub record IsFound (election : Election) (kept : List Event) (key : Key) (sheet 
   pub held : holder_of kept key ≡ entry.holder
   pub ruled : decided_of kept key ≡ entry.decided
 
+-- a sheet that wasn't added isn't found, and nobody holds it
+pub record IsUnknown (kept : List Event) (key : Key) : Type 0 where
+  pub missing : sheet_in kept key ≡ None
+  pub free : holder_of kept key ≡ None
+
 -- the sheet at a place in the order of adding, as it is found
 pub record IsAt (election : Election) (kept : List Event) (place : ℕ) (key : Key) (sheet : SheetMarks) (entry : Entry) : Type 0 where
   pub added : Added
@@ -66,6 +71,13 @@ pub record IsAt (election : Election) (kept : List Event) (place : ℕ) (key : K
   pub read : added.sheet ≡ sheet
   pub known : entry_of kept added ≡ entry
   pub fits : is_sheet election sheet ≡ true
+
+-- whether an event adds a sheet
+abbrev pub is_add : Event → Bool
+is_add (Add key sheet) = true
+is_add (Claim station key) = false
+is_add (Release station key) = false
+is_add (Decide station key contest decision) = false
 
 -- an event gives the sheet with a key to a station, or frees it
 abbrev pub HandsTo : Event → Key → Option ℕ → Type 0

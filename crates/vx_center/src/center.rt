@@ -1,4 +1,4 @@
-ghost use Rattle.std.specs.Prelude.{◌≡◌, ◌++◌, ◌∷◌, [], ℕ, IfOk, ◌≤◌, IsSome, MatchOption, OnErr, OnOk, length, slice_get};
+ghost use Rattle.std.specs.Prelude.{◌≡◌, ◌++◌, ◌∷◌, [], ℕ, false, IfNone, IfOk, ◌≤◌, IsSome, MatchOption, OnErr, OnOk, length, slice_get};
 ghost use Rattle.vx_election_model.specs.Valid.{IsValid};
 ghost use Rattle.vx_events.specs.Fits.{fits as fits_of, Fits};
 ghost use Rattle.vx_rules.specs.declared.marks.SheetMarks.{SheetMarks};
@@ -6,7 +6,7 @@ ghost use Rattle.vx_center.specs.Histories.{IsHistory};
 ghost use Rattle.vx_center.specs.Holders.{holder_of};
 ghost use Rattle.vx_center.specs.Replies.{next_of, reply_of};
 ghost use Rattle.vx_center.specs.Sheets.{place_in, sheets_in};
-ghost use Rattle.vx_center.specs.States.{HandsTo, IsAt, IsFound};
+ghost use Rattle.vx_center.specs.States.{HandsTo, IsAt, IsFound, IsUnknown, is_add};
 
 use crate::decided::Decided;
 use crate::entry::SheetEntry;
@@ -48,6 +48,16 @@ pub(crate) struct Found<'a> {
     pub(crate) key: &'a Key,
     pub(crate) sheet: &'a SheetMarks,
     pub(crate) entry: &'a SheetEntry,
+}
+
+/// The key and the sheet of an Add.
+fn added(event: &Event) -> Option<(&Key, &SheetMarks)>
+    ensures { MatchOption result (is_add event.now ≡ false) (λ parts. event.now ≡ Event.Add parts.0.now parts.1.now) }
+{
+    match event {
+        Event::Add { key, sheet } => Some((key, sheet)),
+        Event::Claim { .. } | Event::Release { .. } | Event::Decide { .. } => None,
+    }
 }
 
 impl<'e> Center<'e> {
@@ -226,17 +236,20 @@ impl<'e> Center<'e> {
         ensures as_before { OnErr result (self.new ≡ self.old) }
     {
         let place = self.added_place(key);
-        self.sheets[place].decide(&mut self.events, event, decided)
+        self.sheets[place].decide(&mut self.events, event, decided)?;
+        Ok(())
     }
 
     /// The place of the sheet with a key, in the order of adding.
     fn place(&self, key: &Key) -> Option<usize>
-        ensures { result ≡ place_in self.now.events key.now }
+        ensures place { result ≡ place_in self.now.events key.now }
+        ensures unknown { IfNone result (IsUnknown self.now.events key.now) }
     {
+        let sheets = &self.sheets;
         if key.batch.as_str().len() > 32 {
             return None;
         }
-        self.sheets.get_index_of(&SheetName::of_key(key))
+        sheets.get_index_of(&SheetName::of_key(key))
     }
 
     /// The place of a sheet that was added.
@@ -250,7 +263,7 @@ impl<'e> Center<'e> {
     /// The sheet with a key.
     fn find(&self, key: &Key) -> Option<Found<'_>>
         ensures { MatchOption result
-            (place_in self.now.events key.now ≡ None)
+            (IsUnknown self.now.events key.now)
             (λ found. IsFound self.now.election self.now.events key.now found.sheet.now found.entry.now) }
     {
         self.found(self.place(key)?)
@@ -263,10 +276,8 @@ impl<'e> Center<'e> {
             (λ found. IsAt self.now.election self.now.events place found.key.now found.sheet.now found.entry.now) }
     {
         let (_, entry) = self.sheets.get_index(place)?;
-        match self.events.as_slice().get(entry.at()) {
-            Some(Event::Add { key, sheet }) => Some(Found { key, sheet, entry }),
-            _ => None,
-        }
+        let (key, sheet) = added(self.events.as_slice().get(entry.at())?)?;
+        Some(Found { key, sheet, entry })
     }
 
     /// How many sheets were added.

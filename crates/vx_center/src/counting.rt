@@ -72,11 +72,17 @@ pub(crate) fn name_on(contest: u32, slot: u32, decided: &[Decided]) -> Option<&W
     given
 }
 
+fn names_contest(contest: u32, decided: &[Decided]) -> bool
+    ensures { result ≡ list_any (λ one. one.contest == contest) decided.now }
+{
+    decided.iter().any(|one| one.contest == contest)
+}
+
 /// Whether anything was decided of a contest.
 pub(crate) fn is_decided(contest: u32, decided: &[Decided]) -> bool
     ensures { result ≡ is_decided (decisions_on contest decided.now) }
 {
-    decided.iter().any(|one| one.contest == contest)
+    names_contest(contest, decided)
 }
 
 /// How many write-in slots a contest has.

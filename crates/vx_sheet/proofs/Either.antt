@@ -96,5 +96,5 @@ either-same plan first second h =
 pub either-first : EitherPageFirst
 either-first plan first second sheet h =
     let is = is-pair plan first second sheet h in
-    pair-is plan second first (record { card = sym is.0.card; facing = facing-sym _ _ is.0.facing; alike = alike-sym _ _ is.0.alike })
+    pair-is plan second first (record { card = sym is.0.card; facing = facing-sym first.code.page second.code.page is.0.facing; alike = alike-sym first.code second.code is.0.alike })
     ∙ ap Ok (either-same plan first second is.0.facing ∙ is.1)

@@ -35,24 +35,35 @@ use Rattle.vx_sheet.specs.Laws.{IsOfCard, IsPlanned, SheetsFit}
 use Rattle.vx_sheet.proofs.Either.{IsPair, IsBack, is-pair, back-is, front-first, back-first}
 use Rattle.vx_sheet.proofs.Counted.{count, states-counted, some-counted, none-elsewhere, of-bubble, page-counted, all-or-none}
 
--- some numbers of a range ascend
-kept-ascend : (p : ℕ → Bool) (least from n : ℕ) → least ≤ from → ascends_from least (filter p (range_with_len from n)) ≡ true
-kept-ascend p least from zero h = refl
-kept-ascend p least from (suc n) h = by (p from) (kept-ascend p least (from + 1) n (omega arith)) (kept-ascend p (from + 1) (from + 1) n (omega arith))
+-- what is made of some numbers of a range, each with its number, ascends
+kept-ascend : (p : ℕ → Bool) (f : ℕ → ContestMarks) (least from n : ℕ) → ((k : ℕ) → (f k).contest ≡ k) → least ≤ from
+    → ascends_from least (contests_of (flat_map (λ k. cond (p k) (f k ∷ []) []) (range_with_len from n))) ≡ true
+kept-ascend p f least from zero own h = refl
+kept-ascend p f least from (suc n) own h =
+    by (p from) (kept-ascend p f least (from + 1) n own (omega arith)) (kept-ascend p f (from + 1) (from + 1) n own (omega arith))
   where
-    by : (b : Bool) → ascends_from least (filter p (range_with_len (from + 1) n)) ≡ true → ascends_from (from + 1) (filter p (range_with_len (from + 1) n)) ≡ true
-        → ascends_from least (cond b (from ∷ filter p (range_with_len (from + 1) n)) (filter p (range_with_len (from + 1) n))) ≡ true
-    by true without rest = and-both _ _ (at_most-yes least from h) rest
-    by false without rest = without
+    rest : List ContestMarks
+    rest = flat_map (λ k. cond (p k) (f k ∷ []) []) (range_with_len (from + 1) n)
 
--- what holds of each number that is kept
-kept-hold : (p q : ℕ → Bool) (numbers : List ℕ) → ((n : ℕ) → p n ≡ true → q n ≡ true) → list_all q (filter p numbers) ≡ true
-kept-hold p q [] each = refl
-kept-hold p q (n ∷ numbers) each = by (p n) refl
+    by : (b : Bool) → ascends_from least (contests_of rest) ≡ true → ascends_from (from + 1) (contests_of rest) ≡ true
+        → ascends_from least (contests_of (cond b (f from ∷ []) [] ++ rest)) ≡ true
+    by true without with =
+        ap (λ k. nat_le least k && ascends_from (k + 1) (contests_of rest)) (own from)
+        ∙ and-both _ _ (at_most-yes least from h) with
+    by false without with = without
+
+-- what holds of each that is kept
+kept-hold : (p : ℕ → Bool) (f : ℕ → ContestMarks) (q : ContestMarks → Bool) (numbers : List ℕ) → ((k : ℕ) → p k ≡ true → q (f k) ≡ true)
+    → list_all q (flat_map (λ k. cond (p k) (f k ∷ []) []) numbers) ≡ true
+kept-hold p f q [] each = refl
+kept-hold p f q (n ∷ numbers) each = by (p n) refl (kept-hold p f q numbers each)
   where
-    by : (b : Bool) → p n ≡ b → list_all q (cond (p n) (n ∷ filter p numbers) (filter p numbers)) ≡ true
-    by true e = ap (λ (c : Bool). list_all q (cond c (n ∷ filter p numbers) (filter p numbers))) e ∙ and-both _ _ (each n e) (kept-hold p q numbers each)
-    by false e = ap (λ (c : Bool). list_all q (cond c (n ∷ filter p numbers) (filter p numbers))) e ∙ kept-hold p q numbers each
+    rest : List ContestMarks
+    rest = flat_map (λ k. cond (p k) (f k ∷ []) []) numbers
+
+    by : (b : Bool) → p n ≡ b → list_all q rest ≡ true → list_all q (cond (p n) (f n ∷ []) [] ++ rest) ≡ true
+    by true e holds = ap (λ (c : Bool). list_all q (cond c (f n ∷ []) [] ++ rest)) e ∙ and-both _ _ (each n e) holds
+    by false e holds = ap (λ (c : Bool). list_all q (cond c (f n ∷ []) [] ++ rest)) e ∙ holds
 
 -- there are as many cards as the styles make
 cards-counted : (place : ℕ) (styles : List Style) → length (cards_from place styles) ≡ card_count styles
@@ -83,7 +94,9 @@ stands plan reading is = by reading.code.page refl
     by : (n : ℕ) → reading.code.page ≡ n → StandsAt plan reading
     by zero e = let no : None ≡ Some is.page = sym (ap (page_numbered plan) e) ∙ is.numbered in absurd cc
     by (suc n) e =
-        let there : slice_get plan.pages (suc n - 1) ≡ Some is.page = sym (ap (page_numbered plan) e) ∙ is.numbered in
+        let there : slice_get plan.pages (suc n - 1) ≡ Some is.page =
+        sym (cond-false (suc n == 0) None (slice_get plan.pages (suc n - 1)) (equal-no (suc n) 0 (λ e. absurd (omega arith))))
+        ∙ sym (ap (page_numbered plan) e) ∙ is.numbered in
         let less : suc n - 1 ≡ n = omega arith in
         record {
           page = is.page;
@@ -105,14 +118,16 @@ module _ (numbered-law : PlansAreNumbered) (grid-law : PlansStandOnGrid) (electi
       let page_for = planned.pages.page_for in
       let own-here = planned.pages.each i page (slice_get_within plan.pages i page there) in
       none-elsewhere page_for contest other.page other.bubbles
-          (subst (λ (p : PagePlan). All (λ (bubble : Bubble). page_for bubble.contest ≡ p.page) p.bubbles) (get_or_from_slice_get plan.pages j other page at) (planned.pages.each j page (slice_get_within plan.pages j other at)))
-          (λ e. apart (same-page e))
+      (subst (λ (p : PagePlan). All (λ (bubble : Bubble). page_for bubble.contest ≡ p.page) p.bubbles) (get_or_from_slice_get plan.pages j other page at) (planned.pages.each j page (slice_get_within plan.pages j other at)))
+      (λ e. apart (same-page e))
     where
       page_for : ℕ → ℕ
       page_for = planned.pages.page_for
+
       here : page_for contest ≡ page.page
       here = of-bubble (λ c. page_for c ≡ page.page) contest page.bubbles
           (subst (λ (p : PagePlan). All (λ (bubble : Bubble). page_for bubble.contest ≡ p.page) p.bubbles) (get_or_from_slice_get plan.pages i page page there) (planned.pages.each i page (slice_get_within plan.pages i page there))) has
+
       same-page : page_for contest ≡ other.page → j ≡ i
       same-page e =
           let one = numbered.number i page there in
@@ -127,8 +142,10 @@ module _ (numbered-law : PlansAreNumbered) (grid-law : PlansStandOnGrid) (electi
     where
       on-page : count contest (flat_map (λ (p : PagePlan). options_shown p.bubbles) plan.pages) ≡ count contest (options_shown page.bubbles)
       on-page = page-counted contest plan.pages i page there (elsewhere contest i page there has)
+
       all : count contest (flat_map (λ (p : PagePlan). options_shown p.bubbles) plan.pages) ≡ count contest (flat_map (options_with election.contests) (contests_of_card election card))
       all = ap (count contest) planned.options.each
+
       by : (count contest (flat_map (options_with election.contests) (contests_of_card election card)) ≡ 0)
           ⊎ (count contest (flat_map (options_with election.contests) (contests_of_card election card)) ≡ options_of (contest_at election.contests contest))
           → count contest (options_shown page.bubbles) ≡ options_of (contest_at election.contests contest)
@@ -153,8 +170,8 @@ module _ (numbered-law : PlansAreNumbered) (grid-law : PlansStandOnGrid) (electi
     lengths contest =
         length-append (states_on contest (bubbles_on plan front) front.states) (states_on contest (bubbles_on plan back) back.states)
         ∙ ap₂ (λ (m n : ℕ). m + n)
-            (ap (λ (bubbles : List Bubble). length (states_on contest bubbles front.states)) one.bubbles ∙ states-counted contest one.page.bubbles front.states one.states)
-            (ap (λ (bubbles : List Bubble). length (states_on contest bubbles back.states)) two.bubbles ∙ states-counted contest two.page.bubbles back.states two.states)
+        (ap (λ (bubbles : List Bubble). length (states_on contest bubbles front.states)) one.bubbles ∙ states-counted contest one.page.bubbles front.states one.states)
+        (ap (λ (bubbles : List Bubble). length (states_on contest bubbles back.states)) two.bubbles ∙ states-counted contest two.page.bubbles back.states two.states)
 
     read-here : (contest : ℕ) → is_on plan front back contest ≡ true → is_read election (marks_of plan front back contest) ≡ true
     read-here contest on =
@@ -167,6 +184,7 @@ module _ (numbered-law : PlansAreNumbered) (grid-law : PlansStandOnGrid) (electi
             let every = all-here contest one.place one.page one.there has in
             let whole = lengths contest in
             read-whole contest _ (contest-there contest one.place one.page one.there has) (omega (arith, whole, none, every))
+
         in-back : has_bubble contest (bubbles_on plan back) ≡ true → is_read election (marks_of plan front back contest) ≡ true
         in-back h =
             let has = ap (has_bubble contest) (sym two.bubbles) ∙ h in
@@ -175,47 +193,42 @@ module _ (numbered-law : PlansAreNumbered) (grid-law : PlansStandOnGrid) (electi
             let whole = lengths contest in
             read-whole contest _ (contest-there contest two.place two.page two.there has) (omega (arith, whole, none, every))
 
-    kept : List ℕ
-    kept = filter (is_on plan front back) (range_with_len 0 contest_limit)
+    ascend-here : is_ascending (contests_of (sheet_with plan front back).contests) ≡ true
+    ascend-here = kept-ascend (is_on plan front back) (marks_of plan front back) 0 0 contest_limit (λ k. refl) (omega arith)
 
-    ascend-here : is_ascending (contests_of (map (marks_of plan front back) (filter (is_on plan front back) (range_with_len 0 contest_limit)))) ≡ true
-    ascend-here =
-        ap is_ascending (map-map (λ (marks : ContestMarks). marks.contest) (marks_of plan front back) (filter (is_on plan front back) (range_with_len 0 contest_limit)) ∙ map-id _)
-        ∙ kept-ascend (is_on plan front back) 0 0 contest_limit (omega arith)
-
-    all-read : list_all (is_read election) (map (marks_of plan front back) (filter (is_on plan front back) (range_with_len 0 contest_limit))) ≡ true
-    all-read =
-        list_all-map (is_read election) (marks_of plan front back) (filter (is_on plan front back) (range_with_len 0 contest_limit))
-        ∙ kept-hold (is_on plan front back) (λ c. is_read election (marks_of plan front back c)) (range_with_len 0 contest_limit) read-here
+    all-read : list_all (is_read election) (sheet_with plan front back).contests ≡ true
+    all-read = kept-hold (is_on plan front back) (marks_of plan front back) (is_read election) (range_with_len 0 contest_limit) read-here
 
     -- the sheet of a front and its back
     pub sheet-fits : front.code.card ≡ card → IsBack front.code.page back.code.page → is_sheet election (sheet_with plan front back) ≡ true
     sheet-fits same is =
         let few : front.code.page < 64 = omega (arith, one.numbered, slice_get_within plan.pages one.place one.page one.there, numbered.few) in
         and-both _ _
-            (and-both _ _
-                (and-both _ _
-                    (and-both _ _ (ap (λ n. nat_lt n (card_count election.styles)) same ∙ card-there election card plan planned.planned)
-                        (equal-yes _ _ is.odd))
-                    (below-yes front.code.page 64 few))
-                ascend-here)
-            all-read
+        (and-both _ _
+        (and-both _ _
+        (and-both _ _ (ap (λ n. nat_lt n (card_count election.styles)) same ∙ card-there election card plan planned.planned)
+        (equal-yes _ _ is.odd))
+        (below-yes front.code.page 64 few))
+        ascend-here)
+        all-read
 
 pub fits-election : PlansAreNumbered → PlansStandOnGrid → SheetsFit
 fits-election numbered-law grid-law election plan first second sheet valid planned first-is second-is h =
     or-cases (is_back_of second.code.page first.code.page) (is_back_of first.code.page second.code.page) is.0.facing
     (λ b. let back = back-is _ _ b in
-        ap (is_sheet election) (sym is.1 ∙ front-first plan first second back)
-        ∙ sheet-fits numbered-law grid-law election plan first.code.card valid planned first second one two
-            (λ e. absurd (omega (arith, one.numbered, two.numbered, back.next))) refl back)
+    ap (is_sheet election) (sym is.1 ∙ front-first plan first second back)
+    ∙ sheet-fits numbered-law grid-law election plan first.code.card valid planned first second one two
+    (λ e. absurd (omega (arith, one.numbered, two.numbered, back.next))) refl back)
     (λ b. let back = back-is _ _ b in
-        ap (is_sheet election) (sym is.1 ∙ back-first plan second first back)
-        ∙ sheet-fits numbered-law grid-law election plan first.code.card valid planned second first two one
-            (λ e. absurd (omega (arith, one.numbered, two.numbered, back.next))) (sym is.0.card) back)
+    ap (is_sheet election) (sym is.1 ∙ back-first plan second first back)
+    ∙ sheet-fits numbered-law grid-law election plan first.code.card valid planned second first two one
+    (λ e. absurd (omega (arith, one.numbered, two.numbered, back.next))) (sym is.0.card) back)
   where
     is : IsPair first second × (either_sheet plan first second ≡ sheet)
     is = is-pair plan first second sheet h
+
     one : StandsAt plan first
     one = stands plan first first-is
+
     two : StandsAt plan second
     two = stands plan second second-is

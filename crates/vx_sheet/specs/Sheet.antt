@@ -1,7 +1,7 @@
 -- The sheet of two readings, or why they are none. This project's own rule.
-use Rattle.std.specs.Prelude.{ℕ, ◌+◌, ◌%◌, ◌&&◌, ◌||◌, ◌==◌, Bool, true, false, if◌then◌else◌, List, [], ◌∷◌, ◌++◌, map, filter, Option, Some, None, Result, Ok, Err}
+use Rattle.std.specs.Prelude.{ℕ, ◌+◌, ◌%◌, ◌&&◌, ◌||◌, ◌==◌, Bool, true, false, if◌then◌else◌, List, [], ◌∷◌, ◌++◌, Option, Some, None, Result, Ok, Err}
 use Rattle.std.specs.Bool.{beq}
-use Rattle.std.specs.List.{list_any, range_with_len}
+use Rattle.std.specs.List.{flat_map, list_any, range_with_len}
 use Rattle.vx_grid.specs.declared.kind.Kind.{Kind}
 use Rattle.vx_grid.specs.declared.kind.Kind.TheVariants.{Precinct, Absentee, Provisional, Other}
 use Rattle.vx_grid.specs.declared.state.State.{State}
@@ -30,7 +30,7 @@ same_kind Precinct Precinct = true
 same_kind Absentee Absentee = true
 same_kind Provisional Provisional = true
 same_kind Other Other = true
-same_kind one other = false
+same_kind one another = false
 
 -- two codes are of one kind, and both of test ballots or neither
 abbrev pub are_alike : PageCode → PageCode → Bool
@@ -49,12 +49,17 @@ bubbles_on plan reading = bubbles_of (page_numbered plan reading.code.page)
 abbrev pub has_bubble : ℕ → List Bubble → Bool
 has_bubble contest bubbles = list_any (λ (bubble : Bubble). bubble.contest == contest) bubbles
 
+-- what a bubble was read as, if it is one of the contest's
+abbrev pub state_on : ℕ → Bubble → Option State → List State
+state_on contest bubble None = []
+state_on contest bubble (Some state) = if bubble.contest == contest then state ∷ [] else []
+
 -- what the bubbles of a contest were read as, in order
 abbrev pub states_on : ℕ → List Bubble → List State → List State
 states_on contest [] states = []
 states_on contest (bubble ∷ bubbles) [] = []
 states_on contest (bubble ∷ bubbles) (state ∷ states) =
-    if bubble.contest == contest then state ∷ states_on contest bubbles states else states_on contest bubbles states
+    state_on contest bubble (Some state) ++ states_on contest bubbles states
 
 -- contests have numbers below this one, as an election has no more of them
 unfoldable pub contest_limit : ℕ
@@ -71,6 +76,10 @@ marks_of plan front back contest = record {
   states = states_on contest (bubbles_on plan front) front.states ++ states_on contest (bubbles_on plan back) back.states;
 }
 
+-- the same, if it has a bubble on either page
+abbrev pub marks_if_on : CardPlan → PageReading → PageReading → ℕ → List ContestMarks
+marks_if_on plan front back contest = if is_on plan front back contest then marks_of plan front back contest ∷ [] else []
+
 -- the sheet of a front and its back: the contests with a bubble on either page, in ascending order
 abbrev pub sheet_with : CardPlan → PageReading → PageReading → SheetMarks
 sheet_with plan front back = record {
@@ -78,7 +87,7 @@ sheet_with plan front back = record {
   front = front.code.page;
   kind = front.code.kind;
   test = front.code.test;
-  contests = map (marks_of plan front back) (filter (is_on plan front back) (range_with_len 0 contest_limit));
+  contests = flat_map (marks_if_on plan front back) (range_with_len 0 contest_limit);
 }
 
 -- the sheet of two facing pages, whichever is the front

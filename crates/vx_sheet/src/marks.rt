@@ -1,5 +1,6 @@
-ghost use Rattle.std.specs.Prelude.{◌≡◌, ◌++◌, ◌∷◌, ◌==◌, IfOk, OnOk, filter, map};
-ghost use Rattle.std.specs.List.{range_with_len};
+ghost use Rattle.std.specs.Prelude.{◌≡◌, ◌++◌, IfOk, OnOk};
+ghost use Rattle.std.specs.List.{flat_map, range_with_len};
+ghost use Rattle.std.specs.Option.{option_copied};
 ghost use Rattle.vx_sheet.specs.Sheet as sheet;
 
 use std::alloc::{AllocError, Global};
@@ -29,6 +30,23 @@ fn has_bubble(contest: u32, bubbles: &[Bubble]) -> bool
     bubbles.iter().any(|bubble| bubble.contest == contest)
 }
 
+/// Adds what a bubble was read as, if it is one of the contest's.
+fn add_state(
+    list: &mut Vec<State>,
+    contest: u32,
+    bubble: Bubble,
+    state: Option<&State>,
+) -> Result<(), AllocError>
+    ensures { OnOk result (list.new.items ≡ list.old.items ++ sheet.state_on contest bubble (option_copied state.entry)) }
+{
+    if let Some(state) = state {
+        if bubble.contest == contest {
+            list.push(*state)?;
+        }
+    }
+    Ok(())
+}
+
 /// Adds what the bubbles of a contest were read as, in order.
 fn add_states(
     list: &mut Vec<State>,
@@ -39,11 +57,7 @@ fn add_states(
     ensures { OnOk result (list.new.items ≡ list.old.items ++ sheet.states_on contest bubbles.now states.now) }
 {
     for (place, bubble) in bubbles.iter().enumerate() {
-        if bubble.contest == contest {
-            if let Some(state) = states.get(place) {
-                list.push(*state)?;
-            }
-        }
+        add_state(list, contest, *bubble, states.get(place))?;
     }
     Ok(())
 }
@@ -59,12 +73,46 @@ fn marks_of(
     ensures { IfOk result (λ marks. marks ≡ sheet.marks_of plan.now front.now back.now contest) }
 {
     let mut states = Vec::new(alloc);
-    add_states(&mut states, contest, bubbles_on(plan, front), front.states.as_slice())?;
-    add_states(&mut states, contest, bubbles_on(plan, back), back.states.as_slice())?;
+    add_states(
+        &mut states,
+        contest,
+        bubbles_on(plan, front),
+        front.states.as_slice(),
+    )?;
+    add_states(
+        &mut states,
+        contest,
+        bubbles_on(plan, back),
+        back.states.as_slice(),
+    )?;
     Ok(ContestMarks {
         contest,
         states: States::from_vec(states),
     })
+}
+
+/// Whether a contest has a bubble on either page.
+fn is_on(plan: &CardPlan, front: &PageReading, back: &PageReading, contest: u32) -> bool
+    ensures { result ≡ sheet.is_on plan.now front.now back.now contest }
+{
+    has_bubble(contest, bubbles_on(plan, front)) || has_bubble(contest, bubbles_on(plan, back))
+}
+
+/// Adds what a contest was read as, if it has a bubble on either page.
+fn add_marks(
+    alloc: Global,
+    list: &mut Vec<ContestMarks>,
+    plan: &CardPlan,
+    front: &PageReading,
+    back: &PageReading,
+    contest: u32,
+) -> Result<(), AllocError>
+    ensures { OnOk result (list.new.items ≡ list.old.items ++ sheet.marks_if_on plan.now front.now back.now contest) }
+{
+    if is_on(plan, front, back, contest) {
+        list.push(marks_of(alloc, plan, front, back, contest)?)?;
+    }
+    Ok(())
 }
 
 /// Contests have numbers below this one.
@@ -78,15 +126,11 @@ pub(crate) fn marks_on(
     back: &PageReading,
 ) -> Result<ContestMarksList, AllocError>
     ensures { IfOk result (λ list. list
-        ≡ map (sheet.marks_of plan.now front.now back.now)
-            (filter (sheet.is_on plan.now front.now back.now) (range_with_len 0 sheet.contest_limit))) }
+        ≡ flat_map (sheet.marks_if_on plan.now front.now back.now) (range_with_len 0 sheet.contest_limit)) }
 {
     let mut list = Vec::new(alloc);
     for contest in 0..CONTEST_LIMIT {
-        if has_bubble(contest, bubbles_on(plan, front)) || has_bubble(contest, bubbles_on(plan, back))
-        {
-            list.push(marks_of(alloc, plan, front, back, contest)?)?;
-        }
+        add_marks(alloc, &mut list, plan, front, back, contest)?;
     }
     Ok(ContestMarksList::from_vec(list))
 }
