@@ -53,25 +53,32 @@ module _ (election : Election) (kept : List Event) (entries : List (SheetName ×
     where
       event : Event
       event = Add key sheet
+
       new : Added
       new = record { at = length kept; key = key; sheet = sheet }
+
       sheets-are : sheets_in (kept ++ event ∷ []) ≡ sheets_in kept ++ new ∷ []
       sheets-are = sheets-push kept event
+
       quiet-here : IsQuiet kept key
       quiet-here = is.quiet key (done-adds election kept key sheet done)
+
       new-is : named_entry (kept ++ event ∷ []) new ≡ (name_of_key key, record { at = length kept; holder = None; decided = [] })
       new-is =
           named-alone kept event new (alone-add key key sheet)
           ∙ ap₂ (λ (held : Option ℕ) (decided : List Decided). (name_of_key key, record { at = length kept; holder = held; decided = decided })) quiet-here.free quiet-here.undecided
+
       entries-are : entries ++ (name_of_key key, record { at = length kept; holder = None; decided = [] }) ∷ [] ≡ map (named_entry (kept ++ event ∷ [])) (sheets_in (kept ++ event ∷ []))
       entries-are =
           ap₂ (λ (front : List (SheetName × Entry)) (last : SheetName × Entry). front ++ last ∷ [])
-              (is.entries ∙ sym (map-same (named_entry kept) (named_entry (kept ++ event ∷ [])) (sheets_in kept) (λ i added there. named-alone kept event added (alone-add added.key key sheet))))
-              (sym new-is)
+          (is.entries ∙ sym (map-same (named_entry kept) (named_entry (kept ++ event ∷ [])) (sheets_in kept) (λ i added there. named-alone kept event added (alone-add added.key key sheet))))
+          (sym new-is)
           ∙ sym (map_push (named_entry (kept ++ event ∷ [])) (sheets_in kept) new)
           ∙ ap (map (named_entry (kept ++ event ∷ []))) (sym sheets-are)
+
       none-before : (other : Key) → place_in (kept ++ event ∷ []) other ≡ None → place_in kept other ≡ None
       none-before other none = position_from-none (has_key other) 0 (sheets_in kept) (new ∷ []) (ap (position_from (has_key other) 0) (sym sheets-are) ∙ none)
+
       own-at : (place : ℕ) (added : Added) → ((place < length (sheets_in kept)) × (slice_get (sheets_in kept) place ≡ Some added)) ⊎ ((place ≡ length (sheets_in kept)) × (new ≡ added)) → place_in (kept ++ event ∷ []) added.key ≡ Some place
       own-at place added (inl front) =
           ap (position_from (has_key added.key) 0) sheets-are
@@ -98,10 +105,10 @@ module _ (election : Election) (kept : List Event) (entries : List (SheetName ×
     entry-there old at =
         let there = added-there.1 in
         let values : slice_get (values_of entries) place ≡ Some (entry_of kept added-there.0) =
-            ap (λ (es : List (SheetName × Entry)). slice_get (values_of es) place) is.entries
-            ∙ slice_get-map (λ (e : SheetName × Entry). e.1) (map (named_entry kept) (sheets_in kept)) place
-            ∙ ap (option_map (λ (e : SheetName × Entry). e.1)) (slice_get-map (named_entry kept) (sheets_in kept) place)
-            ∙ ap (λ (o : Option Added). option_map (λ (e : SheetName × Entry). e.1) (option_map (named_entry kept) o)) there in
+        ap (λ (es : List (SheetName × Entry)). slice_get (values_of es) place) is.entries
+        ∙ slice_get-map (λ (e : SheetName × Entry). e.1) (map (named_entry kept) (sheets_in kept)) place
+        ∙ ap (option_map (λ (e : SheetName × Entry). e.1)) (slice_get-map (named_entry kept) (sheets_in kept) place)
+        ∙ ap (λ (o : Option Added). option_map (λ (e : SheetName × Entry). e.1) (option_map (named_entry kept) o)) there in
         same_Some _ _ (sym values ∙ at)
 
     -- an event that changes what is kept of its own sheet alone
@@ -118,20 +125,23 @@ module _ (election : Election) (kept : List Event) (entries : List (SheetName ×
         elsewhere : (i : ℕ) (added : Added) → slice_get (sheets_in kept) i ≡ Some added → i ≢ place → named_entry (kept ++ event ∷ []) added ≡ named_entry kept added
         elsewhere i added there apart =
             named-alone kept event added (alone-apart added.key event (other-apart added.key (key_of event)
-                (λ e. apart (same_Some i place (sym (is.own i added there) ∙ ap (place_in kept) e ∙ found)))))
+            (λ e. apart (same_Some i place (sym (is.own i added there) ∙ ap (place_in kept) e ∙ found)))))
+
         here : (added : Added) → slice_get (sheets_in kept) place ≡ Some added → named_entry (kept ++ event ∷ []) added ≡ ((named_entry kept added).0, new)
         here added there =
             let same : added-there.0 ≡ added = same_Some _ _ (sym added-there.1 ∙ there) in
             ap (λ (entry : Entry). (name_of_key added.key, entry)) (becomes added there (ap (λ (a : Added). a.key) (sym same) ∙ added-there.2))
+
         entries-are : set_value_at entries place new ≡ map (named_entry (kept ++ event ∷ [])) (sheets_in (kept ++ event ∷ []))
         entries-are =
             ap (λ (es : List (SheetName × Entry)). set_value_at es place new) is.entries
             ∙ sym (map-but_one (named_entry kept) (named_entry (kept ++ event ∷ [])) (sheets_in kept) place new elsewhere here)
             ∙ ap (map (named_entry (kept ++ event ∷ []))) (sym (sheets-same kept event asks))
+
         quiet-at : (other : Key) → place_in kept other ≡ None → IsQuiet (kept ++ event ∷ []) other
         quiet-at other none =
             quiet-alone kept event other (alone-apart other event (other-apart other (key_of event)
-                (λ e. let no : None ≡ Some place = sym none ∙ ap (place_in kept) e ∙ found in absurd cc))) (is.quiet other none)
+            (λ e. let no : None ≡ Some place = sym none ∙ ap (place_in kept) e ∙ found in absurd cc))) (is.quiet other none)
 
 -- an event that hands a sheet on asks something of it
 pub hands-asks : (event : Event) (key : Key) (holder : Option ℕ) → HandsTo event key holder → Asks event
@@ -165,18 +175,20 @@ pub kept-hand : (election : Election) (kept : List Event) (entries : List (Sheet
     → IsKept election (kept ++ event ∷ []) (set_value_at entries place (record { at = old.at; holder = holder; decided = old.decided }))
 kept-hand election kept entries is event key holder hands fits done place found old at =
     kept-asks election kept entries is event asks fits done place found-here
-        (record { at = old.at; holder = holder; decided = old.decided })
-        (λ added there named.
-            let was : entry_of kept added ≡ old = old-is added there in
-            ap₂ (λ (held : Option ℕ) (decided : List Decided). record { at = added.at; holder = held; decided = decided })
-                (holder-push kept event added.key ∙ ap (λ (k : Key). holder_after k (holder_of kept added.key) event) named ∙ hands-holder event key holder (holder_of kept added.key) hands)
-                (decided-push kept event added.key ∙ ap (λ (more : List Decided). decided_of kept added.key ++ more) (hands-decided event key added.key holder hands) ∙ append-nil (decided_of kept added.key))
-            ∙ ap (λ (entry : Entry). record { at = entry.at; holder = holder; decided = entry.decided }) was)
+    (record { at = old.at; holder = holder; decided = old.decided })
+    (λ added there named.
+    let was : entry_of kept added ≡ old = old-is added there in
+    ap₂ (λ (held : Option ℕ) (decided : List Decided). record { at = added.at; holder = held; decided = decided })
+    (holder-push kept event added.key ∙ ap (λ (k : Key). holder_after k (holder_of kept added.key) event) named ∙ hands-holder event key holder (holder_of kept added.key) hands)
+    (decided-push kept event added.key ∙ ap (λ (more : List Decided). decided_of kept added.key ++ more) (hands-decided event key added.key holder hands) ∙ append-nil (decided_of kept added.key))
+    ∙ ap (λ (entry : Entry). record { at = entry.at; holder = holder; decided = entry.decided }) was)
   where
     asks : Asks event
     asks = hands-asks event key holder hands
+
     found-here : place_in kept (key_of event) ≡ Some place
     found-here = ap (place_in kept) (hands-key event key holder hands) ∙ found
+
     old-is : (added : Added) → slice_get (sheets_in kept) place ≡ Some added → entry_of kept added ≡ old
     old-is added there =
         let one = added-there election kept entries is event asks fits done place found-here in
@@ -189,20 +201,21 @@ pub kept-decide : (election : Election) (kept : List Event) (entries : List (She
     → reply_of election kept (Decide station key decided.contest decided.decision) ≡ Done
     → (place : ℕ) → place_in kept key ≡ Some place → (old : Entry) → slice_get (values_of entries) place ≡ Some old
     → IsKept election (kept ++ Decide station key decided.contest decided.decision ∷ [])
-        (set_value_at entries place (record { at = old.at; holder = old.holder; decided = old.decided ++ decided ∷ [] }))
+    (set_value_at entries place (record { at = old.at; holder = old.holder; decided = old.decided ++ decided ∷ [] }))
 kept-decide election kept entries is station key decided fits done place found old at =
     kept-asks election kept entries is event tt fits done place found
-        (record { at = old.at; holder = old.holder; decided = old.decided ++ decided ∷ [] })
-        (λ added there named.
-            let was : entry_of kept added ≡ old = old-is added there in
-            ap₂ (λ (held : Option ℕ) (more : List Decided). record { at = added.at; holder = held; decided = more })
-                (holder-push kept event added.key)
-                (decided-push kept event added.key
-                    ∙ ap (λ (b : Bool). decided_of kept added.key ++ cond b (decided ∷ []) []) (ap (λ (k : Key). same_key k key) named ∙ same-self key))
-            ∙ ap (λ (entry : Entry). record { at = entry.at; holder = entry.holder; decided = entry.decided ++ decided ∷ [] }) was)
+    (record { at = old.at; holder = old.holder; decided = old.decided ++ decided ∷ [] })
+    (λ added there named.
+    let was : entry_of kept added ≡ old = old-is added there in
+    ap₂ (λ (held : Option ℕ) (more : List Decided). record { at = added.at; holder = held; decided = more })
+    (holder-push kept event added.key)
+    (decided-push kept event added.key
+    ∙ ap (λ (b : Bool). decided_of kept added.key ++ cond b (decided ∷ []) []) (ap (λ (k : Key). same_key k key) named ∙ same-self key))
+    ∙ ap (λ (entry : Entry). record { at = entry.at; holder = entry.holder; decided = entry.decided ++ decided ∷ [] }) was)
   where
     event : Event
     event = Decide station key decided.contest decided.decision
+
     old-is : (added : Added) → slice_get (sheets_in kept) place ≡ Some added → entry_of kept added ≡ old
     old-is added there =
         let one = added-there election kept entries is event tt fits done place found in

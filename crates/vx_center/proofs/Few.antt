@@ -2,7 +2,7 @@
 use Rattle.std.proofs.Common.{◌≡◌, ℕ, zero, suc, ◌+◌, ◌-◌, ◌%◌, ◌<◌, ◌≤◌, ◌⊎◌, inl, inr, Bool, true, false, cond, ◌==◌, List, [], ◌∷◌, length, take, map, get_or, refl, sym, ap, ◌∙◌, subst, arith, length-take}
 use Rattle.std.specs.Prelude.{◌&&◌, All, Option, Some, None, nat_lt, nat_le, slice_get, find}
 use Rattle.std.specs.List.{list_all}
-use Rattle.std.proofs.lemmas.Option.{slice_get_within, get_or_from_slice_get}
+use Rattle.std.proofs.lemmas.Option.{same_Some, slice_get_within, get_or_from_slice_get}
 use Rattle.std.proofs.lemmas.Bool.Decides.{nat_tests}
 use Rattle.vx_base.proofs.Booleans.{and-left, and-right, chosen-none}
 use Rattle.vx_base.proofs.Numbers.{equal-from_yes, below-yes, below-from_yes, at_most-yes, at_most-from_yes}
@@ -19,6 +19,7 @@ use Rattle.vx_events.specs.declared.reply.Reply.TheVariants.{Done, Full}
 use Rattle.vx_events.specs.Ascending.{ascends_from, is_ascending}
 use Rattle.vx_events.specs.Fits.{has_options, is_read, contests_of, is_sheet}
 use Rattle.vx_center.specs.Replies.{reply_of, reply_with_room, event_limit}
+use Rattle.vx_center.specs.Sheets.{marks_on}
 use Rattle.vx_center.specs.Histories.{IsHistory}
 
 -- numbers that ascend from one on and stay below another
@@ -46,7 +47,7 @@ few-choices false contest has = has.few
 pub few-options : (election : Election) (number : ℕ) (contest : Contest) → IsValid election → slice_get election.contests number ≡ Some contest → options_of contest ≤ 150
 few-options election number contest valid there =
     let is = subst (IsContest (length election.parties) (length election.districts)) (get_or_from_slice_get election.contests number contest contest there)
-        (valid.contests.each number contest (slice_get_within election.contests number contest there)) in
+    (valid.contests.each number contest (slice_get_within election.contests number contest there)) in
     omega (arith, few-choices contest.is_yes_no contest is.choices, is.seats.1, either-le contest.write_ins contest.seats 0 50 is.seats.1 (omega arith))
 
 contest-below : (election : Election) (marks : ContestMarks) → is_read election marks ≡ true → marks.contest < length election.contests
@@ -112,3 +113,23 @@ few-events election kept history = by (last-place kept)
         let before = nothing-past election (take some.0 kept) some.1 (history.done some.0 some.1 some.2) in
         let size = length-take some.0 kept in
         omega (arith, before, size, some.3)
+
+-- what holds of each element holds of the one that is found
+found-holds : {X : Type 0} (p q : X → Bool) (xs : List X) (x : X) → find p xs ≡ Some x → list_all q xs ≡ true → (p x ≡ true) × (q x ≡ true)
+found-holds p q [] x found all = absurd cc
+found-holds {X} p q (y ∷ ys) x found all = by (p y) refl (found-holds p q ys x)
+  where
+    by : (b : Bool) → p y ≡ b → (find p ys ≡ Some x → list_all q ys ≡ true → (p x ≡ true) × (q x ≡ true)) → (p x ≡ true) × (q x ≡ true)
+    by true e rest =
+        let same : y ≡ x = same_Some y x (sym (ap (λ (c : Bool). cond c (Some y) (find p ys)) e) ∙ found) in
+        (ap p (sym same) ∙ e, ap q (sym same) ∙ and-left (q y) (list_all q ys) all)
+    by false e rest = rest (sym (ap (λ (c : Bool). cond c (Some y) (find p ys)) e) ∙ found) (and-right (q y) (list_all q ys) all)
+
+-- a contest on a sheet that fits was read with a state for each option
+pub read-options : (election : Election) (sheet : SheetMarks) (number : ℕ) (contest : Contest) (marks : ContestMarks) → is_sheet election sheet ≡ true
+    → slice_get election.contests number ≡ Some contest → marks_on sheet number ≡ Some marks → length marks.states ≡ options_of contest
+read-options election sheet number contest marks fits there on =
+    let holds = found-holds (λ (one : ContestMarks). one.contest == number) (is_read election) sheet.contests marks on (sheet-read election sheet fits) in
+    let same : marks.contest ≡ number = equal-from_yes marks.contest number holds.0 in
+    let read = sym (ap (λ (o : Option Contest). has_options o (length marks.states)) (ap (slice_get election.contests) same ∙ there)) ∙ holds.1 in
+    sym (equal-from_yes (options_of contest) (length marks.states) read)

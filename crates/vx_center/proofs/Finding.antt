@@ -28,7 +28,7 @@ use Rattle.vx_center.specs.Decisions.{decided_of}
 use Rattle.vx_center.specs.Histories.{IsHistory}
 use Rattle.vx_center.specs.States.{Entry, entry_of, named_entry, name_of_key, padded, IsKept, IsAt, IsFound, IsUnknown}
 use Rattle.vx_center.proofs.Places.{position-is, position_from-map, position_from-same}
-use Rattle.vx_center.proofs.Adding.{event-of}
+use Rattle.vx_center.proofs.Adding.{event-of, few-sheets}
 use Rattle.vx_center.proofs.Keys.{same-self, same-equal, padded-equal, other-apart}
 use Rattle.vx_center.proofs.Following.{look-up, NotAdded, IsAdded}
 
@@ -68,7 +68,8 @@ names-keys one other = by (same_key one other) refl (same_name (name_of_key one)
         let same = same-equal one other e in
         ap (λ (k : Key). same_name (name_of_key one) (name_of_key k)) (sym same)
         ∙ and-both _ _ ((bytes_eq-Decides (padded one.batch) (padded one.batch)).1 refl)
-            (and-both _ _ (equal-yes (length one.batch) (length one.batch) refl) (equal-yes one.number one.number refl))
+        (and-both _ _ (equal-yes (length one.batch) (length one.batch) refl) (equal-yes one.number one.number refl))
+
     from : same_name (name_of_key one) (name_of_key other) ≡ true → same_key one other ≡ true
     from e =
         let batch = (bytes_eq-Decides (padded one.batch) (padded other.batch)).0 (and-left _ _ e) in
@@ -76,6 +77,7 @@ names-keys one other = by (same_key one other) refl (same_name (name_of_key one)
         let size = equal-from_yes (length one.batch) (length other.batch) (and-left _ _ rest) in
         let number = and-right (length one.batch == length other.batch) _ rest in
         and-both _ _ ((bytes_eq-Decides one.batch other.batch).1 (padded-equal one.batch other.batch batch size)) number
+
     by : (a : Bool) → same_key one other ≡ a → (b : Bool) → same_name (name_of_key one) (name_of_key other) ≡ b → same_name (name_of_key one) (name_of_key other) ≡ same_key one other
     by true e b f = to e ∙ sym e
     by false e true f = let yes = from f in absurd cc
@@ -99,9 +101,9 @@ module _ (election : Election) (kept : List Event) (entries : List (SheetName ×
     where
       by : NotAdded kept key ⊎ IsAdded kept key → place_in kept key ≡ None
       by (inl missing) = missing.place
-      by (inr yes) =
-          let short = short-key yes.added.key (added-fits election kept yes.index yes.added is.history yes.there).0 in
-          let same = ap (λ (k : Key). length k.batch) yes.keyed in
+      by (inr one) =
+          let short = short-key one.added.key (added-fits election kept one.index one.added is.history one.there).0 in
+          let same = ap (λ (k : Key). length k.batch) one.keyed in
           absurd (omega (arith, long, short, same))
 
   -- a sheet is found at its place
@@ -112,7 +114,7 @@ module _ (election : Election) (kept : List Event) (entries : List (SheetName ×
       let known : entry_of kept from.from ≡ entry = ap (λ (e : SheetName × Entry). e.1) from.made in
       let own = event-of kept place from.from from.there in
       let same : Add from.from.key from.from.sheet ≡ Add key sheet =
-          same_Some _ _ (sym own ∙ ap (λ (e : Entry). slice_get kept e.at) known ∙ event) in
+      same_Some _ _ (sym own ∙ ap (λ (e : Entry). slice_get kept e.at) known ∙ event) in
       let keyed : from.from.key ≡ key = cc in
       let read : from.from.sheet ≡ sheet = cc in
       record {
@@ -138,12 +140,12 @@ found-by election kept key other place sheet entry found is = by (look-up kept k
   where
     by : NotAdded kept key ⊎ IsAdded kept key → IsFound election kept key sheet entry
     by (inl missing) = let nothing = missing.place in absurd cc
-    by (inr yes) =
-        let index : yes.index ≡ place = same_Some _ _ (sym yes.place ∙ found) in
-        let added : yes.added ≡ is.added = same_Some _ _ (sym (subst (λ n. slice_get (sheets_in kept) n ≡ Some yes.added) index yes.there) ∙ is.there) in
-        let keyed : key ≡ is.added.key = yes.keyed ∙ ap (λ (a : Added). a.key) added in
+    by (inr one) =
+        let index : one.index ≡ place = same_Some _ _ (sym one.place ∙ found) in
+        let added : one.added ≡ is.added = same_Some _ _ (sym (subst (λ n. slice_get (sheets_in kept) n ≡ Some one.added) index one.there) ∙ is.there) in
+        let keyed : key ≡ is.added.key = one.keyed ∙ ap (λ (a : Added). a.key) added in
         record {
-          there = yes.sheet ∙ ap (λ (a : Added). Some a.sheet) added ∙ ap Some is.read;
+          there = one.sheet ∙ ap (λ (a : Added). Some a.sheet) added ∙ ap Some is.read;
           fits = is.fits;
           held = ap (holder_of kept) keyed ∙ ap (λ (e : Entry). e.holder) is.known;
           ruled = ap (decided_of kept) keyed ∙ ap (λ (e : Entry). e.decided) is.known;
@@ -154,7 +156,6 @@ pub lent : {X : Type 0} (found : Option (Bor X)) (xs : List X) (i : ℕ) → IsI
 lent None xs i h = sym (slice_get_past xs i h.3)
 lent (Some x) xs i h = sym (slice_get_read xs (length xs) i x.now refl h.3.0 h.1)
 
-
 pub placed : (kept : List Event) (key : Key) → IsAdded kept key → IsSome (place_in kept key)
 placed kept key is = ap is_some is.place
 
@@ -164,7 +165,7 @@ unknown election kept entries key is none = record { missing = by (look-up kept 
   where
     by : NotAdded kept key ⊎ IsAdded kept key → sheet_in kept key ≡ None
     by (inl missing) = missing.sheet
-    by (inr yes) = let place = yes.place in absurd cc
+    by (inr one) = let place = one.place in absurd cc
 
 pub answers-unknown : (election : Election) (kept : List Event) (entries : List (SheetName × Entry)) (key : Key) → IsKept election kept entries → (found : Option ℕ) → found ≡ place_in kept key → IfNone found (IsUnknown kept key)
 answers-unknown election kept entries key is None h = unknown election kept entries key is (sym h)
@@ -176,9 +177,9 @@ place-within election kept entries key place is found = by (look-up kept key)
   where
     by : NotAdded kept key ⊎ IsAdded kept key → place < length entries
     by (inl missing) = let none = missing.place in absurd cc
-    by (inr yes) =
-        let index : yes.index ≡ place = same_Some _ _ (sym yes.place ∙ found) in
-        omega (arith, index, slice_get_within (sheets_in kept) yes.index yes.added yes.there, ap length is.entries ∙ length-map (sheets_in kept) (named_entry kept))
+    by (inr one) =
+        let index : one.index ≡ place = same_Some _ _ (sym one.place ∙ found) in
+        omega (arith, index, slice_get_within (sheets_in kept) one.index one.added one.there, ap length is.entries ∙ length-map (sheets_in kept) (named_entry kept))
 
 -- what is answered of the sheet at the place of a key
 pub found-answers : (election : Election) (kept : List Event) (key : Key) (place : ℕ) → place_in kept key ≡ Some place → (found : Option Found)
@@ -188,9 +189,9 @@ found-answers election kept key place at None h = by (look-up kept key)
   where
     by : NotAdded kept key ⊎ IsAdded kept key → IsUnknown kept key
     by (inl missing) = let none = missing.place in absurd cc
-    by (inr yes) =
-        let index : yes.index ≡ place = same_Some _ _ (sym yes.place ∙ at) in
-        let there = subst (λ n. slice_get (sheets_in kept) n ≡ Some yes.added) index yes.there in
+    by (inr one) =
+        let index : one.index ≡ place = same_Some _ _ (sym one.place ∙ at) in
+        let there = subst (λ n. slice_get (sheets_in kept) n ≡ Some one.added) index one.there in
         absurd cc
 found-answers election kept key place at (Some one) h = found-by election kept key one.key.now place one.sheet.now one.entry.now at h
 
@@ -199,3 +200,13 @@ pub none-from_map : {X Y : Type 0} (f : X → Y) (xs : List X) (i : ℕ) → sli
 none-from_map f [] i h = refl
 none-from_map f (x ∷ xs) zero h = absurd cc
 none-from_map f (x ∷ xs) (suc i) h = none-from_map f xs i h
+
+-- a place is below the number of events
+pub place-below : (kept : List Event) (key : Key) (place : ℕ) → place_in kept key ≡ Some place → place < length kept
+place-below kept key place found = by (look-up kept key)
+  where
+    by : NotAdded kept key ⊎ IsAdded kept key → place < length kept
+    by (inl missing) = let none = missing.place in absurd cc
+    by (inr one) =
+        let index : one.index ≡ place = same_Some _ _ (sym one.place ∙ found) in
+        omega (arith, index, slice_get_within (sheets_in kept) one.index one.added one.there, few-sheets 0 kept)

@@ -162,6 +162,7 @@ history-push election kept event history fits done = record {
     fits-at : (place : ℕ) (one : Event) → ((place < length kept) × (slice_get kept place ≡ Some one)) ⊎ ((place ≡ length kept) × (event ≡ one)) → Fits election one
     fits-at place one (inl front) = history.fits place one front.1
     fits-at place one (inr last) = subst (Fits election) last.1 fits
+
     done-at : (place : ℕ) (one : Event) → ((place < length kept) × (slice_get kept place ≡ Some one)) ⊎ ((place ≡ length kept) × (event ≡ one)) → reply_of election (take place (kept ++ event ∷ [])) one ≡ Done
     done-at place one (inl front) =
         let within : place ≤ length kept = omega (arith, front.0) in

@@ -6,3 +6,5 @@ pub mod Entries
 pub mod Few
 pub mod Numbered
 pub mod Finding
+pub mod Answered
+pub mod Rowed

@@ -39,6 +39,7 @@ any-at p number zero (state ∷ states) = by (p state)
   where
     behind : list_any (nat_eq (number + 0)) (options_from p (number + 1) states) ≡ false
     behind = any-behind p (number + 0) (number + 1) states (omega arith)
+
     by : (b : Bool) → list_any (nat_eq (number + 0)) (cond b (number ∷ options_from p (number + 1) states) (options_from p (number + 1) states)) ≡ b
     by true = ap (λ (a : Bool). a || list_any (nat_eq (number + 0)) (options_from p (number + 1) states)) (equal-yes (number + 0) number (omega arith))
     by false = behind

@@ -1,8 +1,10 @@
 -- First places of lists, and maps of lists.
 use Rattle.std.proofs.Common.{◌≡◌, ◌≢◌, ℕ, zero, suc, ◌+◌, ◌<◌, ◌⊎◌, inl, inr, Bool, true, false, cond, List, [], ◌∷◌, ◌++◌, length, map, refl, sym, ap, ap₂, subst, ◌∙◌, arith}
-use Rattle.std.specs.Prelude.{Option, Some, None, nat_lt, slice_get, find, position}
+use Rattle.std.specs.Prelude.{Option, Some, None, Result, Ok, Err, IsOk, OnOk, nat_lt, slice_get, find, position}
 use Rattle.std.specs.List.{position_from, position_or_len}
-use Rattle.indexmap.specs.IndexMap.{set_value_at}
+use Rattle.std.specs.Map.{keys_of, values_of}
+use Rattle.std.proofs.lemmas.Option.{same_Some}
+use Rattle.indexmap.specs.IndexMap.{set_value_at, insert_entry}
 use Rattle.std.proofs.lemmas.Bool.Decides.{nat_tests}
 
 -- no element passes
@@ -128,3 +130,26 @@ map-but_one {K = K} {V = V} f g (x ∷ xs) zero w others here =
 map-but_one {K = K} {V = V} f g (x ∷ xs) (suc place) w others here =
     ap₂ (λ (y : K × V) (ys : List (K × V)). y ∷ ys) (others 0 x refl (λ e. absurd cc))
     (map-but_one f g xs place w (λ i z there apart. others (suc i) z there (λ e. apart (omega arith))) (λ z there. here z there))
+
+-- a new key goes last
+pub insert-new : {K V : Type 0} (eq : K → K → Bool) (from : ℕ) (entries : List (K × V)) (key : K) (value : V) → position_from (eq key) from (keys_of entries) ≡ None → insert_entry eq entries key value ≡ entries ++ (key, value) ∷ []
+insert-new eq from [] key value h = refl
+insert-new {K} {V} eq from (entry ∷ entries) key value h = by (eq key entry.0) refl (insert-new eq (from + 1) entries key value)
+  where
+    by : (b : Bool) → eq key entry.0 ≡ b → (position_from (eq key) (from + 1) (keys_of entries) ≡ None → insert_entry eq entries key value ≡ entries ++ (key, value) ∷ [])
+        → cond (eq key entry.0) ((entry.0, value) ∷ entries) (entry ∷ insert_entry eq entries key value) ≡ entry ∷ (entries ++ (key, value) ∷ [])
+    by true e rest = let some = sym (ap (λ (c : Bool). cond c (Some from) (position_from (eq key) (from + 1) (keys_of entries))) e) ∙ h in absurd cc
+    by false e rest =
+        ap (λ (c : Bool). cond c ((entry.0, value) ∷ entries) (entry ∷ insert_entry eq entries key value)) e
+        ∙ ap (λ (es : List (K × V)). entry ∷ es) (rest (sym (ap (λ (c : Bool). cond c (Some from) (position_from (eq key) (from + 1) (keys_of entries))) e) ∙ h))
+
+-- what stands there is put there
+pub set-same : {K V : Type 0} (entries : List (K × V)) (place : ℕ) (value : V) → slice_get (values_of entries) place ≡ Some value → set_value_at entries place value ≡ entries
+set-same [] place value h = refl
+set-same {K} {V} (entry ∷ entries) zero value h = ap (λ (v : V). (entry.0, v) ∷ entries) (sym (same_Some entry.1 value h))
+set-same {K} {V} (entry ∷ entries) (suc place) value h = ap (λ (es : List (K × V)). entry ∷ es) (set-same entries place value h)
+
+-- what holds where something was done that was done
+pub on-ok : {A F P : Type 0} (result : Result A F) → IsOk result → OnOk result P → P
+on-ok (Ok x) is h = h
+on-ok (Err e) is h = absurd cc

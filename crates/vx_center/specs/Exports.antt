@@ -60,6 +60,11 @@ row_by election key sheet decided = record {
 abbrev pub row_of : Election → List Event → Added → ExportSheet
 row_of election kept added = row_by election added.key added.sheet (decided_of kept added.key)
 
+-- the row of a sheet, if there is one
+abbrev pub rows_at : Election → List Event → Option Added → List ExportSheet
+rows_at election kept None = []
+rows_at election kept (Some added) = row_of election kept added ∷ []
+
 -- the order of keys: the batch's bytes, then the number
 abbrev pub key_order : Key → Key → Ordering
 key_order one other = ordering_then (slice_cmp nat_cmp one.batch other.batch) (nat_cmp one.number other.number)

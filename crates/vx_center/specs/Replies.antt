@@ -106,7 +106,7 @@ on_contest number (Some contest) (Some marks) reply = reply contest marks
 abbrev pub decide_reply : Election → List Decision → ℕ → Decision → SheetMarks → Reply
 decide_reply election decisions number decision sheet =
     on_contest number (slice_get election.contests number) (marks_on sheet number)
-        (λ contest marks. decision_reply contest marks.states (ruling_of decisions) decision)
+    (λ contest marks. decision_reply contest marks.states (ruling_of decisions) decision)
 
 -- what is answered where there is room for an event
 abbrev pub reply_with_room : Election → List Event → Event → Reply
@@ -117,8 +117,8 @@ reply_with_room election kept (Release station key) =
     on_sheet (sheet_in kept key) (λ sheet. if_held station (holder_of kept key) Done)
 reply_with_room election kept (Decide station key contest decision) =
     on_sheet (sheet_in kept key)
-        (λ sheet. if_held station (holder_of kept key)
-            (decide_reply election (decisions_of kept key contest) contest decision sheet))
+    (λ sheet. if_held station (holder_of kept key)
+    (decide_reply election (decisions_of kept key contest) contest decision sheet))
 
 -- what is answered to an event: the first refusal that applies, else Done
 abbrev pub reply_of : Election → List Event → Event → Reply

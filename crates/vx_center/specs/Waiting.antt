@@ -45,7 +45,7 @@ exports_with election sheet_blank decisions states (Some contest) =
 abbrev pub exports_by : Election → Bool → List Decided → ContestMarks → Bool
 exports_by election sheet_blank decided marks =
     exports_with election sheet_blank (decisions_on marks.contest decided) marks.states
-        (slice_get election.contests marks.contest)
+    (slice_get election.contests marks.contest)
 
 -- whether a contest of an added sheet is exported
 abbrev pub exports : Election → List Event → Added → ContestMarks → Bool

@@ -1,4 +1,4 @@
-ghost use Rattle.std.specs.Prelude.{◌≡◌, ◌<◌, ◌^◌, ◌++◌, IfOk, OnOk, length, map, true};
+ghost use Rattle.std.specs.Prelude.{◌≡◌, ◌<◌, ◌^◌, ◌++◌, IfOk, OnOk, length, map, slice_get, true};
 ghost use Rattle.std.specs.List.{list_all};
 ghost use Rattle.std.specs.Option.{option_copied};
 ghost use Rattle.vx_election_model.specs.Valid.{IsValid};
@@ -59,10 +59,7 @@ fn is_overvoted(ruling: Option<&Decision>) -> bool
     matches!(ruling, Some(Decision::RuledOvervote))
 }
 
-fn copy_name(
-    alloc: Global,
-    name: Option<&WriteInName>,
-) -> Result<Option<WriteInName>, OutOfMemory>
+fn copy_name(alloc: Global, name: Option<&WriteInName>) -> Result<Option<WriteInName>, OutOfMemory>
     ensures { IfOk result (λ copy. copy ≡ option_copied name.entry) }
 {
     match name {
@@ -174,26 +171,38 @@ fn row(
 fn key_order(one: &Key, other: &Key) -> Ordering
     ensures { result ≡ spec.key_order one.now other.now }
 {
-    let (batch, other_batch) = (one.batch.as_str().as_bytes(), other.batch.as_str().as_bytes());
+    let (batch, other_batch) = (
+        one.batch.as_str().as_bytes(),
+        other.batch.as_str().as_bytes(),
+    );
     batch.cmp(&other_batch).then(one.number.cmp(&other.number))
 }
 
 impl<'e> Center<'e> {
+    /// Adds the row of the sheet at a place in the order of adding.
+    fn add_row(
+        &self,
+        alloc: Global,
+        rows: &mut Vec<ExportSheet>,
+        place: usize,
+    ) -> Result<(), OutOfMemory>
+        ensures { OnOk result (rows.new.items ≡ rows.old.items ++ spec.rows_at self.now.election self.now.events (slice_get (sheets_in self.now.events) place)) }
+    {
+        if let Some(found) = self.found(place) {
+            let decided = found.entry.decided();
+            rows.push(row(alloc, self.election(), found.key, found.sheet, decided)?)?;
+        }
+        Ok(())
+    }
+
     /// The rows of the sheets, in the order of adding.
     fn rows(&self, alloc: Global) -> Result<Vec<ExportSheet>, OutOfMemory>
         ensures { IfOk result (λ rows. rows.items ≡ map (spec.row_of self.now.election self.now.events) (sheets_in self.now.events)) }
     {
-        let mut rows = Vec::with_capacity(alloc, self.sheet_count())?;
-        for place in 0..self.sheet_count() {
-            if let Some(found) = self.found(place) {
-                rows.push(row(
-                    alloc,
-                    self.election(),
-                    found.key,
-                    found.sheet,
-                    found.entry.decided(),
-                )?)?;
-            }
+        let count = self.sheet_count();
+        let mut rows = Vec::with_capacity(alloc, count)?;
+        for place in 0..count {
+            self.add_row(alloc, &mut rows, place)?;
         }
         Ok(rows)
     }

@@ -164,7 +164,11 @@ fn decision_reply(
 fn marks_on(sheet: &SheetMarks, contest: u32) -> Option<&ContestMarks>
     ensures { option_copied result ≡ sheets.marks_on sheet.now contest }
 {
-    sheet.contests.as_slice().iter().find(|marks| marks.contest == contest)
+    sheet
+        .contests
+        .as_slice()
+        .iter()
+        .find(|marks| marks.contest == contest)
 }
 
 /// What is answered to a decision of a contest of a sheet of which so much was decided, by the station
@@ -186,5 +190,10 @@ pub(crate) fn decide_reply(
     let Some(marks) = marks_on(sheet, number) else {
         return Reply::NotOnSheet(number);
     };
-    decision_reply(contest, marks.states.as_slice(), ruling_on(number, decided), decision)
+    decision_reply(
+        contest,
+        marks.states.as_slice(),
+        ruling_on(number, decided),
+        decision,
+    )
 }

@@ -1,5 +1,6 @@
 ghost use Rattle.std.specs.Prelude.{◌≡◌, slice_get, true};
 ghost use Rattle.vx_election_model.specs.Valid.{IsValid};
+ghost use Rattle.vx_rules.specs.Reasons.{is_blank_sheet};
 ghost use Rattle.vx_events.specs.Fits.{is_read, is_sheet};
 ghost use Rattle.vx_center.specs.Waiting as spec;
 ghost use Rattle.vx_center.specs.Waiting.{FirstFrom, FirstSheetFrom, IsNextWaiting, exports_by, waits_at, waits_by};
@@ -40,6 +41,25 @@ pub(crate) fn is_exported(
     }
 }
 
+/// Whether the contest at a place of a sheet waits.
+fn waits(
+    election: &Election,
+    sheet: &SheetMarks,
+    sheet_blank: bool,
+    decided: &[Decided],
+    place: usize,
+) -> bool
+    requires valid { IsValid election.now }
+    requires fits { is_sheet election.now sheet.now ≡ true }
+    requires blank { sheet_blank ≡ is_blank_sheet sheet.now }
+    ensures { result ≡ waits_by election.now sheet.now decided.now (slice_get sheet.now.contests place) }
+{
+    match sheet.contests.as_slice().get(place) {
+        None => false,
+        Some(marks) => !is_exported(election, sheet_blank, decided, marks),
+    }
+}
+
 /// The first contest from a place on of a sheet that waits.
 fn waiting_from(
     election: &Election,
@@ -52,9 +72,9 @@ fn waiting_from(
     ensures { FirstFrom (λ contest. waits_by election.now sheet.now decided.now (slice_get sheet.now.contests contest)) from result }
 {
     let sheet_blank = is_blank(sheet);
-    let contests = sheet.contests.as_slice();
-    for place in from..contests.len() {
-        if !is_exported(election, sheet_blank, decided, &contests[place]) {
+    let count = sheet.contests.len();
+    for place in from..count {
+        if waits(election, sheet, sheet_blank, decided, place) {
             return Some(place as u32);
         }
     }

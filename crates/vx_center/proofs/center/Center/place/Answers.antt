@@ -21,7 +21,7 @@ returns-then-as_str-gt32-clause-unknown c =
     let inside = c.self.inside in
     let long : 32 < length key.batch = omega (arith, c.if-as_str-gt32.true, ap length c.as_str.ensures) in
     subst (λ (k : Kept). IsUnknown k.events key) c.self.view_is
-        (unknown inside.election.now inside.events inside.sheets.entries key c.self.invariant (long-key inside.election.now inside.events inside.sheets.entries c.self.invariant key long))
+    (unknown inside.election.now inside.events inside.sheets.entries key c.self.invariant (long-key inside.election.now inside.events inside.sheets.entries c.self.invariant key long))
 
 pub returns-clause-place : goal.returns-clause-place
 returns-clause-place c =
@@ -29,7 +29,7 @@ returns-clause-place c =
     let inside = c.self.inside in
     let named = c.get_index_of.ensures.index ∙ ap (λ (name : SheetName). position (same_name name) (keys_of inside.sheets.entries)) c.of_key.ensures in
     subst (λ (k : Kept). c.get_index_of.result ≡ place_in k.events key) c.self.view_is
-        (named ∙ place-named inside.election.now inside.events inside.sheets.entries c.self.invariant key)
+    (named ∙ place-named inside.election.now inside.events inside.sheets.entries c.self.invariant key)
 
 pub returns-clause-unknown : goal.returns-clause-unknown
 returns-clause-unknown c =
@@ -37,5 +37,5 @@ returns-clause-unknown c =
     let inside = c.self.inside in
     let named = c.get_index_of.ensures.index ∙ ap (λ (name : SheetName). position (same_name name) (keys_of inside.sheets.entries)) c.of_key.ensures in
     subst (λ (k : Kept). IfNone c.get_index_of.result (IsUnknown k.events key)) c.self.view_is
-        (answers-unknown inside.election.now inside.events inside.sheets.entries key c.self.invariant c.get_index_of.result
-            (named ∙ place-named inside.election.now inside.events inside.sheets.entries c.self.invariant key))
+    (answers-unknown inside.election.now inside.events inside.sheets.entries key c.self.invariant c.get_index_of.result
+    (named ∙ place-named inside.election.now inside.events inside.sheets.entries c.self.invariant key))
