@@ -8,3 +8,4 @@ pub mod Numbered
 pub mod Finding
 pub mod Answered
 pub mod Rowed
+pub mod Lasting

@@ -8,3 +8,4 @@ pub mod Waiting
 pub mod Exports
 pub mod Histories
 pub mod States
+pub mod Laws

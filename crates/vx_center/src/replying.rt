@@ -22,11 +22,11 @@ pub(crate) fn claim_reply(station: u32, holder: Option<u32>) -> Reply
 {
     match holder {
         None => Reply::Done,
-        Some(holder) => {
-            if holder == station {
+        Some(other) => {
+            if other == station {
                 Reply::Done
             } else {
-                Reply::HeldBy(holder)
+                Reply::HeldBy(other)
             }
         }
     }
