@@ -6,6 +6,8 @@ mod certificates;
 #[cfg(test)]
 mod commands;
 #[cfg(test)]
+mod counting;
+#[cfg(test)]
 mod elections;
 #[cfg(test)]
 mod layouts;

@@ -1,0 +1,47 @@
+-- What holds over whole runs of the counting machine.
+use Rattle.std.specs.Prelude.{◌≡◌, ◌⊎◌, ℕ, true, List, take, slice_get, Some, None}
+use Rattle.vx_election_model.specs.declared.election.Election.{Election}
+use Rattle.vx_rules.specs.declared.marks.ContestMarks.{ContestMarks}
+use Rattle.vx_rules.specs.declared.marks.SheetMarks.{SheetMarks}
+use Rattle.vx_events.specs.declared.decision.Decision.{Decision}
+use Rattle.vx_events.specs.declared.event.Event.{Event}
+use Rattle.vx_events.specs.declared.event.Event.TheVariants.{Claim, Release, Decide}
+use Rattle.vx_events.specs.declared.key.Key.{Key}
+use Rattle.vx_center.specs.Sheets.{Added, sheet_in}
+use Rattle.vx_center.specs.Holders.{holder_of}
+use Rattle.vx_center.specs.Replies.{next_of}
+use Rattle.vx_center.specs.Waiting.{exports}
+use Rattle.vx_center.specs.Histories.{IsHistory}
+
+-- a sheet that was added is neither changed nor lost, whatever event comes
+abbrev pub SheetsStay : Type 0
+SheetsStay =
+    (election : Election) (kept : List Event) (event : Event) (key : Key) (sheet : SheetMarks)
+    → sheet_in kept key ≡ Some sheet → sheet_in (next_of election kept event) key ≡ Some sheet
+
+-- a contest that is exported stays exported, whatever event comes
+abbrev pub ExportsStay : Type 0
+ExportsStay =
+    (election : Election) (kept : List Event) (event : Event) (added : Added) (marks : ContestMarks)
+    → exports election kept added marks ≡ true → exports election (next_of election kept event) added marks ≡ true
+
+-- a station is given a sheet only while no other holds it: so one at most holds it at a time
+abbrev pub ClaimsAreFree : Type 0
+ClaimsAreFree =
+    (election : Election) (kept : List Event) (place station : ℕ) (key : Key)
+    → IsHistory election kept → slice_get kept place ≡ Some (Claim station key)
+    → (holder_of (take place kept) key ≡ None) ⊎ (holder_of (take place kept) key ≡ Some station)
+
+-- a sheet is given back only by the station that holds it
+abbrev pub ReleasesAreTheHolders : Type 0
+ReleasesAreTheHolders =
+    (election : Election) (kept : List Event) (place station : ℕ) (key : Key)
+    → IsHistory election kept → slice_get kept place ≡ Some (Release station key)
+    → holder_of (take place kept) key ≡ Some station
+
+-- a decision counts only from the station that holds the sheet
+abbrev pub DecisionsAreTheHolders : Type 0
+DecisionsAreTheHolders =
+    (election : Election) (kept : List Event) (place station contest : ℕ) (key : Key) (decision : Decision)
+    → IsHistory election kept → slice_get kept place ≡ Some (Decide station key contest decision)
+    → holder_of (take place kept) key ≡ Some station

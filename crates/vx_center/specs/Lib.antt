@@ -1,0 +1,11 @@
+pub mod Kept
+pub mod Sheets
+pub mod Holders
+pub mod Decisions
+pub mod Finals
+pub mod Replies
+pub mod Waiting
+pub mod Exports
+pub mod Histories
+pub mod States
+pub mod Laws

@@ -1,0 +1,298 @@
+ghost use Rattle.std.specs.Prelude.{◌≡◌, ◌++◌, ◌∷◌, [], ℕ, false, IfNone, IfOk, ◌≤◌, IsSome, MatchOption, OnErr, OnOk, length, slice_get};
+ghost use Rattle.vx_election_model.specs.Valid.{IsValid};
+ghost use Rattle.vx_events.specs.Fits.{fits as fits_of, Fits};
+ghost use Rattle.vx_rules.specs.declared.marks.SheetMarks.{SheetMarks};
+ghost use Rattle.vx_center.specs.Histories.{IsHistory};
+ghost use Rattle.vx_center.specs.Holders.{holder_of};
+ghost use Rattle.vx_center.specs.Replies.{next_of, reply_of};
+ghost use Rattle.vx_center.specs.Sheets.{place_in, sheets_in};
+ghost use Rattle.vx_center.specs.States.{HandsTo, IsAt, IsFound, IsUnknown, is_add};
+
+use crate::decided::Decided;
+use crate::entry::SheetEntry;
+use crate::name::SheetName;
+use crate::replying::{claim_reply, decide_reply, if_held};
+use indexmap::IndexMap;
+use std::alloc::Global;
+use std::marker::Model;
+use vx_base::{ListOf, OutOfMemory};
+use vx_election_model::Election;
+use vx_events::{Event, Key, Reply, fits};
+use vx_rules::SheetMarks;
+
+/// Kept events, in order.
+pub type Events = ListOf<Event>;
+
+/// The counting machine of an election. Contracts see its election and the events that it has kept.
+#[derive(Drop)]
+pub struct Center<'e> {
+    election: &'e Election,
+    events: Events,
+    sheets: IndexMap<SheetName, SheetEntry>,
+}
+
+impl<'e> Model for Center<'e> {
+    ghost use Rattle.vx_center.specs.Kept.{Kept};
+    ghost use Rattle.vx_center.specs.States.{IsKept};
+
+    ghost Value = { Kept };
+
+    ghost view = { λ center. record { election = center.election.now; events = center.events } };
+
+    ghost invariant = { λ center. IsKept center.election.now center.events center.sheets.entries };
+}
+
+/// A sheet that was added: its key, what it was read as, and what is kept beside it.
+#[derive(Clone, Copy)]
+pub(crate) struct Found<'a> {
+    pub(crate) key: &'a Key,
+    pub(crate) sheet: &'a SheetMarks,
+    pub(crate) entry: &'a SheetEntry,
+}
+
+/// The key and the sheet of an Add.
+fn added(event: &Event) -> Option<(&Key, &SheetMarks)>
+    ensures { MatchOption result (is_add event.now ≡ false) (λ parts. event.now ≡ Event.Add parts.0.now parts.1.now) }
+{
+    match event {
+        Event::Add { key, sheet } => Some((key, sheet)),
+        Event::Claim { .. } | Event::Release { .. } | Event::Decide { .. } => None,
+    }
+}
+
+impl<'e> Center<'e> {
+    /// A center that has kept no event; takes no memory.
+    pub fn new(alloc: Global, election: &'e Election) -> Center<'e>
+        requires { IsValid election.now }
+        ensures { result ≡ record { election = election.now; events = [] } }
+    {
+        Center {
+            election,
+            events: Events::new(alloc),
+            sheets: IndexMap::new(alloc),
+        }
+    }
+
+    /// Whether an event fits the election. The kept events have no part in it.
+    pub fn fits(&self, event: &Event) -> bool
+        ensures { result ≡ fits_of self.now.election event.now }
+    {
+        fits(self.election, event)
+    }
+
+    /// The kept events, in order: each was answered with Done behind those before it.
+    pub fn events(&self) -> &Events
+        ensures value { result.now ≡ self.now.events }
+        ensures history { IsHistory self.now.election self.now.events }
+    {
+        &self.events
+    }
+
+    /// The station that holds the sheet with a key.
+    pub fn holder(&self, key: &Key) -> Option<u32>
+        ensures { result ≡ holder_of self.now.events key.now }
+    {
+        match self.find(key) {
+            None => None,
+            Some(found) => found.entry.holder(),
+        }
+    }
+
+    /// The answer to an event that fits. It is kept where that is Done; else nothing changes and no
+    /// memory is taken. After want of memory all is as before.
+    pub fn apply(&mut self, alloc: Global, event: &Event) -> Result<Reply, OutOfMemory>
+        requires { Fits self.old.election event.now }
+        ensures reply { IfOk result (λ reply. reply ≡ reply_of self.old.election self.old.events event.now) }
+        ensures next { OnOk result (self.new ≡ record self.old { events = next_of self.old.election self.old.events event.now }) }
+        ensures as_before { OnErr result (self.new ≡ self.old) }
+        ensures no_refusal { OnErr result (reply_of self.old.election self.old.events event.now ≡ Reply.Done) }
+    {
+        match self.reply(event) {
+            Reply::Done => {
+                self.keep(alloc, event)?;
+                Ok(Reply::Done)
+            }
+            refusal => Ok(refusal),
+        }
+    }
+
+    /// The answer to an event.
+    fn reply(&self, event: &Event) -> Reply
+        requires { Fits self.now.election event.now }
+        ensures { result ≡ reply_of self.now.election self.now.events event.now }
+    {
+        if self.events.len() >= 1_000_000 {
+            return Reply::Full(1_000_000);
+        }
+        match event {
+            Event::Add { key, .. } => match self.place(key) {
+                None => Reply::Done,
+                Some(place) => Reply::Repeated(place as u32),
+            },
+            Event::Claim { station, key } => match self.find(key) {
+                None => Reply::NoSheet,
+                Some(found) => claim_reply(*station, found.entry.holder()),
+            },
+            Event::Release { station, key } => match self.find(key) {
+                None => Reply::NoSheet,
+                Some(found) => if_held(*station, found.entry.holder(), Reply::Done),
+            },
+            Event::Decide {
+                station,
+                key,
+                contest,
+                decision,
+            } => match self.find(key) {
+                None => Reply::NoSheet,
+                Some(found) => if_held(
+                    *station,
+                    found.entry.holder(),
+                    decide_reply(
+                        self.election,
+                        found.sheet,
+                        found.entry.decided(),
+                        *contest,
+                        decision,
+                    ),
+                ),
+            },
+        }
+    }
+
+    /// Keeps an event that is answered with Done.
+    fn keep(&mut self, alloc: Global, event: &Event) -> Result<(), OutOfMemory>
+        requires fits { Fits self.old.election event.now }
+        requires done { reply_of self.old.election self.old.events event.now ≡ Reply.Done }
+        ensures kept { OnOk result (self.new ≡ record self.old { events = self.old.events ++ event.now ∷ [] }) }
+        ensures as_before { OnErr result (self.new ≡ self.old) }
+    {
+        let copy = event.copy(alloc)?;
+        match event {
+            Event::Add { key, .. } => self.keep_sheet(alloc, key, copy),
+            Event::Claim { station, key } => self.keep_holder(key, Some(*station), copy),
+            Event::Release { key, .. } => self.keep_holder(key, None, copy),
+            Event::Decide {
+                key,
+                contest,
+                decision,
+                ..
+            } => {
+                let decided = Decided {
+                    contest: *contest,
+                    decision: decision.copy(alloc)?,
+                };
+                self.keep_decision(key, copy, decided)
+            }
+        }
+    }
+
+    /// Keeps an Add of a sheet with this key.
+    fn keep_sheet(&mut self, alloc: Global, key: &Key, event: Event) -> Result<(), OutOfMemory>
+        requires fits { Fits self.old.election event }
+        requires done { reply_of self.old.election self.old.events event ≡ Reply.Done }
+        requires adds { (sheet : SheetMarks) × (event ≡ Event.Add key.now sheet) }
+        ensures kept { OnOk result (self.new ≡ record self.old { events = self.old.events ++ event ∷ [] }) }
+        ensures as_before { OnErr result (self.new ≡ self.old) }
+    {
+        let at = self.events.len();
+        self.sheets.reserve(1)?;
+        self.events.push(event)?;
+        self.sheets
+            .insert(SheetName::of_key(key), SheetEntry::new(alloc, at))
+            .unwrap();
+        Ok(())
+    }
+
+    /// Keeps an event by which the sheet with a key goes to a station, or to none.
+    fn keep_holder(
+        &mut self,
+        key: &Key,
+        holder: Option<u32>,
+        event: Event,
+    ) -> Result<(), OutOfMemory>
+        requires fits { Fits self.old.election event }
+        requires done { reply_of self.old.election self.old.events event ≡ Reply.Done }
+        requires hands { HandsTo event key.now holder }
+        ensures kept { OnOk result (self.new ≡ record self.old { events = self.old.events ++ event ∷ [] }) }
+        ensures as_before { OnErr result (self.new ≡ self.old) }
+    {
+        let place = self.added_place(key);
+        self.events.push(event)?;
+        self.sheets[place].give_to(holder);
+        Ok(())
+    }
+
+    /// Keeps a decision of the sheet with a key.
+    fn keep_decision(
+        &mut self,
+        key: &Key,
+        event: Event,
+        decided: Decided,
+    ) -> Result<(), OutOfMemory>
+        requires fits { Fits self.old.election event }
+        requires done { reply_of self.old.election self.old.events event ≡ Reply.Done }
+        requires decides { (station : ℕ) × (event ≡ Event.Decide station key.now decided.contest decided.decision) }
+        ensures kept { OnOk result (self.new ≡ record self.old { events = self.old.events ++ event ∷ [] }) }
+        ensures as_before { OnErr result (self.new ≡ self.old) }
+    {
+        let place = self.added_place(key);
+        self.sheets[place].decide(&mut self.events, event, decided)?;
+        Ok(())
+    }
+
+    /// The place of the sheet with a key, in the order of adding.
+    fn place(&self, key: &Key) -> Option<usize>
+        ensures place { result ≡ place_in self.now.events key.now }
+        ensures unknown { IfNone result (IsUnknown self.now.events key.now) }
+    {
+        let sheets = &self.sheets;
+        if key.batch.as_str().len() > 32 {
+            return None;
+        }
+        sheets.get_index_of(&SheetName::of_key(key))
+    }
+
+    /// The place of a sheet that was added.
+    fn added_place(&self, key: &Key) -> usize
+        requires { IsSome (place_in self.now.events key.now) }
+        ensures { place_in self.now.events key.now ≡ Some result }
+    {
+        self.place(key).unwrap()
+    }
+
+    /// The sheet with a key.
+    fn find(&self, key: &Key) -> Option<Found<'_>>
+        ensures { MatchOption result
+            (IsUnknown self.now.events key.now)
+            (λ found. IsFound self.now.election self.now.events key.now found.sheet.now found.entry.now) }
+    {
+        self.found(self.place(key)?)
+    }
+
+    /// The sheet at a place in the order of adding.
+    pub(crate) fn found(&self, place: usize) -> Option<Found<'_>>
+        ensures { MatchOption result
+            (slice_get (sheets_in self.now.events) place ≡ None)
+            (λ found. IsAt self.now.election self.now.events place found.key.now found.sheet.now found.entry.now) }
+    {
+        let (_, entry) = self.sheets.get_index(place)?;
+        let (key, sheet) = added(self.events.as_slice().get(entry.at())?)?;
+        Some(Found { key, sheet, entry })
+    }
+
+    /// How many sheets were added.
+    pub(crate) fn sheet_count(&self) -> usize
+        ensures count { result ≡ length (sheets_in self.now.events) }
+        ensures few { result ≤ 1000000 }
+    {
+        self.sheets.len()
+    }
+
+    /// The election, lent.
+    pub(crate) fn election(&self) -> &'e Election
+        ensures value { result.now ≡ self.now.election }
+        ensures valid { IsValid self.now.election }
+    {
+        self.election
+    }
+}

@@ -1,0 +1,27 @@
+//! The counting machine: what is answered to an event of a count, and which events are kept.
+//!
+//! A center is seen as its election and the list of the events that it has kept, and as nothing else.
+//! The sheets, who holds them and what was decided of them are defined over that list in
+//! `specs/Sheets.antt`, `specs/Holders.antt` and `specs/Decisions.antt`; the answers in
+//! `specs/Replies.antt`; what a contest counts as in `specs/Finals.antt`; what waits in
+//! `specs/Waiting.antt`; what is exported in `specs/Exports.antt`. Beside the events a center keeps an
+//! entry for each sheet, `specs/States.antt`, so that no call looks through the list. What holds over
+//! whole runs are the laws of `specs/Laws.antt`.
+#![tactic(auto)]
+
+mod center;
+mod counting;
+mod decided;
+mod entry;
+mod exporting;
+mod laws;
+mod name;
+mod replying;
+mod rows;
+mod waiting;
+
+pub use center::{Center, Events};
+pub use decided::Decided;
+pub use laws::{decisions_are_the_holders, exports_stay, one_station_holds_a_sheet, sheets_stay};
+pub use rows::{ExportSheet, ExportSheets, Final, Finals, SlotNames};
+pub use vx_events::{Decision, Event, Key, Options, Reply, WriteInName};

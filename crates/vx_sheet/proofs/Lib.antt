@@ -1,0 +1,3 @@
+pub mod Either
+pub mod Counted
+pub mod Whole

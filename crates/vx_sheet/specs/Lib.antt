@@ -1,0 +1,4 @@
+pub mod Sheet
+pub mod Faults
+pub mod FaultTexts
+pub mod Laws

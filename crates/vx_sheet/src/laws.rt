@@ -1,0 +1,19 @@
+//! Laws of sheets. These functions do nothing; their contracts are the laws.
+
+ghost use Rattle.vx_sheet.specs.Laws.{EitherPageFirst, SheetsFit};
+
+use vx_layout::{plans_are_numbered, plans_stand_on_the_grid};
+
+/// Two readings are the same sheet, whichever comes first.
+pub fn either_page_may_come_first()
+    ensures { EitherPageFirst }
+{}
+
+/// The sheet of two readings of a planned card fits the election: its card is there, its front is odd,
+/// and it has a state for each option of each of its contests.
+pub fn sheets_fit()
+    ensures { SheetsFit }
+{
+    plans_are_numbered();
+    plans_stand_on_the_grid();
+}
