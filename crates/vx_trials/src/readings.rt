@@ -34,10 +34,10 @@ pub(crate) const CLEAR: &str = "bubble 0 0 0 0 clear\nbubble 1 0 1 0 clear\n";
 #[derive(Clone, Copy)]
 pub(crate) struct Painted {
     pub(crate) paper: Paper,
-    page: usize,
-    card: u32,
-    number: u32,
-    is_other: bool,
+    pub(crate) page: usize,
+    pub(crate) card: u32,
+    pub(crate) number: u32,
+    pub(crate) is_other: bool,
 }
 
 /// The first page.
