@@ -106,7 +106,7 @@ fn stations_claim_in_turn(rt: HostRuntime) -> Result<(), Fail> {
         assert!(rt; answer(alloc, &mut center, &event)? == reply);
     }
     assert!(rt; center.events().len() == 5);
-    assert!(rt; center.holder(&key(alloc, 1)?) == None);
+    assert!(rt; center.holder(&key(alloc, 1)?).is_none());
     Ok(())
 }
 
@@ -145,10 +145,10 @@ fn decisions_are_refused(rt: HostRuntime) -> Result<(), Fail> {
         assert!(rt; answer(alloc, &mut center, &event)? == reply);
     }
     assert!(rt; center.next_waiting(None) == Some((0, 0)));
-    assert!(rt; center.next_waiting(Some((0, 0))) == None);
+    assert!(rt; center.next_waiting(Some((0, 0))).is_none());
     let ruled = decide(alloc, 7, 1, Decision::RuledOvervote)?;
     assert!(rt; answer(alloc, &mut center, &ruled)? == Reply::Done);
-    assert!(rt; center.next_waiting(None) == None);
+    assert!(rt; center.next_waiting(None).is_none());
     let rows = center.export_rows(alloc)?;
     let rows = rows.as_slice();
     assert!(rt; rows.len() == 2 && rows[0].key.number == 1);
