@@ -4,8 +4,6 @@
 #[cfg(test)]
 mod commands;
 #[cfg(test)]
-mod counting;
-#[cfg(test)]
 mod elections;
 #[cfg(test)]
 mod layouts;
