@@ -13,6 +13,3 @@ mod pairing;
 pub use fault::SheetFault;
 pub use laws::{either_page_may_come_first, sheets_fit};
 pub use pairing::pair;
-
-#[cfg(test)]
-mod tests;
