@@ -47,12 +47,14 @@ pub record IsKept (election : Election) (kept : List Event) (beside : List (Shee
   pub valid : IsValid election
   pub history : IsHistory election kept
   pub entries : beside ≡ map (named_entry kept) (sheets_in kept)
-  pub own : (place : ℕ) (added : Added) → slice_get (sheets_in kept) place ≡ Some added → place_in kept added.key ≡ Some place
+  pub own : (place : ℕ) (added : Added) → slice_get (sheets_in kept) place ≡ Some added
+      → place_in kept added.key ≡ Some place
   pub quiet : (key : Key) → place_in kept key ≡ None → IsQuiet kept key
 
 -- a sheet that was added with a key, as it is found: it fits the election, and its entry says who holds
 -- it and what was decided of it
-pub record IsFound (election : Election) (kept : List Event) (key : Key) (sheet : SheetMarks) (entry : Entry) : Type 0 where
+pub record IsFound (election : Election) (kept : List Event) (key : Key) (sheet : SheetMarks) (entry : Entry)
+    : Type 0 where
   pub there : sheet_in kept key ≡ Some sheet
   pub fits : is_sheet election sheet ≡ true
   pub held : holder_of kept key ≡ entry.holder
@@ -64,7 +66,8 @@ pub record IsUnknown (kept : List Event) (key : Key) : Type 0 where
   pub free : holder_of kept key ≡ None
 
 -- the sheet at a place in the order of adding, as it is found
-pub record IsAt (election : Election) (kept : List Event) (place : ℕ) (key : Key) (sheet : SheetMarks) (entry : Entry) : Type 0 where
+pub record IsAt (election : Election) (kept : List Event) (place : ℕ) (key : Key) (sheet : SheetMarks) (entry : Entry)
+    : Type 0 where
   pub added : Added
   pub there : slice_get (sheets_in kept) place ≡ Some added
   pub keyed : added.key ≡ key

@@ -82,7 +82,8 @@ pub record NothingWaits (election : Election) (kept : List Event) (after : Optio
   pub none : (sheet contest : ℕ) → IsBehind after sheet contest → waits_at election kept sheet contest ≡ false
 
 -- the first that waits behind a place
-pub record IsFirstWaiting (election : Election) (kept : List Event) (after : Option (ℕ × ℕ)) (next : ℕ × ℕ) : Type 0 where
+pub record IsFirstWaiting (election : Election) (kept : List Event) (after : Option (ℕ × ℕ)) (next : ℕ × ℕ)
+    : Type 0 where
   pub behind : IsBehind after next.0 next.1
   pub waits : waits_at election kept next.0 next.1 ≡ true
   pub first : (sheet contest : ℕ) → IsBehind after sheet contest → IsBefore sheet contest next.0 next.1
@@ -116,7 +117,8 @@ pub record NothingFrom (election : Election) (kept : List Event) (from : ℕ) : 
 pub record IsFirstSheet (election : Election) (kept : List Event) (from : ℕ) (next : ℕ × ℕ) : Type 0 where
   pub reached : from ≤ next.0
   pub waits : waits_at election kept next.0 next.1 ≡ true
-  pub first : (sheet contest : ℕ) → from ≤ sheet → IsBefore sheet contest next.0 next.1 → waits_at election kept sheet contest ≡ false
+  pub first : (sheet contest : ℕ) → from ≤ sheet → IsBefore sheet contest next.0 next.1
+      → waits_at election kept sheet contest ≡ false
 
 -- what waits first from a sheet on, if anything does
 abbrev pub FirstSheetFrom : Election → List Event → ℕ → Option (ℕ × ℕ) → Type 0

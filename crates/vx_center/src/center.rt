@@ -103,7 +103,8 @@ impl<'e> Center<'e> {
     pub fn apply(&mut self, alloc: Global, event: &Event) -> Result<Reply, OutOfMemory>
         requires { Fits self.old.election event.now }
         ensures reply { IfOk result (λ reply. reply ≡ reply_of self.old.election self.old.events event.now) }
-        ensures next { OnOk result (self.new ≡ record self.old { events = next_of self.old.election self.old.events event.now }) }
+        ensures next { OnOk result (self.new
+            ≡ record self.old { events = next_of self.old.election self.old.events event.now }) }
         ensures as_before { OnErr result (self.new ≡ self.old) }
         ensures no_refusal { OnErr result (reply_of self.old.election self.old.events event.now ≡ Reply.Done) }
     {

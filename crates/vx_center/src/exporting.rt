@@ -92,7 +92,8 @@ fn final_of(
     decided: &[Decided],
 ) -> Result<Final, OutOfMemory>
     requires { length marks.now.states < 2 ^ 32 }
-    ensures { IfOk result (λ made. made ≡ spec.final_of contest.now marks.now (decisions_on marks.now.contest decided.now)) }
+    ensures { IfOk result (λ made. made
+        ≡ spec.final_of contest.now marks.now (decisions_on marks.now.contest decided.now)) }
 {
     let states = marks.states.as_slice();
     let ruling = ruling_on(marks.contest, decided);
@@ -117,7 +118,8 @@ fn add_final(
 ) -> Result<(), OutOfMemory>
     requires valid { IsValid election.now }
     requires read { is_read election.now marks.now ≡ true }
-    ensures { OnOk result (finals.new.items ≡ finals.old.items ++ spec.final_if_exported election.now sheet_blank decided.now marks.now) }
+    ensures { OnOk result (finals.new.items
+        ≡ finals.old.items ++ spec.final_if_exported election.now sheet_blank decided.now marks.now) }
 {
     if !is_exported(election, sheet_blank, decided, marks) {
         return Ok(());
@@ -186,7 +188,9 @@ impl<'e> Center<'e> {
         rows: &mut Vec<ExportSheet>,
         place: usize,
     ) -> Result<(), OutOfMemory>
-        ensures { OnOk result (rows.new.items ≡ rows.old.items ++ spec.rows_at self.now.election self.now.events (slice_get (sheets_in self.now.events) place)) }
+        ensures { OnOk result (rows.new.items
+            ≡ rows.old.items
+            ++ spec.rows_at self.now.election self.now.events (slice_get (sheets_in self.now.events) place)) }
     {
         if let Some(found) = self.found(place) {
             let decided = found.entry.decided();
@@ -197,7 +201,8 @@ impl<'e> Center<'e> {
 
     /// The rows of the sheets, in the order of adding.
     fn rows(&self, alloc: Global) -> Result<Vec<ExportSheet>, OutOfMemory>
-        ensures { IfOk result (λ rows. rows.items ≡ map (spec.row_of self.now.election self.now.events) (sheets_in self.now.events)) }
+        ensures { IfOk result (λ rows. rows.items
+            ≡ map (spec.row_of self.now.election self.now.events) (sheets_in self.now.events)) }
     {
         let count = self.sheet_count();
         let mut rows = Vec::with_capacity(alloc, count)?;

@@ -57,7 +57,8 @@ fn first_from(number: u32, options: &[u32]) -> Option<u32>
 
 fn selections_reply(contest: &Contest, options: &Options) -> Reply
     requires { options_of contest.now ≤ 150 }
-    ensures { result ≡ replies.selections_reply contest.now options.now (find (nat_le (options_of contest.now)) options.now) }
+    ensures { result
+        ≡ replies.selections_reply contest.now options.now (find (nat_le (options_of contest.now)) options.now) }
 {
     let options = options.as_slice();
     match first_from(contest.options(), options) {
@@ -102,7 +103,8 @@ fn slot_reply(
     name: &WriteInName,
 ) -> Reply
     requires { options_of contest.now ≤ 150 }
-    ensures { result ≡ replies.slot_reply contest.now (selected_by states.now (option_copied ruling.entry)) slot name.now }
+    ensures { result
+        ≡ replies.slot_reply contest.now (selected_by states.now (option_copied ruling.entry)) slot name.now }
 {
     if has_slot(contest, states, ruling, slot) {
         name_reply(contest, name)
@@ -182,7 +184,8 @@ pub(crate) fn decide_reply(
 ) -> Reply
     requires valid { IsValid election.now }
     requires fits { is_sheet election.now sheet.now ≡ true }
-    ensures { result ≡ replies.decide_reply election.now (decisions_on number decided.now) number decision.now sheet.now }
+    ensures { result
+        ≡ replies.decide_reply election.now (decisions_on number decided.now) number decision.now sheet.now }
 {
     let Some(contest) = election.contests.as_slice().get(number as usize) else {
         return Reply::NotOnSheet(number);

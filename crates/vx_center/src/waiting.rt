@@ -69,7 +69,9 @@ fn waiting_from(
 ) -> Option<u32>
     requires valid { IsValid election.now }
     requires fits { is_sheet election.now sheet.now ≡ true }
-    ensures { FirstFrom (λ contest. waits_by election.now sheet.now decided.now (slice_get sheet.now.contests contest)) from result }
+    ensures { FirstFrom
+        (λ contest. waits_by election.now sheet.now decided.now (slice_get sheet.now.contests contest))
+        from result }
 {
     let sheet_blank = is_blank(sheet);
     let count = sheet.contests.len();

@@ -30,7 +30,7 @@ same_kind Precinct Precinct = true
 same_kind Absentee Absentee = true
 same_kind Provisional Provisional = true
 same_kind Other Other = true
-same_kind one another = false
+same_kind first second = false
 
 -- two codes are of one kind, and both of test ballots or neither
 abbrev pub are_alike : PageCode → PageCode → Bool
@@ -73,12 +73,14 @@ is_on plan front back contest = has_bubble contest (bubbles_on plan front) || ha
 abbrev pub marks_of : CardPlan → PageReading → PageReading → ℕ → ContestMarks
 marks_of plan front back contest = record {
   contest = contest;
-  states = states_on contest (bubbles_on plan front) front.states ++ states_on contest (bubbles_on plan back) back.states;
+  states =
+      states_on contest (bubbles_on plan front) front.states ++ states_on contest (bubbles_on plan back) back.states;
 }
 
 -- the same, if it has a bubble on either page
 abbrev pub marks_if_on : CardPlan → PageReading → PageReading → ℕ → List ContestMarks
-marks_if_on plan front back contest = if is_on plan front back contest then marks_of plan front back contest ∷ [] else []
+marks_if_on plan front back contest =
+    if is_on plan front back contest then marks_of plan front back contest ∷ [] else []
 
 -- the sheet of a front and its back: the contests with a bubble on either page, in ascending order
 abbrev pub sheet_with : CardPlan → PageReading → PageReading → SheetMarks

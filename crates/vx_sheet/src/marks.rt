@@ -37,7 +37,8 @@ fn add_state(
     bubble: Bubble,
     state: Option<&State>,
 ) -> Result<(), AllocError>
-    ensures { OnOk result (list.new.items ≡ list.old.items ++ sheet.state_on contest bubble (option_copied state.entry)) }
+    ensures { OnOk result (list.new.items
+        ≡ list.old.items ++ sheet.state_on contest bubble (option_copied state.entry)) }
 {
     if let Some(state) = state {
         if bubble.contest == contest {

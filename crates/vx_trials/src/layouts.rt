@@ -180,6 +180,13 @@ const TOO_LONG: &str = "Maximilian Alexander of the Long Street by the Old Town 
 const NO_CONTESTS: &str =
     "card 0 hollow 0\npage 1 of 2\n290 1810 T - 2024-11-05 - P - page 1 of 2\npage 2 of 2\n290 1810 T - 2024-11-05 - P - page 2 of 2\n";
 
+// Whether what is answered for the one card of such contests has this text in it.
+fn says(alloc: Global, made: Content, wanted: &str) -> Result<bool, AllocError> {
+    let text = definition(alloc, made, 1)?;
+    let found = answer(alloc, text.as_bytes(), 0)?;
+    Ok(found.as_str().contains(wanted))
+}
+
 #[test]
 fn contests_flow_through_columns_and_pages(rt: HostRuntime) -> Result<(), Fail> {
     let rows = [
@@ -196,19 +203,41 @@ fn contests_flow_through_columns_and_pages(rt: HostRuntime) -> Result<(), Fail> 
         ),
         (councils(1, 30, TOO_LONG), "fault 2 k0 59"),
         (councils(3, 2, "\u{e9}"), "card 0 hollow 6\n"),
-        (councils(186, 26, "A"), "page 62 of 62\n183.0 4 8\n"),
-        (councils(187, 26, "A"), "fault 3 64"),
-        (
-            councils(500, 1, "A"),
-            "page 19 of 20\n486.0 4 8\n487.0 4 11\n",
-        ),
-        (councils(500, 100, "A"), "fault 1 k0 102"),
     ];
     for (made, wanted) in rows {
-        let text = definition(rt.alloc(), made, 1)?;
-        let found = answer(rt.alloc(), text.as_bytes(), 0)?;
-        assert!(rt; found.as_str().contains(wanted), "{wanted}");
+        assert!(rt; says(rt.alloc(), made, wanted)?, "{wanted}");
     }
+    Ok(())
+}
+
+#[test]
+fn a_card_has_62_pages_at_most(rt: HostRuntime) -> Result<(), Fail> {
+    assert!(rt;
+        says(
+            rt.alloc(),
+            councils(186, 26, "A"),
+            "page 62 of 62\n183.0 4 8\n"
+        )?
+    );
+    Ok(())
+}
+
+#[test]
+fn a_card_of_more_pages_is_refused(rt: HostRuntime) -> Result<(), Fail> {
+    assert!(rt; says(rt.alloc(), councils(187, 26, "A"), "fault 3 64")?);
+    Ok(())
+}
+
+#[test]
+fn five_hundred_contests_flow(rt: HostRuntime) -> Result<(), Fail> {
+    let wanted = "page 19 of 20\n486.0 4 8\n487.0 4 11\n";
+    assert!(rt; says(rt.alloc(), councils(500, 1, "A"), wanted)?);
+    Ok(())
+}
+
+#[test]
+fn five_hundred_contests_of_a_hundred_are_refused(rt: HostRuntime) -> Result<(), Fail> {
+    assert!(rt; says(rt.alloc(), councils(500, 100, "A"), "fault 1 k0 102")?);
     Ok(())
 }
 
