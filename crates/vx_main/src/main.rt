@@ -5,37 +5,89 @@
 
 use std::env;
 use std::process::ExitCode;
-use std::rt::{Env, Files};
 use std::thread::Threads;
 use vx_app::{arguments_status, command_words, run};
 use vx_command::{Message, Status};
 use vx_io::{KeeperCalls, MemKeeper, Records, StdInputs, StdSink, Words};
+use vx_keep_sqlite::SqliteKeeper;
 
-/// The words of the command line.
-fn words_of_line<R: Env + AllocGlobal>(rt: &R) -> Result<Words, Status> {
+/// The arguments of the command line, the program's name before them.
+fn arguments_of_line(rt: &HostRuntime) -> Result<Vec<String>, Status> {
     match env::args(rt) {
         Ok(arguments) => match arguments.collect::<Vec<String>>(rt.alloc()) {
-            Ok(list) => command_words(rt.alloc(), list.as_slice()),
+            Ok(list) => Ok(list),
             Err(_refused) => Err(Status::NoMemory),
         },
         Err(fault) => Err(arguments_status(fault.kind())),
     }
 }
 
-/// Does the command of the command line.
-fn answer<R: Env + Files + Print + AllocGlobal + Threads + Sync>(rt: &R) -> Status {
-    let words = match words_of_line(rt) {
-        Ok(words) => words,
-        Err(status) => return status,
-    };
+/// Does a command with a journal in memory, which lasts for this run.
+fn run_in_memory<R: Threads + Sync>(rt: &HostRuntime, threads: &R, words: &Words) -> Status {
     let mut inputs = StdInputs::new(rt);
     let mut out = StdSink::new(rt);
     let mut keeper = MemKeeper::new(Records::new(rt.alloc()), KeeperCalls::new(rt.alloc()));
-    run(rt, rt.alloc(), &words, &mut inputs, &mut out, &mut keeper)
+    run(
+        threads,
+        rt.alloc(),
+        words,
+        &mut inputs,
+        &mut out,
+        &mut keeper,
+    )
+}
+
+/// Does a command with a journal in the file of this name.
+fn run_on_file<R: Threads + Sync>(
+    rt: &HostRuntime,
+    threads: &R,
+    journal: &str,
+    words: &Words,
+) -> Status {
+    let mut inputs = StdInputs::new(rt);
+    let mut out = StdSink::new(rt);
+    match SqliteKeeper::new(rt, journal) {
+        Ok(mut keeper) => run(
+            threads,
+            rt.alloc(),
+            words,
+            &mut inputs,
+            &mut out,
+            &mut keeper,
+        ),
+        Err(_refused) => Status::NoMemory,
+    }
+}
+
+/// Does a command with the journal that the first argument names.
+fn run_with<R: Threads + Sync>(
+    rt: &HostRuntime,
+    threads: &R,
+    journal: &str,
+    words: &Words,
+) -> Status {
+    if journal == "-" {
+        run_in_memory(rt, threads, words)
+    } else {
+        run_on_file(rt, threads, journal, words)
+    }
+}
+
+/// Does the command of the command line.
+fn answer<R: Threads + Sync>(rt: &HostRuntime, threads: &R) -> Result<Status, Status> {
+    let arguments = arguments_of_line(rt)?;
+    let words = command_words(rt.alloc(), arguments.as_slice())?;
+    match arguments.as_slice() {
+        [_program, journal, ..] => Ok(run_with(rt, threads, journal.as_str(), &words)),
+        _ => Err(Status::Usage),
+    }
 }
 
 fn main(rt: HostRuntime) -> ExitCode {
-    let status = answer(&rt);
+    let status = match answer(&rt, &rt) {
+        Ok(status) => status,
+        Err(status) => status,
+    };
     let _ = eprint!(rt; "{}", Message(&status));
     ExitCode::from(status.number())
 }
