@@ -2,11 +2,7 @@
 #![tactic(auto)]
 
 #[cfg(test)]
-mod certificates;
-#[cfg(test)]
 mod commands;
-#[cfg(test)]
-mod counting;
 #[cfg(test)]
 mod elections;
 #[cfg(test)]
