@@ -9,7 +9,7 @@ use Rattle.std.specs.Str.Parse.{digits_value}
 use Rattle.std.proofs.lemmas.Fmt.{decimal_is_IsNumeral}
 use Rattle.vx_grid.specs.declared.kind.Kind.{Kind}
 use Rattle.vx_grid.specs.declared.kind.Kind.TheVariants.{Precinct, Absentee, Provisional, Other}
-use Rattle.vx_command.specs.Kinds.{kind_word}
+use Rattle.vx_grid.specs.Kinds.{kind_word}
 use Rattle.vx_command_print.specs.declared.ballot.Ballot.{Ballot}
 use Rattle.vx_app.specs.declared.command.Command.{Command}
 use Rattle.vx_app.specs.declared.command.Command.TheVariants.{Print, Read}

@@ -2,7 +2,7 @@
 use Rattle.std.specs.Prelude.{◌≡◌, ◌≢◌, ◌≤◌, ◌<◌, All, ℕ, List, ◌∷◌, [], length, drop, slice_get, slice_index, codes, Option, None, Some, Result, Ok, Err}
 use Rattle.std.specs.Fmt.{decimal}
 use Rattle.vx_grid.specs.declared.kind.Kind.TheVariants.{Other}
-use Rattle.vx_command.specs.Kinds.{kind_word}
+use Rattle.vx_grid.specs.Kinds.{kind_word}
 use Rattle.vx_command_print.specs.declared.ballot.Ballot.{Ballot}
 use Rattle.vx_app.specs.declared.command.Command.{Command}
 use Rattle.vx_app.specs.declared.command.Command.TheVariants.{Print, Read}

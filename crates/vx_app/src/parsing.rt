@@ -1,7 +1,7 @@
 ghost use Rattle.std.specs.Prelude.{◌≡◌, ◌≢◌, ◌↔◌, ◌<◌, ◌≤◌, All, Bool, IsTrue, IfOk, MatchBool, MatchOption, drop, length};
 ghost use Rattle.vx_grid.specs.declared.kind.Kind.{Kind as KindOf};
 ghost use Rattle.vx_grid.specs.declared.kind.Kind.TheVariants.{Other};
-ghost use Rattle.vx_command.specs.Kinds.{kind_name, kind_word};
+ghost use Rattle.vx_grid.specs.Kinds.{kind_name, kind_word};
 ghost use Rattle.vx_app.specs.Words.{IsArgument, NoCommand, NoPrint, NoRead, Parses, SpellsBallot, SpellsScans};
 
 use crate::command::Command;

@@ -13,7 +13,7 @@ use Rattle.vx_events.specs.declared.event.Event.{Event}
 use Rattle.vx_events.specs.declared.event.Event.TheVariants.{Add, Claim, Release, Decide}
 use Rattle.vx_events.specs.declared.decision.Decision.{Decision}
 use Rattle.vx_events.specs.declared.key.Key.{Key}
-use Rattle.vx_events.specs.declared.reply.Reply.TheVariants.{Done}
+use Rattle.vx_refusals.specs.declared.reply.Reply.TheVariants.{Done}
 use Rattle.vx_events.specs.Fits.{Fits}
 use Rattle.vx_center.specs.declared.decided.Decided.{Decided}
 use Rattle.vx_center.specs.declared.name.SheetName.{SheetName}

@@ -15,7 +15,7 @@ use Rattle.vx_election_model.specs.Valid.{IsContest, HasChoices, HasAnswers, Has
 use Rattle.vx_rules.specs.declared.marks.ContestMarks.{ContestMarks}
 use Rattle.vx_rules.specs.declared.marks.SheetMarks.{SheetMarks}
 use Rattle.vx_events.specs.declared.event.Event.{Event}
-use Rattle.vx_events.specs.declared.reply.Reply.TheVariants.{Done, Full}
+use Rattle.vx_refusals.specs.declared.reply.Reply.TheVariants.{Done, Full}
 use Rattle.vx_events.specs.Ascending.{ascends_from, is_ascending}
 use Rattle.vx_events.specs.Fits.{has_options, is_read, contests_of, is_sheet}
 use Rattle.vx_center.specs.Replies.{reply_of, reply_with_room, event_limit}

@@ -11,8 +11,8 @@ use Rattle.vx_rules.specs.declared.marks.SheetMarks.{SheetMarks}
 use Rattle.vx_events.specs.declared.event.Event.{Event}
 use Rattle.vx_events.specs.declared.event.Event.TheVariants.{Add, Claim, Release, Decide}
 use Rattle.vx_events.specs.declared.key.Key.{Key}
-use Rattle.vx_events.specs.declared.reply.Reply.{Reply}
-use Rattle.vx_events.specs.declared.reply.Reply.TheVariants.{Done, NoSheet, Full, Repeated}
+use Rattle.vx_refusals.specs.declared.reply.Reply.{Reply}
+use Rattle.vx_refusals.specs.declared.reply.Reply.TheVariants.{Done, NoSheet, Full, Repeated}
 use Rattle.vx_events.specs.Fits.{Fits}
 use Rattle.vx_center.specs.declared.decided.Decided.{Decided}
 use Rattle.vx_center.specs.Sheets.{Added, same_key, has_key, added_by, sheets_in, sheet_of, place_in, sheet_in}

@@ -15,8 +15,8 @@ use Rattle.vx_events.specs.declared.decision.Decision.{Decision}
 use Rattle.vx_events.specs.declared.event.Event.{Event}
 use Rattle.vx_events.specs.declared.event.Event.TheVariants.{Claim, Release, Decide}
 use Rattle.vx_events.specs.declared.key.Key.{Key}
-use Rattle.vx_events.specs.declared.reply.Reply.{Reply}
-use Rattle.vx_events.specs.declared.reply.Reply.TheVariants.{Done, NoSheet, NotHeld, HeldBy}
+use Rattle.vx_refusals.specs.declared.reply.Reply.{Reply}
+use Rattle.vx_refusals.specs.declared.reply.Reply.TheVariants.{Done, NoSheet, NotHeld, HeldBy}
 use Rattle.vx_center.specs.declared.decided.Decided.{Decided}
 use Rattle.vx_center.specs.Sheets.{Added, has_key, added_by, sheets_in, sheet_of, sheet_in}
 use Rattle.vx_center.specs.Holders.{holder_of}

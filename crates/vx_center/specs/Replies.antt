@@ -15,8 +15,8 @@ use Rattle.vx_events.specs.declared.decision.WriteInName.TheVariants.{Words, Can
 use Rattle.vx_events.specs.declared.event.Event.{Event}
 use Rattle.vx_events.specs.declared.event.Event.TheVariants.{Add, Claim, Release, Decide}
 use Rattle.vx_events.specs.declared.key.Key.{Key}
-use Rattle.vx_events.specs.declared.reply.Reply.{Reply}
-use Rattle.vx_events.specs.declared.reply.Reply.TheVariants.{Done, Repeated, NoSheet, HeldBy, NotHeld, NotOnSheet, NotAnOption, OverSeats, StillMarginal, NoWriteIn, Full}
+use Rattle.vx_refusals.specs.declared.reply.Reply.{Reply}
+use Rattle.vx_refusals.specs.declared.reply.Reply.TheVariants.{Done, Repeated, NoSheet, HeldBy, NotHeld, NotOnSheet, NotAnOption, OverSeats, StillMarginal, NoWriteIn, Full}
 use Rattle.vx_center.specs.Sheets.{place_in, sheet_in, marks_on}
 use Rattle.vx_center.specs.Holders.{holder_of}
 use Rattle.vx_center.specs.Decisions.{decisions_of, ruling_of}

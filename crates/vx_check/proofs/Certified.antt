@@ -17,7 +17,7 @@ use Rattle.vx_scan_model.specs.declared.reading.PageReading.{PageReading}
 use Rattle.vx_scan_model.specs.Named.{named_plan, IsPrintedCode, CodesNamePrintedPages}
 use Rattle.vx_scan_model.specs.Reading.{is_allowed}
 use Rattle.vx_scan_model.specs.Certificate.{CertifiesUpright, PlacesAreTested}
-use Rattle.vx_check.specs.declared.fault.CheckFault.{CheckFault}
+use Rattle.vx_refusals.specs.declared.checking.CheckFault.{CheckFault}
 use Rattle.vx_check.specs.Tests.{Tested, frame_tested, paper_tested, border_tested, code_tested, plan_tested, bubbles_tested, upright_tested}
 use Rattle.vx_check.proofs.Orders.{both-passed, after-passed, passes-so, so-passes}
 use Rattle.vx_check.proofs.Places.{allowed-small, paper-same, same-paper, IsTestedBorder, border-passed, border-passes}

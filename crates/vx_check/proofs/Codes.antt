@@ -24,8 +24,8 @@ use Rattle.vx_scan_model.specs.declared.reading.PageReading.{PageReading}
 use Rattle.vx_scan_model.specs.declared.fault.PageFault.{PageFault}
 use Rattle.vx_scan_model.specs.Named.{named_plan}
 use Rattle.vx_scan_model.specs.Reading.{box_count_of, code_read, bubble_score, scores_of, states_of}
-use Rattle.vx_check.specs.declared.fault.CheckFault.{CheckFault}
-use Rattle.vx_check.specs.declared.fault.CheckFault.TheVariants.{CodeAt}
+use Rattle.vx_refusals.specs.declared.checking.CheckFault.{CheckFault}
+use Rattle.vx_refusals.specs.declared.checking.CheckFault.TheVariants.{CodeAt}
 use Rattle.vx_check.specs.Tests.{Tested, passes, in_order, no_bit, is_in_range, is_shown, shows_box, pair_tested, code_tested, or_no_bit, plan_tested, score_tested, scores_tested, state_tested, states_tested, bubbles_tested}
 use Rattle.vx_check.proofs.Orders.{both-passed, after-passed, after-failed, passes-so, so-passes, not-passes, in_order-fails, in_order-passes, in_order-passed}
 use Rattle.vx_check.proofs.Lists.{same-values, score-same, same-score, state-same, same-state}

@@ -3,7 +3,7 @@ use Rattle.std.proofs.Common.{◌≡◌, ◌≢◌, ℕ, zero, suc, ◌+◌, ◌
 use Rattle.std.specs.Prelude.{Result, Ok, Err}
 use Rattle.vx_base.specs.Results.{◌>>=◌}
 use Rattle.vx_base.proofs.Numbers.{equal-from_yes, equal-yes}
-use Rattle.vx_check.specs.declared.fault.CheckFault.{CheckFault}
+use Rattle.vx_refusals.specs.declared.checking.CheckFault.{CheckFault}
 use Rattle.vx_check.specs.Tests.{Tested, passes, in_order}
 
 -- one thing after another

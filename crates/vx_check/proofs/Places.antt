@@ -21,8 +21,8 @@ use Rattle.vx_mark_model.specs.Following.{is_in_row, leader_of, right_of, below,
 use Rattle.vx_margin.specs.Chains.{IsChain}
 use Rattle.vx_scan_model.specs.Reading.{is_allowed}
 use Rattle.vx_scan_model.specs.Certificate.{PlacesAreTested}
-use Rattle.vx_check.specs.declared.fault.CheckFault.{CheckFault}
-use Rattle.vx_check.specs.declared.fault.CheckFault.TheVariants.{MarkAt, StepAt}
+use Rattle.vx_refusals.specs.declared.checking.CheckFault.{CheckFault}
+use Rattle.vx_refusals.specs.declared.checking.CheckFault.TheVariants.{MarkAt, StepAt}
 use Rattle.vx_check.specs.Tests.{Tested, passes, in_order, paper_tested, corner_tested, countable, light_deficit, mark_tested, near_tested, step_tested, place_tested, closing_tested, border_tested}
 use Rattle.vx_check.proofs.Orders.{both-passed, after-passed, after-failed, passes-so, so-passes, not-passes, in_order-passes, in_order-passed}
 

@@ -30,8 +30,8 @@ use Rattle.vx_scan_model.specs.declared.reading.PageReading.{PageReading}
 use Rattle.vx_scan_model.specs.declared.fault.PageFault.{PageFault}
 use Rattle.vx_scan_model.specs.Named.{named_plan}
 use Rattle.vx_scan_model.specs.Reading.{is_allowed, box_count_of, bubble_score}
-use Rattle.vx_check.specs.declared.fault.CheckFault.{CheckFault}
-use Rattle.vx_check.specs.declared.fault.CheckFault.TheVariants.{MarkAt, StepAt, CornerAt, CodeAt, ScoreAt, StateAt, FrameSize, PaperAt}
+use Rattle.vx_refusals.specs.declared.checking.CheckFault.{CheckFault}
+use Rattle.vx_refusals.specs.declared.checking.CheckFault.TheVariants.{MarkAt, StepAt, CornerAt, CodeAt, ScoreAt, StateAt, FrameSize, PaperAt}
 
 -- what a test answers: nothing, or its fault
 abbrev pub Tested : Type 0

@@ -7,12 +7,12 @@ ghost use Rattle.vx_mark_model.specs.Corner.{corner_region};
 ghost use Rattle.vx_mark_model.specs.Mark.{IsAccepted};
 ghost use Rattle.vx_check.specs.Tests as tests;
 
-use crate::fault::CheckFault;
 use crate::passing::passes;
 use vx_border::{expected, first_left, is_near, leader_of, right_of};
 use vx_count::Counter;
 use vx_grid::{Border, Paper, Point, marks};
 use vx_mark::{accepted, deficit};
+use vx_refusals::CheckFault;
 use vx_scan_model::places_are_tested;
 
 /// The deficit of a place round which all is light: the pixels of its core.

@@ -4,11 +4,11 @@ ghost use Rattle.vx_layout.specs.Pages.{IsOnGrid};
 ghost use Rattle.vx_scan_model.specs.Reading as reading;
 ghost use Rattle.vx_check.specs.Tests as tests;
 
-use crate::fault::CheckFault;
 use crate::passing::passes;
 use vx_count::Counter;
 use vx_grid::{Border, State, Thresholds};
 use vx_layout::Bubble;
+use vx_refusals::CheckFault;
 use vx_scan_model::bubble_score;
 use vx_score::state;
 

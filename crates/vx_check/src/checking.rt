@@ -10,13 +10,13 @@ ghost use Rattle.vx_check.specs.Tests as tests;
 use crate::border::{check_border, check_paper};
 use crate::bubbles::{check_scores, check_states};
 use crate::code::{check_code, check_plan};
-use crate::fault::CheckFault;
 use crate::passing::passes;
 use vx_code::codes_are_given_back;
 use vx_count::{Counter, turned_twice_is_as_before};
 use vx_election_model::Election;
 use vx_grid::{Paper, Thresholds};
 use vx_layout::{CardPlans, PagePlan};
+use vx_refusals::CheckFault;
 use vx_scan_model::{
     PageReading, allowed_heights, certificates_say_what_fits, codes_name_printed_pages,
     named_pages_stand_on_the_grid, places_are_tested,

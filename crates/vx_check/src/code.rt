@@ -6,13 +6,13 @@ ghost use Rattle.vx_layout.specs.Plans.{ArePlansOf};
 ghost use Rattle.vx_scan_model.specs.Reading.{code_read};
 ghost use Rattle.vx_check.specs.Tests as tests;
 
-use crate::fault::CheckFault;
 use crate::passing::passes;
 use vx_code::{PageCode, boxes_of, read_boxes, version_of};
 use vx_count::Counter;
 use vx_election_model::Election;
 use vx_grid::Border;
 use vx_layout::{CardPlans, PagePlan};
+use vx_refusals::CheckFault;
 use vx_scan_model::{box_counts, find_plan};
 
 /// Told in the place of a bit of the page code where no bit alone is at fault.

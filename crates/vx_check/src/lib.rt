@@ -11,8 +11,7 @@ mod border;
 mod bubbles;
 mod checking;
 mod code;
-mod fault;
 mod passing;
 
 pub use checking::check;
-pub use fault::CheckFault;
+pub use vx_refusals::CheckFault;

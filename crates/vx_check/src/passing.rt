@@ -1,7 +1,8 @@
 ghost use Rattle.std.specs.Prelude.{◌≡◌};
 ghost use Rattle.vx_check.specs.Tests as tests;
 
-use crate::fault::CheckFault;
+use vx_refusals::CheckFault;
+
 
 /// Passes where something is so, else answers the fault.
 pub(crate) fn passes(so: bool, fault: CheckFault) -> Result<(), CheckFault>

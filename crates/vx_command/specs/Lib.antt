@@ -7,4 +7,3 @@ pub mod Steps
 pub mod Status
 pub mod Laws
 pub mod Texts
-pub mod Kinds

@@ -6,6 +6,7 @@ use vx_election::ElectionFault;
 use vx_io::TakeFault;
 use vx_layout::{CardFault, LayoutFault};
 use vx_pbm::PbmFault;
+use vx_refusals::{CertFault, DecisionFault, JournalStop};
 
 /// Why a command halts before its work is done. Words are counted from 0.
 #[derive(Debug, Drop)]
@@ -20,6 +21,12 @@ pub enum Halt {
     Layout(u32, LayoutFault),
     /// The scan input of that word leaves the grammar of bitmaps.
     Pbm(u32, PbmFault),
+    /// The readings aren't certified.
+    NotCertified(CertFault),
+    /// That line of the script is refused. Lines are counted from 1.
+    Decision(u32, DecisionFault),
+    /// The journal's record of that index, from 0, stops its reading.
+    Journal(u64, JournalStop),
     /// The inputs failed.
     ReadFault,
     /// The sink failed.

@@ -9,7 +9,6 @@
 #![tactic(auto)]
 
 mod halt;
-mod kinds;
 mod laws;
 mod plans;
 mod status;
@@ -17,7 +16,6 @@ mod taking;
 mod writing;
 
 pub use halt::{Halt, halt_of_bitmap, halt_of_card};
-pub use kinds::kind_word;
 pub use laws::{acts_in_order, steps_in_order, texts_in_order};
 pub use plans::plan_all;
 pub use status::{Message, Status, status_of};

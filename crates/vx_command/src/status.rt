@@ -6,6 +6,7 @@ use std::fmt;
 use vx_election::ElectionFault;
 use vx_layout::LayoutFault;
 use vx_pbm::PbmFault;
+use vx_refusals::{CertFault, DecisionFault, JournalStop};
 
 /// What the program ends with. Words are counted from 0.
 #[derive(Debug, Drop)]
@@ -24,6 +25,12 @@ pub enum Status {
     Layout(u32, LayoutFault),
     /// The scan input of that word leaves the grammar of bitmaps.
     Pbm(u32, PbmFault),
+    /// The readings aren't certified.
+    NotCertified(CertFault),
+    /// That line of the script is refused. Lines are counted from 1.
+    Decision(u32, DecisionFault),
+    /// The journal's record of that index, from 0, stops its reading.
+    Journal(u64, JournalStop),
     /// The inputs failed.
     ReadFault,
     /// The sink failed.
@@ -47,6 +54,9 @@ impl Status {
             Status::Election(_) => 4,
             Status::Layout(_, _) => 5,
             Status::Pbm(_, _) => 6,
+            Status::NotCertified(_) => 7,
+            Status::Decision(_, _) => 8,
+            Status::Journal(_, _) => 9,
             Status::ReadFault => 10,
             Status::WriteFault => 11,
             Status::KeeperFault => 12,
@@ -67,6 +77,9 @@ pub fn status_of(answer: Result<(), Halt>) -> Status
         Err(Halt::Election(fault)) => Status::Election(fault),
         Err(Halt::Layout(card, fault)) => Status::Layout(card, fault),
         Err(Halt::Pbm(word, fault)) => Status::Pbm(word, fault),
+        Err(Halt::NotCertified(fault)) => Status::NotCertified(fault),
+        Err(Halt::Decision(line, fault)) => Status::Decision(line, fault),
+        Err(Halt::Journal(index, stop)) => Status::Journal(index, stop),
         Err(Halt::ReadFault) => Status::ReadFault,
         Err(Halt::WriteFault) => Status::WriteFault,
         Err(Halt::KeeperFault) => Status::KeeperFault,
@@ -90,6 +103,9 @@ impl fmt::Display for Status {
             Status::Election(fault) => write!(f, "election {fault}"),
             Status::Layout(card, fault) => write!(f, "layout {card} {fault}"),
             Status::Pbm(word, fault) => write!(f, "pbm {word} {fault}"),
+            Status::NotCertified(fault) => write!(f, "not certified {fault}"),
+            Status::Decision(line, fault) => write!(f, "decision line {line} {fault}"),
+            Status::Journal(index, stop) => write!(f, "journal {index} {stop}"),
             Status::ReadFault => f.write_str("read fault"),
             Status::WriteFault => f.write_str("write fault"),
             Status::KeeperFault => f.write_str("keeper fault"),

@@ -14,7 +14,7 @@ use Rattle.vx_scan_model.specs.declared.reading.PageReading.{PageReading}
 use Rattle.vx_scan_model.specs.declared.fault.PageFault.{PageFault}
 use Rattle.vx_scan_model.specs.FaultTexts.{fault_text}
 use Rattle.vx_scan_model.specs.Reading.{reading_of, named_plan}
-use Rattle.vx_command.specs.Kinds.{kind_word}
+use Rattle.vx_grid.specs.Kinds.{kind_word}
 
 -- words as a line: a blank between two of them, and a line end
 abbrev pub line_of : List (List ℕ) → List ℕ

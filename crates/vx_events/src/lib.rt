@@ -11,14 +11,13 @@ mod event;
 mod fitting;
 mod key;
 mod options;
-mod reply;
 
 pub use decision::{Decision, WriteInName};
 pub use event::{Event, event_is_shared};
 pub use fitting::fits;
 pub use key::Key;
 pub use options::Options;
-pub use reply::Reply;
+pub use vx_refusals::Reply;
 
 #[cfg(test)]
 mod tests;

@@ -5,3 +5,4 @@ pub mod Marks
 pub mod Regions
 pub mod Places
 pub mod Borders
+pub mod Kinds

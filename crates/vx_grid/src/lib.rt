@@ -18,7 +18,7 @@ mod sizes;
 mod state;
 
 pub use border::Border;
-pub use kind::Kind;
+pub use kind::{Kind, kind_word};
 pub use lines::{
     FIRST_CONTEST_ROW, centre_x, centre_y, contest_rows, first_code_row, foot_row, x_of, y_of,
 };

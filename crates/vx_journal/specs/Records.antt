@@ -1,10 +1,9 @@
 -- The records of a journal: the one spelling of each event, and the header of an election.
-use Rattle.std.specs.Prelude.{ℕ, Bool, true, false, List, [], ◌∷◌, ◌++◌, map, codes}
+use Rattle.std.specs.Prelude.{ℕ, List, [], ◌∷◌, ◌++◌, map, codes}
 use Rattle.std.specs.List.{flat_map}
 use Rattle.std.specs.Fmt.{decimal}
 use Rattle.hex.specs.Hex.{encode_lower}
-use Rattle.vx_grid.specs.declared.kind.Kind.{Kind}
-use Rattle.vx_grid.specs.declared.kind.Kind.TheVariants.{Precinct, Absentee, Provisional, Other}
+use Rattle.vx_grid.specs.Kinds.{kind_word}
 use Rattle.vx_grid.specs.declared.state.State.{State}
 use Rattle.vx_grid.specs.declared.state.State.TheVariants.{Marked, Marginal, Clear}
 use Rattle.vx_election_model.specs.declared.election.Election.{Election}
@@ -19,18 +18,6 @@ use Rattle.vx_events.specs.declared.event.Event.TheVariants.{Add, Claim, Release
 -- words, each with a blank before it
 abbrev pub spaced : List (List ℕ) → List ℕ
 spaced words = flat_map (λ word. 32 ∷ word) words
-
--- a kind's word
-abbrev pub kind_name : Kind → List ℕ
-kind_name Precinct = codes "precinct"
-kind_name Absentee = codes "absentee"
-kind_name Provisional = codes "provisional"
-kind_name Other = codes "other"
-
--- a kind's word, with `test-` before it for a test ballot
-abbrev pub kind_word : Kind → Bool → List ℕ
-kind_word kind false = kind_name kind
-kind_word kind true = codes "test-" ++ kind_name kind
 
 -- what an option was read as, in a letter
 abbrev pub state_letter : State → ℕ

@@ -3,30 +3,15 @@ ghost use Rattle.std.specs.Prelude.{[]};
 ghost use Rattle.std.specs.List.{flat_map};
 ghost use Rattle.std.specs.Fmt.{decimal};
 ghost use Rattle.vx_journal.specs.Records.{decision_words, header_of, marks_word, name_words, options_word, record_of, spaced, state_letter, words_of};
+ghost use Rattle.vx_grid.specs.Kinds.{kind_word as kind_word_of};
 ghost use Rattle.vx_journal.specs.Records as spelled;
 
 use std::alloc::Global;
 use vx_base::{Bytes, OutOfMemory};
 use vx_election_model::Election;
 use vx_events::{Decision, Event, Key, WriteInName};
-use vx_grid::{Kind, State};
+use vx_grid::{State, kind_word};
 use vx_rules::{ContestMarks, SheetMarks};
-
-/// A kind of ballots in a word, with `test-` before it for test ballots.
-fn kind_word(kind: Kind, test: bool) -> &'static str
-    ensures { result.now ≡ spelled.kind_word kind test }
-{
-    match (kind, test) {
-        (Kind::Precinct, false) => "precinct",
-        (Kind::Absentee, false) => "absentee",
-        (Kind::Provisional, false) => "provisional",
-        (Kind::Other, false) => "other",
-        (Kind::Precinct, true) => "test-precinct",
-        (Kind::Absentee, true) => "test-absentee",
-        (Kind::Provisional, true) => "test-provisional",
-        (Kind::Other, true) => "test-other",
-    }
-}
 
 /// What an option was read as, in a letter.
 fn state_text(state: State) -> &'static str
@@ -147,7 +132,7 @@ fn push_key(text: &mut String, key: &Key) -> Result<(), OutOfMemory>
 /// Adds a sheet, behind a blank.
 fn push_sheet(text: &mut String, sheet: &SheetMarks) -> Result<(), OutOfMemory>
     ensures { OnOk result (string_bytes text.new ≡ string_bytes text.old ++ spaced (decimal sheet.now.card
-        ∷ decimal sheet.now.front ∷ spelled.kind_word sheet.now.kind sheet.now.test
+        ∷ decimal sheet.now.front ∷ kind_word_of sheet.now.kind sheet.now.test
         ∷ map marks_word sheet.now.contests)) }
 {
     let kind = kind_word(sheet.kind, sheet.test);

@@ -43,7 +43,7 @@ use Rattle.vx_scan_model.specs.Border.{border_of}
 use Rattle.vx_scan_model.specs.Named.{named_plan, plan_on_card, plan_unless}
 use Rattle.vx_scan_model.specs.Reading.{is_allowed, box_count_of, code_read, bubble_score, scores_of, states_of, reading_on, reading_of_code, reading_of_border, upright_reading_of}
 use Rattle.vx_scan_model.specs.Ink.{added_to, bubble_at, HasInk}
-use Rattle.vx_scan_model.specs.Fits.{FitsUpright, state_of_mark, IsReadUpright}
+use Rattle.vx_scan_model.specs.Fits.{bubble_flips, code_flips, FitsUpright, state_of_mark, IsReadUpright}
 use Rattle.vx_scan_model.proofs.Borders.{IsBorderOf-border_of}
 use Rattle.vx_scan_model.proofs.Printed.{many_rows, frame-printed, place-columns, place-rows}
 use Rattle.vx_scan_model.proofs.Inks.{zone-ink, box-ink, box-full, box-empty}
@@ -140,7 +140,7 @@ module _ (laws : AreLaws) (election : Election) (valid : IsValid election) (scan
     border = record { paper = plan.paper; places = places }
 
     -- the windows of the page code hold their boxes
-    box-window : (n : ℕ) → n < 84 → HoldsWindow scan plan.paper fits.paper sizes.code_box (place_of_box plan.paper n).0 (place_of_box plan.paper n).1 120
+    box-window : (n : ℕ) → n < 84 → HoldsWindow scan plan.paper fits.paper sizes.code_box (place_of_box plan.paper n).0 (place_of_box plan.paper n).1 code_flips
         (place_of border (place_of_box plan.paper n).0 (place_of_box plan.paper n).1)
     box-window n few =
         let columns = place-columns (first_code_row plan.paper) n few in
@@ -149,7 +149,7 @@ module _ (laws : AreLaws) (election : Election) (valid : IsValid election) (scan
         let r : ℕ = (place_of_box plan.paper n).1 in
         let close : LiesNear 6 4 (place_of border c r) (image_of s plan.paper c r) =
         laws.places s border c r fits.shows.slant_is near (omega (arith, columns.1)) (omega (arith, rows.1, many_rows plan.paper)) in
-        laws.windows s scan plan.paper fits.paper sizes.code_box c r 120 (place_of border c r) fits.shows.slant_is (omega arith) (omega arith) (fits.shows.boxes n few) close
+        laws.windows s scan plan.paper fits.paper sizes.code_box c r code_flips (place_of border c r) fits.shows.slant_is (omega arith) (omega arith) (fits.shows.boxes n few) close
 
     box-shown : (n : ℕ) → n < 84 → (is : Bool) → slice_index_or boxes n false ≡ is → IsShown is (box_count_of scan border n)
     box-shown n few true is =
@@ -176,7 +176,7 @@ module _ (laws : AreLaws) (election : Election) (valid : IsValid election) (scan
         (length-map-range_with_len (box_count_of scan border) 0 84) code.1 (ap version_of (sym of_paper)) counts-show
 
     -- the window of a bubble holds its box
-    bubble-window : (n : ℕ) → n < length plan.bubbles → HoldsWindow scan plan.paper fits.paper sizes.bubble (bubble_at plan n).col (bubble_at plan n).row 12
+    bubble-window : (n : ℕ) → n < length plan.bubbles → HoldsWindow scan plan.paper fits.paper sizes.bubble (bubble_at plan n).col (bubble_at plan n).row bubble_flips
         (place_of border (bubble_at plan n).col (bubble_at plan n).row)
     bubble-window n few =
         let c : ℕ = (bubble_at plan n).col in
@@ -184,7 +184,7 @@ module _ (laws : AreLaws) (election : Election) (valid : IsValid election) (scan
         let grid : IsOnGrid plan.paper (bubble_at plan n) = keeps.on_grid n (record { contest = 0; option = 0; col = 0; row = 0 }) few in
         let close : LiesNear 6 4 (place_of border c r) (image_of s plan.paper c r) =
         laws.places s border c r fits.shows.slant_is near (omega (arith, grid.col, grid.few)) (omega (arith, grid.high, many_rows plan.paper)) in
-        laws.windows s scan plan.paper fits.paper sizes.bubble c r 12 (place_of border c r) fits.shows.slant_is (omega arith) (omega arith) (fits.shows.bubbles n few) close
+        laws.windows s scan plan.paper fits.paper sizes.bubble c r bubble_flips (place_of border c r) fits.shows.slant_is (omega arith) (omega arith) (fits.shows.bubbles n few) close
 
     scored : (n : ℕ) → n < length plan.bubbles → (mark : Bool) → HasInk mark election.thresholds plan.paper (bubble_at plan n) (added_to print fits.paper)
         → state_of (bubble_score scan border (bubble_at plan n)) election.thresholds ≡ state_of_mark mark

@@ -1,11 +1,10 @@
 ghost use Rattle.std.specs.Prelude.{◌≡◌};
 ghost use Rattle.vx_sheet.specs.declared.fault.SheetFault.TheVariants as fault;
-ghost use Rattle.vx_sheet.specs.FaultTexts.{kind_word as kind_word_of};
 
 use std::alloc::AllocError;
 use std::fmt;
 use vx_code::PageCode;
-use vx_grid::Kind;
+use vx_grid::kind_word;
 
 /// Why two readings are no sheet: the first fault, in this order.
 #[derive(Clone, Copy, Debug, PartialEq, Eq)]
@@ -25,22 +24,6 @@ impl From<AllocError> for SheetFault {
 
     fn from(_e: AllocError) -> SheetFault {
         SheetFault::OutOfMemory
-    }
-}
-
-/// A kind of ballots in a word, with `test-` before it for test ballots.
-fn kind_word(kind: Kind, test: bool) -> &'static str
-    ensures { result.now ≡ kind_word_of kind test }
-{
-    match (kind, test) {
-        (Kind::Precinct, false) => "precinct",
-        (Kind::Absentee, false) => "absentee",
-        (Kind::Provisional, false) => "provisional",
-        (Kind::Other, false) => "other",
-        (Kind::Precinct, true) => "test-precinct",
-        (Kind::Absentee, true) => "test-absentee",
-        (Kind::Provisional, true) => "test-provisional",
-        (Kind::Other, true) => "test-other",
     }
 }
 

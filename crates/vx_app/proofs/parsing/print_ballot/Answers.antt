@@ -1,7 +1,7 @@
 use Rattle.std.proofs.Common.{◌≡◌, length, rules, arith}
 use Rattle.std.specs.Prelude.{codes}
 use Rattle.std.specs.Fmt.{decimal}
-use Rattle.vx_command.specs.Kinds.{kind_word}
+use Rattle.vx_grid.specs.Kinds.{kind_word}
 use Rattle.vx_app.proofs.Spellings.{four_words}
 use Rattle.vx_app.proofs.parsing.print_ballot.Goals as goal
 

@@ -4,7 +4,7 @@ use Rattle.indexmap.specs.IndexMap.{set_value_at}
 use Rattle.vx_events.specs.declared.event.Event.{Event}
 use Rattle.vx_events.specs.declared.event.Event.TheVariants.{Decide}
 use Rattle.vx_events.specs.declared.key.Key.{Key}
-use Rattle.vx_events.specs.declared.reply.Reply.TheVariants.{Done}
+use Rattle.vx_refusals.specs.declared.reply.Reply.TheVariants.{Done}
 use Rattle.vx_events.specs.Fits.{Fits}
 use Rattle.vx_center.specs.declared.name.SheetName.{SheetName}
 use Rattle.vx_center.specs.Kept.{Kept}

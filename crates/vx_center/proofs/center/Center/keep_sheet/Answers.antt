@@ -4,7 +4,7 @@ use Rattle.std.specs.Map.{keys_of}
 use Rattle.indexmap.specs.IndexMap.{insert_entry}
 use Rattle.vx_events.specs.declared.event.Event.{Event}
 use Rattle.vx_events.specs.declared.event.Event.TheVariants.{Add}
-use Rattle.vx_events.specs.declared.reply.Reply.TheVariants.{Done}
+use Rattle.vx_refusals.specs.declared.reply.Reply.TheVariants.{Done}
 use Rattle.vx_events.specs.Fits.{Fits}
 use Rattle.vx_center.specs.declared.name.SheetName.{SheetName}
 use Rattle.vx_center.specs.Kept.{Kept}

@@ -3,8 +3,8 @@ use Rattle.std.specs.Prelude.{Option}
 use Rattle.vx_election_model.specs.declared.election.Election.{Election}
 use Rattle.vx_events.specs.declared.event.Event.{Event}
 use Rattle.vx_events.specs.declared.event.Event.TheVariants.{Add, Claim, Release, Decide}
-use Rattle.vx_events.specs.declared.reply.Reply.{Reply}
-use Rattle.vx_events.specs.declared.reply.Reply.TheVariants.{Done}
+use Rattle.vx_refusals.specs.declared.reply.Reply.{Reply}
+use Rattle.vx_refusals.specs.declared.reply.Reply.TheVariants.{Done}
 use Rattle.vx_center.specs.declared.decided.Decided.{Decided}
 use Rattle.vx_center.specs.Kept.{Kept}
 use Rattle.vx_center.specs.Decisions.{decisions_on}
