@@ -1,4 +1,3 @@
-pub mod Numeral
 pub mod Words
 pub mod Outcome
 pub mod Arguments

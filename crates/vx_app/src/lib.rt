@@ -11,7 +11,6 @@
 
 mod arguments;
 mod command;
-mod numeral;
 mod parsing;
 mod top;
 

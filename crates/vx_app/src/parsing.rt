@@ -5,8 +5,8 @@ ghost use Rattle.vx_grid.specs.Kinds.{kind_name, kind_word};
 ghost use Rattle.vx_app.specs.Words.{IsArgument, NoCommand, NoPrint, NoRead, Parses, SpellsBallot, SpellsScans};
 
 use crate::command::Command;
-use crate::numeral::read_number;
 use std::alloc::{AllocError, Global};
+use vx_base::read_number;
 use vx_command_print::Ballot;
 use vx_grid::Kind;
 use vx_io::Words;

@@ -1,5 +1,6 @@
 pub mod Booleans
 pub mod Lists
 pub mod Numbers
+pub mod Numerals
 pub mod Ranges
 pub mod Results

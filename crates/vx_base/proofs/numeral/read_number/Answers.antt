@@ -1,8 +1,8 @@
 use Rattle.std.proofs.Common.{◌≡◌, Ok, arith, sym, subst, ◌∙◌}
 use Rattle.std.proofs.lemmas.Fmt.{parse-decimal}
-use Rattle.vx_app.specs.Numeral.{StartsNumeral}
-use Rattle.vx_app.proofs.Numerals.{decimal_starts, parsed_spells}
-use Rattle.vx_app.proofs.numeral.read_number.Goals as goal
+use Rattle.vx_base.specs.Numeral.{StartsNumeral}
+use Rattle.vx_base.proofs.Numerals.{decimal_starts, parsed_spells}
+use Rattle.vx_base.proofs.numeral.read_number.Goals as goal
 
 pub returns-then-not-starts_numeral : goal.returns-then-not-starts_numeral
 returns-then-not-starts_numeral c n most is =

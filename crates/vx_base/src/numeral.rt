@@ -1,6 +1,6 @@
 ghost use Rattle.std.specs.Prelude.{◌≡◌, ◌≢◌, ◌≤◌, ◌↔◌, ℕ, IsTrue, MatchOption};
 ghost use Rattle.std.specs.Fmt.{decimal};
-ghost use Rattle.vx_app.specs.Numeral.{StartsNumeral};
+ghost use Rattle.vx_base.specs.Numeral.{StartsNumeral};
 
 /// Whether a text starts as a number in its one spelling does: with a digit, and with `0` only
 /// where that is all.

@@ -4,7 +4,7 @@ use Rattle.std.specs.Fmt.{decimal}
 use Rattle.std.specs.Str.Parse.{AllDigits, digits_value, ParsesUnsigned}
 use Rattle.std.proofs.lemmas.Str.Parse.{IsNumeralModel, numerals_by_value, tells_digits, parse_plain, digit_at}
 use Rattle.std.proofs.lemmas.Fmt.{decimal_nonempty, first_decimal, decimal-digits_value, digits_decimal, decimal_digit}
-use Rattle.vx_app.specs.Numeral.{StartsNumeral}
+use Rattle.vx_base.specs.Numeral.{StartsNumeral}
 
 -- std's own words for digits and their value
 own : IsNumeralModel (AllDigits 10) (digits_value 10)
