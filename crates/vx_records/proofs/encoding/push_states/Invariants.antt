@@ -1,6 +1,6 @@
 use Rattle.std.proofs.Common.{◌≡◌, ◌++◌, drop, map, string_bytes}
-use Rattle.vx_journal.specs.Records.{state_letter}
-use Rattle.vx_journal.proofs.encoding.push_states.Given as goal
+use Rattle.vx_records.specs.Records.{state_letter}
+use Rattle.vx_records.proofs.encoding.push_states.Given as goal
 
 -- the text so far and the letters of the states that are left
 abbrev pub invariant-loop-state : goal.invariant-loop-state

@@ -2,9 +2,9 @@ ghost use Rattle.std.specs.Prelude.{◌≡◌, ◌++◌, ◌∷◌, IfOk, OnOk, 
 ghost use Rattle.std.specs.Prelude.{[]};
 ghost use Rattle.std.specs.List.{flat_map};
 ghost use Rattle.std.specs.Fmt.{decimal};
-ghost use Rattle.vx_journal.specs.Records.{decision_words, header_of, marks_word, name_words, options_word, record_of, spaced, state_letter, words_of};
+ghost use Rattle.vx_records.specs.Records.{decision_words, header_of, marks_word, name_words, options_word, record_of, spaced, state_letter, words_of};
 ghost use Rattle.vx_grid.specs.Kinds.{kind_word as kind_word_of};
-ghost use Rattle.vx_journal.specs.Records as spelled;
+ghost use Rattle.vx_records.specs.Records as spelled;
 
 use std::alloc::Global;
 use vx_base::{Bytes, OutOfMemory};

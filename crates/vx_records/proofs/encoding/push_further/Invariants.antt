@@ -1,5 +1,5 @@
 use Rattle.std.proofs.Common.{◌≡◌, ◌++◌, ◌∷◌, drop, flat_map, decimal, string_bytes}
-use Rattle.vx_journal.proofs.encoding.push_further.Given as goal
+use Rattle.vx_records.proofs.encoding.push_further.Given as goal
 
 -- the text so far and the options that are left
 abbrev pub invariant-loop-option : goal.invariant-loop-option

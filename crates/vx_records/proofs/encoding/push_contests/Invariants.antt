@@ -1,6 +1,6 @@
 use Rattle.std.proofs.Common.{◌≡◌, ◌++◌, drop, map, string_bytes}
-use Rattle.vx_journal.specs.Records.{marks_word, spaced}
-use Rattle.vx_journal.proofs.encoding.push_contests.Given as goal
+use Rattle.vx_records.specs.Records.{marks_word, spaced}
+use Rattle.vx_records.proofs.encoding.push_contests.Given as goal
 
 -- the text so far and the words of the contests that are left
 abbrev pub invariant-loop-marks : goal.invariant-loop-marks
