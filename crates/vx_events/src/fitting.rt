@@ -24,19 +24,22 @@ fn are_batch_characters(batch: &[u8]) -> bool
     batch.iter().all(|byte| is_batch_character(*byte))
 }
 
-fn is_batch(batch: &[u8]) -> bool
+/// Whether a text may be a batch.
+pub fn is_batch(batch: &[u8]) -> bool
     ensures { result ≡ is_batch batch.now }
 {
     1 <= batch.len() && batch.len() <= 32 && are_batch_characters(batch)
 }
 
-fn is_key(key: &Key) -> bool
+/// Whether a key is in range.
+pub fn is_key(key: &Key) -> bool
     ensures { result ≡ is_key key.now }
 {
     is_batch(key.batch.as_str().as_bytes()) && 1 <= key.number && key.number <= 999_999
 }
 
-fn is_station(station: u32) -> bool
+/// Whether a number is a station.
+pub fn is_station(station: u32) -> bool
     ensures { result ≡ is_station station }
 {
     1 <= station && station <= 9_999
@@ -125,7 +128,8 @@ fn are_below_1000(options: &[u32]) -> bool
     options.iter().all(|option| *option < 1_000)
 }
 
-fn is_decision(decision: &Decision) -> bool
+/// Whether what is decided is in range.
+pub fn is_decision(decision: &Decision) -> bool
     ensures { result ≡ is_decision decision.now }
 {
     match decision {

@@ -14,7 +14,7 @@ mod options;
 
 pub use decision::{Decision, WriteInName};
 pub use event::{Event, event_is_shared};
-pub use fitting::fits;
+pub use fitting::{fits, is_batch, is_decision, is_key, is_station};
 pub use key::Key;
 pub use options::Options;
 pub use vx_refusals::Reply;
