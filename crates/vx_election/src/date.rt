@@ -17,7 +17,7 @@ pub(crate) fn date_of(alloc: Global, value: &Value, path: &Path) -> Result<Text,
     ensures { Gives is_no_memory result (date_in (view value.now) path.now) }
 {
     let text = string_of(alloc, value, path)?;
-    if !is_date(text) {
+    if !is_date(text.as_bytes()) {
         return Err(ElectionFault::OutOfRange(path.copy(alloc)?));
     }
     Ok(Text::from_str(alloc, text)?)

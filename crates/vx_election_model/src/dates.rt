@@ -46,10 +46,9 @@ fn is_calendar_day(year: u32, month: u32, day: u32) -> bool
 
 /// Whether a text is a day of the calendar, written `YYYY-MM-DD`.
 #[tactic(auto, unfolding(crate::specs::Dates::is_date))]
-pub fn is_date(text: &str) -> bool
+pub fn is_date(text: &[u8]) -> bool
     ensures { result ≡ is_date text.now }
 {
-    let text = text.as_bytes();
     if !has_date_form(text) {
         return false;
     }
