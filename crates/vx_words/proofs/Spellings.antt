@@ -1,0 +1,282 @@
+-- Words and the commands that they spell.
+use Rattle.std.proofs.Common.{◌≡◌, ℕ, Bool, true, false, List, [], ◌∷◌, ◌+◌, ◌-◌, ◌^◌, ◌≤◌, ◌<◌, lit<, length, take, drop, get_or, Some, refl, sym, ap, subst, ◌∙◌, arith}
+use Rattle.std.specs.Prelude.{All, slice_get, codes}
+use Rattle.std.proofs.lemmas.Option.{slice_get_within, get_or_from_slice_get}
+use Rattle.std.proofs.lemmas.List.{get_or-drop, length-drop, take_all}
+use Rattle.std.proofs.lemmas.List.Elements.{All-head, All-tail, All-more}
+use Rattle.std.proofs.lemmas.List.Elements.{All-cons, All-nil}
+use Rattle.std.proofs.lemmas.Bool.{false≢true}
+use Rattle.std.specs.Prelude.{◌≢◌, Option, None, Result, Ok, Err, IsErrAnd}
+use Rattle.std.specs.Fmt.{decimal}
+use Rattle.std.specs.Str.Parse.{digits_value}
+use Rattle.std.proofs.lemmas.Fmt.{decimal_is_IsNumeral}
+use Rattle.vx_base.specs.Numeral.{StartsNumeral}
+use Rattle.vx_base.proofs.Numerals.{decimal_starts}
+use Rattle.vx_grid.specs.declared.kind.Kind.{Kind}
+use Rattle.vx_grid.specs.declared.kind.Kind.TheVariants.{Precinct, Absentee, Provisional, Other}
+use Rattle.vx_grid.specs.Kinds.{kind_word}
+use Rattle.vx_words.specs.declared.command.Command.{Command}
+use Rattle.vx_words.specs.declared.command.Command.TheVariants.{Print, Read, Check, Count, Decide, Queue, Export}
+use Rattle.vx_words.specs.declared.fault.UsageFault.{UsageFault}
+use Rattle.vx_words.specs.declared.fault.UsageFault.TheVariants.{Usage, OutOfMemory}
+use Rattle.vx_events.specs.Fits.{is_batch}
+use Rattle.vx_words.specs.Moments.{is_moment}
+use Rattle.vx_words.specs.Devices.{device_of}
+use Rattle.vx_words.specs.Words.{words_with, HasName, IsArgument, IsSound, NoCommand, Parses, Spells}
+
+-- one word more that is an argument
+pub one_argument : (words : List (List ℕ)) (i : ℕ) (word : List ℕ) → 1 ≤ i → slice_get words i ≡ Some word → All IsArgument (take (i - 1) (drop 1 words)) → IsArgument word → All IsArgument (take (i + 1 - 1) (drop 1 words))
+one_argument words i word some at before is =
+    let inside : i < length words = slice_get_within words i word at in
+    let place : 1 + (i - 1) ≡ i = omega arith in
+    let next : i + 1 - 1 ≡ (i - 1) + 1 = omega arith in
+    let here : get_or (drop 1 words) (i - 1) [] ≡ word = get_or-drop 1 words (i - 1) [] ∙ ap (λ n. get_or words n []) place ∙ get_or_from_slice_get words i word [] at in
+    rw next (All-more IsArgument (drop 1 words) (i - 1) [] (omega (arith, length-drop 1 words)) before (subst IsArgument (sym here) is))
+
+-- all words are arguments
+pub all_arguments : (words : List (List ℕ)) (i : ℕ) → length words ≤ i → All IsArgument (take (i - 1) (drop 1 words)) → All IsArgument (drop 1 words)
+all_arguments words i past are =
+    let Are : List (List ℕ) → Type 0 = λ l. All IsArgument l in
+    subst Are (take_all (i - 1) (drop 1 words) (omega (arith, length-drop 1 words))) are
+
+-- numbers and kinds may be arguments
+number_is_argument : (n : ℕ) → n < 2 ^ 32 → IsArgument (decimal n)
+number_is_argument n few =
+    let starts : StartsNumeral (decimal n) = decimal_starts n few in
+    record { some = starts.some; no_option = λ is. absurd (omega (arith, is, starts.low)) }
+
+kind_is_argument : (kind : Kind) (test : Bool) → IsArgument (kind_word kind test)
+kind_is_argument Precinct true = record { some = lit< tt; no_option = λ is. absurd (omega (arith, is)) }
+kind_is_argument Absentee true = record { some = lit< tt; no_option = λ is. absurd (omega (arith, is)) }
+kind_is_argument Provisional true = record { some = lit< tt; no_option = λ is. absurd (omega (arith, is)) }
+kind_is_argument Other true = record { some = lit< tt; no_option = λ is. absurd (omega (arith, is)) }
+kind_is_argument Precinct false = record { some = lit< tt; no_option = λ is. absurd (omega (arith, is)) }
+kind_is_argument Absentee false = record { some = lit< tt; no_option = λ is. absurd (omega (arith, is)) }
+kind_is_argument Provisional false = record { some = lit< tt; no_option = λ is. absurd (omega (arith, is)) }
+kind_is_argument Other false = record { some = lit< tt; no_option = λ is. absurd (omega (arith, is)) }
+
+-- the name of a command, and how many words it has at least and at most
+abbrev pub name_of : Command → List ℕ
+name_of (Print election card kind test) = codes "print"
+name_of (Read election scans) = codes "read"
+name_of (Check election scans readings) = codes "check"
+name_of (Count election batch workers scans) = codes "count"
+name_of (Decide election script) = codes "decide"
+name_of (Queue election) = codes "queue"
+name_of (Export election moment device) = codes "export"
+
+abbrev pub least_of : Command → ℕ
+least_of (Print election card kind test) = 4
+least_of (Read election scans) = 3
+least_of (Check election scans readings) = 4
+least_of (Count election batch workers scans) = 5
+least_of (Decide election script) = 3
+least_of (Queue election) = 2
+least_of (Export election moment device) = 4
+
+abbrev pub most_of : Command → ℕ
+most_of (Read election scans) = 66
+most_of (Count election batch workers scans) = 68
+most_of command = least_of command
+
+-- a command's words, its name behind them
+named : (device : List ℕ) (command : Command) → IsSound device command → HasName (words_with device command) (name_of command) (least_of command) (most_of command)
+named device (Print election card kind test) sound = record {
+  first = refl;
+  enough = omega arith;
+  no_more = omega arith;
+  arguments = All-cons IsArgument election (decimal card ∷ kind_word kind test ∷ []) sound.is_argument
+      (All-cons IsArgument (decimal card) (kind_word kind test ∷ []) (number_is_argument card (omega (arith, sound.card_in_range)))
+      (All-cons IsArgument (kind_word kind test) [] (kind_is_argument kind test) (All-nil IsArgument)));
+}
+named device (Read election scans) sound = record {
+  first = refl;
+  enough = omega (arith, sound.are_scans.some);
+  no_more = omega (arith, sound.are_scans.few);
+  arguments = All-cons IsArgument election scans sound.is_argument sound.are_scans.are_arguments;
+}
+named device (Check election scans readings) sound = record { first = refl; enough = omega arith; no_more = omega arith; arguments = sound }
+named device (Count election batch workers scans) sound = record {
+  first = refl;
+  enough = omega (arith, sound.are_scans.some);
+  no_more = omega (arith, sound.are_scans.few);
+  arguments = All-cons IsArgument election (batch ∷ decimal workers ∷ scans) sound.is_argument
+      (All-cons IsArgument batch (decimal workers ∷ scans) sound.batch_is_argument
+      (All-cons IsArgument (decimal workers) scans (number_is_argument workers (omega (arith, sound.few_workers)))
+      sound.are_scans.are_arguments));
+}
+named device (Decide election script) sound = record { first = refl; enough = omega arith; no_more = omega arith; arguments = sound }
+named device (Queue election) sound = record {
+  first = refl;
+  enough = omega arith;
+  no_more = omega arith;
+  arguments = All-cons IsArgument election [] sound (All-nil IsArgument);
+}
+named device (Export election moment known) sound = record {
+  first = refl;
+  enough = omega arith;
+  no_more = omega arith;
+  arguments = All-cons IsArgument election (moment ∷ device ∷ []) sound.is_argument
+      (All-cons IsArgument moment (device ∷ []) sound.moment_is_argument
+      (All-cons IsArgument device [] sound.device_is_argument (All-nil IsArgument)));
+}
+
+pub spelled_named : (words : List (List ℕ)) (command : Command) → Spells words command → HasName words (name_of command) (least_of command) (most_of command)
+spelled_named words command spelled =
+    subst (λ (w : List (List ℕ)). HasName w (name_of command) (least_of command) (most_of command)) (sym spelled.words_are) (named spelled.device command spelled.sound)
+
+abbrev is_want : UsageFault → Bool
+is_want Usage = false
+is_want OutOfMemory = true
+
+-- memory ran out where words spell a command
+pub refused : (words : List (List ℕ)) (result : Result Command UsageFault) → IsErrAnd result (λ fault. fault ≡ OutOfMemory) → (command : Command) → Spells words command → Parses words result
+refused words (Ok found) is command spelled = absurd is
+refused words (Err Usage) is command spelled = absurd (false≢true (ap is_want is))
+refused words (Err OutOfMemory) is command spelled = (command, spelled)
+
+-- the command of words behind a name
+pub read_spelled : (words : List (List ℕ)) → HasName words (codes "read") 3 66 → Spells words (Read (get_or words 1 []) (drop 2 words))
+read_spelled [] called = absurd (omega (arith, called.enough))
+read_spelled (a ∷ []) called = absurd (omega (arith, called.enough))
+read_spelled (name ∷ election ∷ scans) called = record {
+  device = [];
+  words_are = (let first = called.first in cc);
+  sound = record {
+    is_argument = All-head IsArgument election scans called.arguments;
+    are_scans = record {
+      some = omega (arith, called.enough);
+      few = omega (arith, called.no_more);
+      are_arguments = All-tail IsArgument election scans called.arguments;
+    };
+  };
+}
+
+pub check_spelled : (words : List (List ℕ)) → HasName words (codes "check") 4 4 → Spells words (Check (get_or words 1 []) (get_or words 2 []) (get_or words 3 []))
+check_spelled [] called = absurd (omega (arith, called.enough))
+check_spelled (a ∷ []) called = absurd (omega (arith, called.enough))
+check_spelled (a ∷ b ∷ []) called = absurd (omega (arith, called.enough))
+check_spelled (a ∷ b ∷ c ∷ []) called = absurd (omega (arith, called.enough))
+check_spelled (name ∷ election ∷ scans ∷ readings ∷ []) called = record { device = []; words_are = (let first = called.first in cc); sound = called.arguments }
+check_spelled (a ∷ b ∷ c ∷ d ∷ e ∷ more) called = absurd (omega (arith, called.no_more))
+
+pub decide_spelled : (words : List (List ℕ)) → HasName words (codes "decide") 3 3 → Spells words (Decide (get_or words 1 []) (get_or words 2 []))
+decide_spelled [] called = absurd (omega (arith, called.enough))
+decide_spelled (a ∷ []) called = absurd (omega (arith, called.enough))
+decide_spelled (a ∷ b ∷ []) called = absurd (omega (arith, called.enough))
+decide_spelled (name ∷ election ∷ script ∷ []) called = record { device = []; words_are = (let first = called.first in cc); sound = called.arguments }
+decide_spelled (a ∷ b ∷ c ∷ d ∷ more) called = absurd (omega (arith, called.no_more))
+
+pub queue_spelled : (words : List (List ℕ)) → HasName words (codes "queue") 2 2 → Spells words (Queue (get_or words 1 []))
+queue_spelled [] called = absurd (omega (arith, called.enough))
+queue_spelled (a ∷ []) called = absurd (omega (arith, called.enough))
+queue_spelled (name ∷ election ∷ []) called = record {
+  device = [];
+  words_are = (let first = called.first in cc);
+  sound = All-head IsArgument election [] called.arguments;
+}
+queue_spelled (a ∷ b ∷ c ∷ more) called = absurd (omega (arith, called.no_more))
+
+pub print_spelled :
+    (words : List (List ℕ)) (third fourth : List ℕ) (card : ℕ) (kind : Kind) (test : Bool) → HasName words (codes "print") 4 4
+    → slice_get words 2 ≡ Some third → slice_get words 3 ≡ Some fourth → card ≤ 1023 → third ≡ decimal card → kind ≢ Other → fourth ≡ kind_word kind test
+    → Spells words (Print (get_or words 1 []) card kind test)
+print_spelled [] third fourth card kind test called at_2 at_3 few is_card printed is_kind = absurd (omega (arith, called.enough))
+print_spelled (a ∷ []) third fourth card kind test called at_2 at_3 few is_card printed is_kind = absurd (omega (arith, called.enough))
+print_spelled (a ∷ b ∷ []) third fourth card kind test called at_2 at_3 few is_card printed is_kind = absurd (omega (arith, called.enough))
+print_spelled (a ∷ b ∷ c ∷ []) third fourth card kind test called at_2 at_3 few is_card printed is_kind = absurd (omega (arith, called.enough))
+print_spelled (name ∷ election ∷ c ∷ d ∷ []) third fourth card kind test called at_2 at_3 few is_card printed is_kind = record {
+  device = [];
+  words_are = (let first = called.first in cc);
+  sound = record { is_argument = All-head IsArgument election (c ∷ d ∷ []) called.arguments; card_in_range = few; kind_in_range = printed };
+}
+print_spelled (a ∷ b ∷ c ∷ d ∷ e ∷ more) third fourth card kind test called at_2 at_3 few is_card printed is_kind = absurd (omega (arith, called.no_more))
+
+pub count_spelled :
+    (words : List (List ℕ)) (batch word : List ℕ) (workers : ℕ) → HasName words (codes "count") 5 68
+    → slice_get words 2 ≡ Some batch → slice_get words 3 ≡ Some word → is_batch batch ≡ true → 1 ≤ workers → workers ≤ 64 → word ≡ decimal workers
+    → Spells words (Count (get_or words 1 []) (get_or words 2 []) workers (drop 4 words))
+count_spelled [] batch word workers called at_2 at_3 good some few is = absurd (omega (arith, called.enough))
+count_spelled (a ∷ []) batch word workers called at_2 at_3 good some few is = absurd (omega (arith, called.enough))
+count_spelled (a ∷ b ∷ []) batch word workers called at_2 at_3 good some few is = absurd (omega (arith, called.enough))
+count_spelled (a ∷ b ∷ c ∷ []) batch word workers called at_2 at_3 good some few is = absurd (omega (arith, called.enough))
+count_spelled (name ∷ election ∷ c ∷ d ∷ scans) batch word workers called at_2 at_3 good some few is =
+    let behind : All IsArgument (c ∷ d ∷ scans) = All-tail IsArgument election (c ∷ d ∷ scans) called.arguments in
+    let further : All IsArgument (d ∷ scans) = All-tail IsArgument c (d ∷ scans) behind in
+    record {
+      device = [];
+      words_are = (let first = called.first in cc);
+      sound = record {
+        is_argument = All-head IsArgument election (c ∷ d ∷ scans) called.arguments;
+        batch_is_argument = All-head IsArgument c (d ∷ scans) behind;
+        batch_in_range = (let same : c ≡ batch = cc in ap is_batch same ∙ good);
+        some_worker = some;
+        few_workers = few;
+        are_scans = record {
+          some = omega (arith, called.enough);
+          few = omega (arith, called.no_more);
+          are_arguments = All-tail IsArgument d scans further;
+        };
+      };
+    }
+
+pub export_spelled :
+    (words : List (List ℕ)) (moment device named : List ℕ) → HasName words (codes "export") 4 4
+    → slice_get words 2 ≡ Some moment → slice_get words 3 ≡ Some device → is_moment moment ≡ true → device_of device ≡ Some named
+    → Spells words (Export (get_or words 1 []) (get_or words 2 []) named)
+export_spelled [] moment device named called at_2 at_3 good known = absurd (omega (arith, called.enough))
+export_spelled (a ∷ []) moment device named called at_2 at_3 good known = absurd (omega (arith, called.enough))
+export_spelled (a ∷ b ∷ []) moment device named called at_2 at_3 good known = absurd (omega (arith, called.enough))
+export_spelled (a ∷ b ∷ c ∷ []) moment device named called at_2 at_3 good known = absurd (omega (arith, called.enough))
+export_spelled (name ∷ election ∷ c ∷ d ∷ []) moment device named called at_2 at_3 good known =
+    let behind : All IsArgument (c ∷ d ∷ []) = All-tail IsArgument election (c ∷ d ∷ []) called.arguments in
+    record {
+      device = d;
+      words_are = (let first = called.first in cc);
+      sound = record {
+        is_argument = All-head IsArgument election (c ∷ d ∷ []) called.arguments;
+        moment_is_argument = All-head IsArgument c (d ∷ []) behind;
+        is_moment = (let same : c ≡ moment = cc in ap is_moment same ∙ good);
+        device_is_argument = All-head IsArgument d [] (All-tail IsArgument c (d ∷ []) behind);
+        is_named = (let same : d ≡ device = cc in ap device_of same ∙ known);
+      };
+    }
+export_spelled (a ∷ b ∷ c ∷ d ∷ e ∷ more) moment device named called at_2 at_3 good known = absurd (omega (arith, called.no_more))
+
+pub there : {X : Type 0} (found : Option X) → found ≢ None → (x : X) × (found ≡ Some x)
+there None not_none = absurd (not_none refl)
+there (Some x) not_none = (x, refl)
+
+-- words without any command's name are no command
+pub no_command :
+    (words : List (List ℕ)) → (HasName words (codes "print") 4 4 → ⊥) → (HasName words (codes "read") 3 66 → ⊥)
+    → (HasName words (codes "check") 4 4 → ⊥) → (HasName words (codes "count") 5 68 → ⊥) → (HasName words (codes "decide") 3 3 → ⊥)
+    → (HasName words (codes "queue") 2 2 → ⊥) → (HasName words (codes "export") 4 4 → ⊥) → NoCommand words
+no_command words print read check count decide queue export (Print election card kind test) spelled = print (spelled_named words (Print election card kind test) spelled)
+no_command words print read check count decide queue export (Read election scans) spelled = read (spelled_named words (Read election scans) spelled)
+no_command words print read check count decide queue export (Check election scans readings) spelled = check (spelled_named words (Check election scans readings) spelled)
+no_command words print read check count decide queue export (Count election batch workers scans) spelled = count (spelled_named words (Count election batch workers scans) spelled)
+no_command words print read check count decide queue export (Decide election script) spelled = decide (spelled_named words (Decide election script) spelled)
+no_command words print read check count decide queue export (Queue election) spelled = queue (spelled_named words (Queue election) spelled)
+no_command words print read check count decide queue export (Export election moment device) spelled = export (spelled_named words (Export election moment device) spelled)
+
+-- no other command is named as `count` is
+other_name : (words : List (List ℕ)) (command : Command) → slice_get words 0 ≡ Some (codes "count") → Spells words command → (get_or (name_of command) 1 0 ≡ 111 → ⊥) → ⊥
+other_name words command first spelled differs =
+    let own : slice_get words 0 ≡ Some (name_of command) = (spelled_named words command spelled).first in
+    let same : name_of command ≡ codes "count" = cc in
+    differs (ap (λ (name : List ℕ). get_or name 1 0) same)
+
+-- the word of no workers is no number of workers
+pub no_workers : (words : List (List ℕ)) (word : List ℕ) (workers : ℕ) → HasName words (codes "count") 5 68 → slice_get words 3 ≡ Some word → word ≡ decimal workers → workers ≡ 0 → NoCommand words
+no_workers words word workers called at_3 is none (Count election batch others scans) spelled =
+    let shown : slice_get words 3 ≡ Some (decimal others) = ap (λ (w : List (List ℕ)). slice_get w 3) spelled.words_are in
+    let same : decimal workers ≡ decimal others = cc in
+    let equal : workers ≡ others = sym (decimal_is_IsNumeral workers (omega (arith, none))).1 ∙ ap (digits_value 10) same ∙ (decimal_is_IsNumeral others (omega (arith, spelled.sound.few_workers))).1 in
+    omega (arith, equal, none, spelled.sound.some_worker)
+no_workers words word workers called at_3 is none (Print election card kind test) spelled = other_name words (Print election card kind test) called.first spelled (λ same. absurd (omega (arith, same)))
+no_workers words word workers called at_3 is none (Read election scans) spelled = other_name words (Read election scans) called.first spelled (λ same. absurd (omega (arith, same)))
+no_workers words word workers called at_3 is none (Check election scans readings) spelled = other_name words (Check election scans readings) called.first spelled (λ same. absurd (omega (arith, same)))
+no_workers words word workers called at_3 is none (Decide election script) spelled = other_name words (Decide election script) called.first spelled (λ same. absurd (omega (arith, same)))
+no_workers words word workers called at_3 is none (Queue election) spelled = other_name words (Queue election) called.first spelled (λ same. absurd (omega (arith, same)))
+no_workers words word workers called at_3 is none (Export election moment device) spelled = other_name words (Export election moment device) called.first spelled (λ same. absurd (omega (arith, same)))

@@ -1,0 +1,95 @@
+-- Which words are which command: this program's own positions and spellings.
+use Rattle.std.specs.Prelude.{◌≡◌, ◌≢◌, ◌≤◌, ◌<◌, All, ℕ, List, ◌∷◌, [], length, slice_index, true, codes, Some, slice_get, Result, Ok, Err, drop}
+use Rattle.std.specs.Fmt.{decimal}
+use Rattle.vx_grid.specs.declared.kind.Kind.{Kind}
+use Rattle.vx_grid.specs.declared.kind.Kind.TheVariants.{Other}
+use Rattle.vx_grid.specs.Kinds.{kind_word}
+use Rattle.vx_events.specs.Fits.{is_batch}
+use Rattle.vx_words.specs.declared.command.Command.{Command}
+use Rattle.vx_words.specs.declared.command.Command.TheVariants.{Print, Read, Check, Count, Decide, Queue, Export}
+use Rattle.vx_words.specs.declared.fault.UsageFault.{UsageFault}
+use Rattle.vx_words.specs.declared.fault.UsageFault.TheVariants.{Usage, OutOfMemory}
+use Rattle.vx_words.specs.Moments.{is_moment}
+use Rattle.vx_words.specs.Devices.{device_of}
+
+-- the words of a command, where the word that names its device is this one
+abbrev pub words_with : List ℕ → Command → List (List ℕ)
+words_with device (Print election card kind test) =
+    codes "print" ∷ election ∷ decimal card ∷ kind_word kind test ∷ []
+words_with device (Read election scans) = codes "read" ∷ election ∷ scans
+words_with device (Check election scans readings) = codes "check" ∷ election ∷ scans ∷ readings ∷ []
+words_with device (Count election batch workers scans) = codes "count" ∷ election ∷ batch ∷ decimal workers ∷ scans
+words_with device (Decide election script) = codes "decide" ∷ election ∷ script ∷ []
+words_with device (Queue election) = codes "queue" ∷ election ∷ []
+words_with device (Export election moment named) = codes "export" ∷ election ∷ moment ∷ device ∷ []
+
+-- a word that may be an argument: it isn't empty and doesn't begin with `-`
+pub record IsArgument (word : List ℕ) : Type 0 where
+  pub some : 0 < length word
+  pub no_option : slice_index word 0 ≢ 45
+
+-- a card of an election, and a kind that is printed
+pub record IsSoundPrint (election : List ℕ) (card : ℕ) (kind : Kind) : Type 0 where
+  pub is_argument : IsArgument election
+  pub card_in_range : card ≤ 1023
+  pub kind_in_range : kind ≢ Other
+
+-- 1 to 64 scans
+pub record AreScans (scans : List (List ℕ)) : Type 0 where
+  pub some : 1 ≤ length scans
+  pub few : length scans ≤ 64
+  pub are_arguments : All IsArgument scans
+
+pub record IsSoundRead (election : List ℕ) (scans : List (List ℕ)) : Type 0 where
+  pub is_argument : IsArgument election
+  pub are_scans : AreScans scans
+
+-- a batch, and 1 to 64 workers
+pub record IsSoundCount (election batch : List ℕ) (workers : ℕ) (scans : List (List ℕ)) : Type 0 where
+  pub is_argument : IsArgument election
+  pub batch_is_argument : IsArgument batch
+  pub batch_in_range : is_batch batch ≡ true
+  pub some_worker : 1 ≤ workers
+  pub few_workers : workers ≤ 64
+  pub are_scans : AreScans scans
+
+-- a moment, and a device that a word names
+pub record IsSoundExport (election moment device named : List ℕ) : Type 0 where
+  pub is_argument : IsArgument election
+  pub moment_is_argument : IsArgument moment
+  pub is_moment : is_moment moment ≡ true
+  pub device_is_argument : IsArgument device
+  pub is_named : device_of device ≡ Some named
+
+-- the parts of a command are in their ranges
+abbrev pub IsSound : List ℕ → Command → Type 0
+IsSound device (Print election card kind test) = IsSoundPrint election card kind
+IsSound device (Read election scans) = IsSoundRead election scans
+IsSound device (Check election scans readings) = All IsArgument (election ∷ scans ∷ readings ∷ [])
+IsSound device (Count election batch workers scans) = IsSoundCount election batch workers scans
+IsSound device (Decide election script) = All IsArgument (election ∷ script ∷ [])
+IsSound device (Queue election) = IsArgument election
+IsSound device (Export election moment named) = IsSoundExport election moment device named
+
+-- The words are this command. It has one spelling, but for the word that names a device, which has several.
+pub record Spells (words : List (List ℕ)) (command : Command) : Type 0 where
+  pub device : List ℕ
+  pub words_are : words ≡ words_with device command
+  pub sound : IsSound device command
+
+-- the words are no command
+abbrev pub NoCommand : List (List ℕ) → Type 0
+NoCommand words = (command : Command) → Spells words command → ⊥
+
+-- the command that the words spell; Usage exactly where they spell none; memory runs out only where they spell one
+abbrev pub Parses : List (List ℕ) → Result Command UsageFault → Type 0
+Parses words (Ok command) = Spells words command
+Parses words (Err Usage) = NoCommand words
+Parses words (Err OutOfMemory) = (command : Command) × Spells words command
+
+-- the words begin with a command's name; the others may be arguments, and there are so many words
+pub record HasName (words : List (List ℕ)) (name : List ℕ) (least most : ℕ) : Type 0 where
+  pub first : slice_get words 0 ≡ Some name
+  pub enough : least ≤ length words
+  pub no_more : length words ≤ most
+  pub arguments : All IsArgument (drop 1 words)

@@ -1,0 +1,51 @@
+use vx_grid::Kind;
+use vx_json::{Text, Texts};
+
+/// What the words ask for.
+#[derive(Debug, Drop)]
+pub enum Command {
+    /// Write the pages of a card, as ballots of a kind.
+    Print {
+        election: Text,
+        /// The card's number in its election, from 0 to 1023.
+        card: u32,
+        kind: Kind,
+        /// Whether they are test ballots.
+        test: bool,
+    },
+    /// Write what each image of the scans is read as.
+    Read {
+        election: Text,
+        scans: Texts,
+    },
+    /// Check readings as certificates of the scans.
+    Check {
+        election: Text,
+        scans: Text,
+        readings: Text,
+    },
+    /// Add the sheets of a batch to the journal, reading them by 1 to 64 workers.
+    Count {
+        election: Text,
+        batch: Text,
+        workers: u32,
+        scans: Texts,
+    },
+    /// Apply the lines of a script.
+    Decide {
+        election: Text,
+        script: Text,
+    },
+    /// List the contests that wait.
+    Queue {
+        election: Text,
+    },
+    /// Write the report of the count.
+    Export {
+        election: Text,
+        /// `YYYY-MM-DDTHH:MM:SSZ`, as it was given.
+        moment: Text,
+        /// A UUID in lower case, with hyphens.
+        device: Text,
+    },
+}
