@@ -1,6 +1,6 @@
 -- The report of a count: a cast vote record report after NIST SP 1500-103, version 1.0.0. The members of each object
 -- are this project's profile; they stand in the order of their names' bytes.
-use Rattle.std.specs.Prelude.{ℕ, Bool, true, false, if◌then◌else◌, ◌+◌, ◌/◌, ◌++◌, List, [], ◌∷◌, length, map, codes, slice_index_or, Option, None, Some}
+use Rattle.std.specs.Prelude.{◌≡◌, ◌<◌, ◌^◌, All, ℕ, Bool, true, false, if◌then◌else◌, ◌+◌, ◌/◌, ◌++◌, List, [], ◌∷◌, length, map, codes, slice_index_or, Option, None, Some}
 use Rattle.std.specs.List.{flat_map, list_any, range_with_len}
 use Rattle.std.specs.Fmt.{decimal}
 use Rattle.serde_json.specs.Data.{Data, boolean}
@@ -154,10 +154,17 @@ counted contest final = described
 abbrev pub counted_in : Election → Final → Data
 counted_in election final = counted (slice_index_or election.contests final.contest no_contest) final
 
--- whether a person decided something of a sheet's exported contests, in a word
+-- the election has the contest
+abbrev pub IsOfElection : Election → Final → Type 0
+IsOfElection election final = final.contest < length election.contests
+
+-- whether a person decided something of a sheet's exported contests
+abbrev pub is_modified : List Final → Bool
+is_modified finals = list_any (λ (final : Final). final.decided) finals
+
+-- the same in a word
 abbrev pub snapshot_kind : List Final → List ℕ
-snapshot_kind finals =
-    if list_any (λ (final : Final). final.decided) finals then codes "modified" else codes "interpreted"
+snapshot_kind finals = if is_modified finals then codes "modified" else codes "interpreted"
 
 abbrev pub snapshot : Election → ExportSheet → Data
 snapshot election row = described
@@ -175,18 +182,34 @@ style_at election card = slice_index_or election.styles (card_at election card).
 abbrev pub precinct_at : Election → ℕ → Named
 precinct_at election card = slice_index_or election.precincts (card_at election card).precinct no_precinct
 
--- a sheet
-abbrev pub sheet : Election → ExportSheet → Data
-sheet election row = described
+-- a sheet, by the names of its leaf and precinct, its batch, its snapshot, and the names of both
+abbrev pub sheet_named : List ℕ → List ℕ → List ℕ → List ℕ → Data → List ℕ → List ℕ → Data
+sheet_named leaf style unit batch taken taken_name name = described
     (class (codes "CVR")
-    ∷ (codes "BallotSheetId", text (decimal ((row.front + 1) / 2)))
-    ∷ (codes "BallotStyleId", text (style_at election row.card).id)
-    ∷ (codes "BallotStyleUnitId", text (precinct_name (precinct_at election row.card).id))
-    ∷ (codes "BatchId", text row.key.batch)
-    ∷ (codes "CVRSnapshot", list (snapshot election row ∷ []))
-    ∷ (codes "CurrentSnapshotId", text (snapshot_name row.key))
+    ∷ (codes "BallotSheetId", text leaf)
+    ∷ (codes "BallotStyleId", text style)
+    ∷ (codes "BallotStyleUnitId", text unit)
+    ∷ (codes "BatchId", text batch)
+    ∷ (codes "CVRSnapshot", list (taken ∷ []))
+    ∷ (codes "CurrentSnapshotId", text taken_name)
     ∷ (codes "ElectionId", text (codes "election"))
-    ∷ (codes "UniqueId", text (sheet_name row.key)) ∷ [])
+    ∷ (codes "UniqueId", text name) ∷ [])
+
+-- a sheet: its leaf is 1 for the first two pages of its card, 2 for the next two
+abbrev pub sheet : Election → ExportSheet → Data
+sheet election row =
+    sheet_named (decimal ((row.front + 1) / 2)) (style_at election row.card).id
+    (precinct_name (precinct_at election row.card).id) row.key.batch (snapshot election row)
+    (snapshot_name row.key) (sheet_name row.key)
+
+-- a contest of a valid election: a yes/no contest has no write-in slots, and no contest has very many options
+abbrev pub HasOptions : Contest → Type 0
+HasOptions given =
+    (options_of given < 2 ^ 32) × (given.is_yes_no ≡ true → options_of given ≡ length given.choices)
+
+-- the election has the contests of a row
+abbrev pub HasItsContests : Election → ExportSheet → Type 0
+HasItsContests election row = All (IsOfElection election) row.finals
 
 -- the report of rows
 abbrev pub report_over : Election → List ExportSheet → List ℕ → List ℕ → Data

@@ -52,11 +52,13 @@ abbrev pub is_candidate : ℕ → Option ℕ → Bool
 is_candidate number None = false
 is_candidate number (Some other) = number == other
 
--- a candidate is selected by its own option, or by a slot below an option that names it
+-- a selected option is a candidate's own, or it is a slot below an option that names it
+abbrev pub selects_before : Contest → Final → ℕ → ℕ → ℕ → Bool
+selects_before contest final option number selected =
+    (selected == number) || (nat_lt selected option && is_candidate number (candidate_of contest final selected))
+
 abbrev pub is_selected_before : Contest → Final → ℕ → ℕ → Bool
-is_selected_before contest final option number =
-    list_any (λ selected. (selected == number)
-    || (nat_lt selected option && is_candidate number (candidate_of contest final selected))) final.selected
+is_selected_before contest final option number = list_any (selects_before contest final option number) final.selected
 
 -- a slot that names a candidate who is selected already has no vote of its own
 abbrev pub is_repeated : Contest → Final → ℕ → Option ℕ → Bool
