@@ -97,6 +97,7 @@ selected contest final option = both (both_of) false both_is refl
   where
     both_of : Bool
     both_of = has_float (spec.position contest final option) || false
+
     both_is : both_of ≡ false
     both_is = both (has_float (spec.position contest final option)) false (position contest final option) refl
 

@@ -76,6 +76,8 @@ pub fn report(
     ensures { IfOk result (λ text. text
         ≡ spec.report_of election.now center.now.events moment.now device.now) }
 {
+    // What the kept events are: no key stands in them twice, so that their rows have one order.
+    let _kept = center.events();
     let rows = center.export_rows(alloc)?;
     let value = report_over(alloc, election, rows.as_slice(), moment, device)?;
     let mut text = value.to_vec(alloc)?;

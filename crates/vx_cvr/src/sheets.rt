@@ -143,7 +143,11 @@ fn counted_in(alloc: Global, election: &Election, one: &Final) -> Result<Value, 
     requires { spec.IsOfElection election.now one.now }
     ensures { IfOk result (λ value. view value ≡ spec.counted_in election.now one.now) }
 {
-    counted(alloc, &election.contests.as_slice()[one.contest as usize], one)
+    counted(
+        alloc,
+        &election.contests.as_slice()[one.contest as usize],
+        one,
+    )
 }
 
 /// Adds the exported contests of a sheet, each of which the election has.

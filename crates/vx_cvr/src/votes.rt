@@ -98,11 +98,9 @@ fn selects_before(
 fn is_selected_before(contest: &Contest, counted: &Final, option: u32, number: u32) -> bool
     ensures { result ≡ spec.is_selected_before contest.now counted.now option number }
 {
-    counted
-        .selected
-        .as_slice()
-        .iter()
-        .any(|selected| selects_before(contest, counted, option, number, *selected))
+    counted.selected.as_slice().iter().any(|selected| selects_before(
+        contest, counted, option, number, *selected,
+    ))
 }
 
 /// How many votes a selected option has.
