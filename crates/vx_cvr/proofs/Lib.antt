@@ -1,0 +1,5 @@
+pub mod Made
+pub mod Floatless
+pub mod Order
+pub mod Keyed
+pub mod Rows

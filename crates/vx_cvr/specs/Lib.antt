@@ -1,0 +1,5 @@
+pub mod Json
+pub mod Names
+pub mod Votes
+pub mod Rows
+pub mod Report
