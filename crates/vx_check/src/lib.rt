@@ -11,7 +11,9 @@ mod border;
 mod bubbles;
 mod checking;
 mod code;
+mod laws;
 mod passing;
 
 pub use checking::check;
+pub use laws::accepted_readings_are_certificates;
 pub use vx_refusals::CheckFault;

@@ -1,0 +1,15 @@
+//! Laws of what is accepted. These functions do nothing; their contracts are the laws.
+
+ghost use Rattle.vx_check.specs.Accepted.{AcceptedAreCertificates};
+
+use vx_code::codes_are_given_back;
+use vx_scan_model::{codes_name_printed_pages, places_are_tested};
+
+/// A reading that passes all tests of a page is a certificate of it.
+pub fn accepted_readings_are_certificates()
+    ensures { AcceptedAreCertificates }
+{
+    codes_are_given_back();
+    codes_name_printed_pages();
+    places_are_tested();
+}
