@@ -93,3 +93,7 @@ pub record HasName (words : List (List ℕ)) (name : List ℕ) (least most : ℕ
   pub enough : least ≤ length words
   pub no_more : length words ≤ most
   pub arguments : All IsArgument (drop 1 words)
+
+-- words spell one command only
+abbrev pub WordsSpellOneCommand : Type 0
+WordsSpellOneCommand = (words : List (List ℕ)) (a b : Command) → Spells words a → Spells words b → a ≡ b

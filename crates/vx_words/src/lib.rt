@@ -9,11 +9,13 @@ mod arguments;
 mod command;
 mod fault;
 mod kinds;
+mod laws;
 mod moment;
 mod parsing;
 
 pub use command::Command;
 pub use fault::UsageFault;
+pub use laws::words_spell_one_command;
 pub use parsing::parse;
 
 #[cfg(test)]
