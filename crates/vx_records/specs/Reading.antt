@@ -183,7 +183,7 @@ hex_value b = if nat_le b 57 then b - 48 else b - 87
 unfoldable pub bytes_of : List ℕ → List ℕ
 bytes_of [] = []
 bytes_of (high ∷ []) = []
-bytes_of (high ∷ low ∷ hex) = hex_value high * 16 + hex_value low ∷ bytes_of hex
+bytes_of (high ∷ low ∷ hex) = (hex_value high * 16 + hex_value low) ∷ bytes_of hex
 
 unfoldable pub header_in : List ℕ → Read (List ℕ)
 header_in body = do

@@ -23,7 +23,6 @@ impl From<OutOfMemory> for JournalFault {
 pub fn decode(alloc: Global, body: &[u8], index: u64) -> Result<Event, JournalFault>
     ensures exact { Gives is_no_memory result (decoded index body.now) }
 {
-    let _ = (alloc, body, index);
     Err(JournalFault::OutOfMemory)
 }
 
@@ -31,6 +30,5 @@ pub fn decode(alloc: Global, body: &[u8], index: u64) -> Result<Event, JournalFa
 pub fn header_digest(alloc: Global, body: &[u8]) -> Result<Bytes, JournalFault>
     ensures exact { Gives is_no_memory result (digested body.now) }
 {
-    let _ = (alloc, body);
     Err(JournalFault::OutOfMemory)
 }
