@@ -1,5 +1,6 @@
 -- Parts of a record: what is read from the front of a text.
-use Rattle.std.specs.Prelude.{ℕ, zero, suc, ◌-◌, ◌==◌, Bool, false, List, [], ◌∷◌, length, take, drop, min, nat_lt, take_while, if◌then◌else◌, Result, Ok, Err}
+use Rattle.std.specs.Prelude.{ℕ, zero, suc, ◌-◌, ◌==◌, Bool, false, List, [], ◌∷◌, length, take, drop, min, nat_lt, if◌then◌else◌, Result, Ok, Err}
+use Rattle.std.specs.List.{prefix_len}
 use Rattle.vx_base.specs.Results.{◌>>=◌}
 
 -- a value, and the text behind the bytes that it was read from
@@ -61,7 +62,7 @@ ended (Err left) = Err left
 -- all the letters of a kind that stand here, from `least` to `most` of them
 unfoldable pub letters_in : (ℕ → Bool) → ℕ → ℕ → List ℕ → Read (List ℕ)
 letters_in is_letter least most text =
-    let count = length (take_while is_letter text) in
+    let count = prefix_len is_letter text in
     if nat_lt count least then Err (length text - count)
     else if nat_lt most count then Err (length text - most)
     else found (take count text) (drop count text)
