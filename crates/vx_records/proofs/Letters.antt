@@ -12,7 +12,7 @@ use Rattle.vx_records.proofs.Grammar.{Part, Splits, Begins, Both, Some_text, Sto
 use Rattle.vx_records.proofs.Steps.{Spelled, One, next_part, same_reader, same_texts}
 
 -- the word, with nothing to tell of it
-abbrev done : Unit {0}
+abbrev pub done : Unit {0}
 done = tt
 
 abbrev pub Word : List ℕ → Unit {0} → List ℕ → Type 0
