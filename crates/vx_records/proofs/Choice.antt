@@ -4,10 +4,10 @@ use Rattle.std.specs.Prelude.{Result, Ok, Err, ◌==◌, ◌&&◌, ◌||◌, not
 use Rattle.std.specs.List.{list_all}
 use Rattle.std.proofs.lemmas.Bool.{eqb-true, eq-eqb, not-true, cases_lt}
 use Rattle.vx_base.proofs.Booleans.{and-left, and-right, or-cases}
-use Rattle.vx_records.specs.Parts.{Found, Read, found, stop, pick, word_in, choice_from, choice_in}
+use Rattle.vx_records.specs.Parts.{Found, Read, found, stop, pick, word_in, choice_from, choice_in, done}
 use Rattle.vx_records.proofs.Grammar.{Part, Splits, Begins, StopsAt, StopsAt-any, any, found_value, found_rest}
 use Rattle.vx_records.proofs.Steps.{Spelled, eqb_refl}
-use Rattle.vx_records.proofs.Letters.{Word, word_part, done}
+use Rattle.vx_records.proofs.Letters.{Word, word_part}
 
 -- the words differ in some byte that both have
 abbrev pub differ : List ℕ → List ℕ → Bool

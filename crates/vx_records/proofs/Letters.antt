@@ -7,14 +7,11 @@ use Rattle.std.proofs.lemmas.List.{take-append-drop, length-take-le}
 use Rattle.vx_base.proofs.Booleans.{and-left, and-right, and-both}
 use Rattle.vx_base.proofs.Lists.{take-front, drop-front}
 use Rattle.vx_base.specs.Results.{◌>>=◌}
-use Rattle.vx_records.specs.Parts.{Found, Read, found, stop, word_in, next_is, letters_in}
+use Rattle.vx_records.specs.Parts.{Found, Read, found, stop, word_in, next_is, letters_in, letters_at, done}
 use Rattle.vx_records.proofs.Grammar.{Part, Splits, Begins, Both, Some_text, StopsAt, StopsAt-any, any, none, then_in, then_part, found_value, found_rest}
 use Rattle.vx_records.proofs.Steps.{Spelled, One, next_part, same_reader, same_texts}
 
 -- the word, with nothing to tell of it
-abbrev pub done : Unit {0}
-done = tt
-
 abbrev pub Word : List ℕ → Unit {0} → List ℕ → Type 0
 Word word = Spelled (λ _. Unit {0}) (λ _. word)
 
@@ -31,7 +28,7 @@ word_cond : (b c : ℕ) (word s : List ℕ) (t : Bool) → cond t (word_in word 
 word_cond b c word s true = refl
 word_cond b c word s false = refl
 
-word_step : (b : ℕ) (word s : List ℕ) → word_in (b ∷ word) s ≡ then_in (next_is b done) (λ a n. word_in word) s
+pub word_step : (b : ℕ) (word s : List ℕ) → word_in (b ∷ word) s ≡ then_in (next_is b done) (λ a n. word_in word) s
 unfolding word_in
 word_step b word [] = refl
 word_step b word (c ∷ s) = word_cond b c word s (b == c)
@@ -120,10 +117,6 @@ list_all-take p n u h = list_all-front p (take n u) (drop n u) (subst (λ (t : L
 
 list_all-drop : (p : ℕ → Bool) (n : ℕ) (u : List ℕ) → list_all p u ≡ true → list_all p (drop n u) ≡ true
 list_all-drop p n u h = list_all-back p (take n u) (drop n u) (subst (λ (t : List ℕ). list_all p t ≡ true) (sym (take-append-drop n u)) h)
-
--- what is answered where so many letters stand
-abbrev letters_at : ℕ → ℕ → ℕ → List ℕ → Read (List ℕ)
-letters_at count least most s = cond (nat_lt count least) (Err (length s - count)) (cond (nat_lt most count) (Err (length s - most)) (found (take count s) (drop count s)))
 
 -- the three answers
 data Answer (count least most : ℕ) (s : List ℕ) (r : Read (List ℕ)) : Type 0 where

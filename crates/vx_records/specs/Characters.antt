@@ -4,7 +4,7 @@ use Rattle.std.specs.Str.{continuation_len}
 use Rattle.std.specs.Str.Lossy.{second_byte_min, second_byte_max}
 use Rattle.vx_base.specs.Results.{◌>>=◌}
 use Rattle.vx_json.specs.Reading.{is_within}
-use Rattle.vx_records.specs.Parts.{Read, found, stop, each_in}
+use Rattle.vx_records.specs.Parts.{Read, found, stop, done, each_in}
 
 -- a byte that begins a character
 abbrev pub is_lead : ℕ → Bool
@@ -12,7 +12,7 @@ is_lead b = is_within 32 126 b || is_within 0xC2 0xF4 b
 
 -- so many further bytes, the first of them within a range
 unfoldable pub followers_in : ℕ → ℕ → ℕ → List ℕ → Read (Unit {0})
-followers_in zero low high text = found tt text
+followers_in zero low high text = found done text
 followers_in (suc count) low high [] = stop []
 followers_in (suc count) low high (b ∷ text) =
     if is_within low high b then followers_in count 0x80 0xBF text else stop (b ∷ text)

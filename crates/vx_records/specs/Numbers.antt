@@ -24,13 +24,17 @@ begins Fronts n = takes Fronts n || is_within 1 6 n
 abbrev pub is_digit : ℕ → Bool
 is_digit b = is_within 48 57 b
 
+-- the number, where it may stand here
+abbrev pub taken : Numbers → ℕ → List ℕ → Read ℕ
+taken numbers n text = if takes numbers n then found n text else stop text
+
 -- the digits behind those of `n`
 unfoldable pub digits_in : Numbers → ℕ → List ℕ → Read ℕ
-digits_in numbers n [] = if takes numbers n then found n [] else stop []
+digits_in numbers n [] = taken numbers n []
 digits_in numbers n (b ∷ text) =
     if is_digit b then
       (if nat_lt 0 n && begins numbers (10 * n + (b - 48)) then digits_in numbers (10 * n + (b - 48)) text else stop (b ∷ text))
-    else if takes numbers n then found n (b ∷ text) else stop (b ∷ text)
+    else taken numbers n (b ∷ text)
 
 unfoldable pub number_in : Numbers → List ℕ → Read ℕ
 number_in numbers [] = stop []

@@ -18,9 +18,13 @@ found value rest = Ok (record { value = value; rest = rest })
 abbrev pub stop : {A : Type 0} → List ℕ → Read A
 stop text = Err (length text)
 
+-- nothing is told of what was read
+abbrev pub done : Unit {0}
+done = tt
+
 -- a word that is written out
 unfoldable pub word_in : List ℕ → List ℕ → Read (Unit {0})
-word_in [] text = found tt text
+word_in [] text = found done text
 word_in (b ∷ word) [] = stop []
 word_in (b ∷ word) (c ∷ text) = if b == c then word_in word text else stop (c ∷ text)
 
@@ -59,13 +63,16 @@ abbrev pub ended : {A : Type 0} → Read A → Read A
 ended (Ok x) = ended_at x.value x.rest
 ended (Err left) = Err left
 
--- all the letters of a kind that stand here, from `least` to `most` of them
-unfoldable pub letters_in : (ℕ → Bool) → ℕ → ℕ → List ℕ → Read (List ℕ)
-letters_in is_letter least most text =
-    let count = prefix_len is_letter text in
+-- where so many letters stand, from `least` to `most` of them are wanted
+abbrev pub letters_at : ℕ → ℕ → ℕ → List ℕ → Read (List ℕ)
+letters_at count least most text =
     if nat_lt count least then Err (length text - count)
     else if nat_lt most count then Err (length text - most)
     else found (take count text) (drop count text)
+
+-- all the letters of a kind that stand here
+unfoldable pub letters_in : (ℕ → Bool) → ℕ → ℕ → List ℕ → Read (List ℕ)
+letters_in is_letter least most text = letters_at (prefix_len is_letter text) least most text
 
 -- up to `most` items to the end of the text; what the next one may be depends on those before, and
 -- on how many bytes they took

@@ -11,6 +11,7 @@ mod acts;
 mod decoding;
 mod encoding;
 mod numbers;
+mod parts;
 mod sheets;
 
 pub use decoding::{JournalFault, decode, header_digest};

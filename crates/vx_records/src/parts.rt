@@ -1,0 +1,52 @@
+ghost use Rattle.std.specs.Prelude.{◌≡◌, ◌∷◌, [], MatchOption, MatchResult};
+ghost use Rattle.vx_records.specs.Parts.{found, next_is, word_in, done};
+ghost use Rattle.vx_records.specs.Stops.{Stops};
+
+use std::alloc::AllocError;
+
+/// Why nothing was read.
+#[derive(Clone, Copy)]
+pub(crate) enum Stop {
+    /// So many bytes are left where the text no longer begins what is looked for.
+    Left(usize),
+    NoMemory,
+}
+
+impl From<AllocError> for Stop {
+    fn from(_error: AllocError) -> Self {
+        Stop::NoMemory
+    }
+}
+
+/// The first byte and the text behind it.
+pub(crate) fn split(text: &[u8]) -> Option<(u8, &[u8])>
+    ensures { MatchOption result (text.now ≡ []) (λ x. text.now ≡ x.0 ∷ x.1.now) }
+{
+    match text {
+        [first, rest @ ..] => Some((*first, rest)),
+        [] => None,
+    }
+}
+
+/// One byte.
+pub(crate) fn byte(text: &[u8], wanted: u8) -> Result<&[u8], Stop>
+    ensures { MatchResult result
+        (λ rest. next_is wanted done text.now ≡ found done rest.now) (λ stop. Stops stop (next_is wanted done text.now)) }
+{
+    match text {
+        [first, rest @ ..] => { if *first == wanted { Ok(rest) } else { Err(Stop::Left(text.len())) } }
+        [] => Err(Stop::Left(0)),
+    }
+}
+
+/// A word that is written out.
+pub(crate) fn word<'a>(text: &'a [u8], word: &[u8]) -> Result<&'a [u8], Stop>
+    ensures { MatchResult result
+        (λ rest. word_in word.now text.now ≡ found done rest.now) (λ stop. Stops stop (word_in word.now text.now)) }
+{
+    let mut rest = text;
+    for wanted in word {
+        rest = byte(rest, *wanted)?;
+    }
+    Ok(rest)
+}
