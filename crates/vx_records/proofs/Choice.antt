@@ -7,7 +7,7 @@ use Rattle.vx_base.proofs.Booleans.{and-left, and-right, or-cases}
 use Rattle.vx_records.specs.Parts.{Found, Read, found, stop, pick, word_in, choice_from, choice_in, done}
 use Rattle.vx_records.proofs.Grammar.{Part, Splits, Begins, StopsAt, StopsAt-any, any, found_value, found_rest}
 use Rattle.vx_records.proofs.Steps.{Spelled, eqb_refl}
-use Rattle.vx_records.proofs.Letters.{Word, word_part}
+use Rattle.vx_records.proofs.Runs.{Word, word_part}
 
 -- the words differ in some byte that both have
 abbrev pub differ : List ℕ → List ℕ → Bool

@@ -1,16 +1,21 @@
 -- What is read step by step, as loops go.
 use Rattle.std.proofs.Common.{◌≡◌, ℕ, zero, suc, ◌+◌, ◌-◌, ◌*◌, ◌≤◌, ◌<◌, Bool, true, false, cond, List, [], ◌∷◌, ◌++◌, length, get_or, take, drop, refl, ap, sym, subst, ◌∙◌, inl, inr, arith, add-one, drop-cons, length-append, append-nil, append_assoc}
-use Rattle.std.specs.Prelude.{Result, Ok, Err, ◌&&◌, ◌||◌, nat_le, nat_lt}
+use Rattle.std.specs.Prelude.{Result, Ok, Err, ◌&&◌, ◌||◌, ◌==◌, nat_le, nat_lt}
 use Rattle.std.proofs.Math.ListN.{drop_of_length-le}
 use Rattle.std.proofs.lemmas.Bool.{le-leb, lt-leb, lt-ltb, le-ltb}
 use Rattle.vx_records.specs.declared.numbers.Numbers.{Numbers}
 use Rattle.vx_records.specs.Numbers.{takes, begins, is_digit, reaches, digits_in, number_in}
 use Rattle.vx_base.specs.Results.{◌>>=◌}
-use Rattle.vx_records.specs.Parts.{Found, Read, found, stop, done, next_is, word_in, each_in}
+use Rattle.vx_records.specs.Parts.{Found, Read, found, stop, done, next_is, word_in, letters_at, letters_in, each_in}
 use Rattle.vx_records.specs.declared.parts.Stop.{Stop}
 use Rattle.vx_records.specs.declared.parts.Stop.TheVariants.{Left, NoMemory}
 use Rattle.vx_records.specs.Stops.{Stops}
-use Rattle.vx_records.proofs.Letters.{word_step}
+use Rattle.vx_records.proofs.Grammar.{found_value, found_rest}
+use Rattle.vx_records.proofs.Runs.{word_step, letters_part}
+use Rattle.std.specs.List.{list_all, prefix_len}
+use Rattle.std.proofs.lemmas.Bool.Decides.{nat_tests}
+use Rattle.vx_base.proofs.Booleans.{and-left, and-right}
+use Rattle.vx_events.specs.Fits.{is_batch_character}
 
 word_next : (word : List ℕ) (i : ℕ) (rest : List ℕ) → i < length word → word_in (drop i word) rest ≡ (next_is (get_or word i 0) done rest >>= λ x. word_in (drop (i + 1) word) x.rest)
 word_next word i rest h =
@@ -128,3 +133,38 @@ number_no_start numbers b text rest e h k =
     ∙ ap (λ (t : Bool). cond (t && begins numbers (b - 48)) (digits_in numbers (b - 48) rest) (stop (b ∷ rest))) h
     ∙ ap (λ (t : Bool). cond t (digits_in numbers (b - 48) rest) (stop (b ∷ rest))) k
     ∙ ap (λ (t : List ℕ). Err (length t)) (sym e)
+
+-- letters, by their count
+pub letters_few : (p : ℕ → Bool) (least most n : ℕ) (text : List ℕ) → n ≡ prefix_len p text → n < least → letters_in p least most text ≡ Err (length text - n)
+unfolding letters_in
+letters_few p least most n text e h =
+    ap (λ (k : ℕ). letters_at k least most text) (sym e)
+    ∙ ap (λ (t : Bool). cond t (Err (length text - n)) (cond (nat_lt most n) (Err (length text - most)) (found (take n text) (drop n text)))) (lt-ltb n least h)
+
+pub letters_many : (p : ℕ → Bool) (least most n : ℕ) (text : List ℕ) → n ≡ prefix_len p text → least ≤ n → most < n → letters_in p least most text ≡ Err (length text - most)
+unfolding letters_in
+letters_many p least most n text e h j =
+    ap (λ (k : ℕ). letters_at k least most text) (sym e)
+    ∙ ap (λ (t : Bool). cond t (Err (length text - n)) (cond (nat_lt most n) (Err (length text - most)) (found (take n text) (drop n text)))) (le-ltb n least h)
+    ∙ ap (λ (t : Bool). cond t (Err (length text - most)) (found (take n text) (drop n text))) (lt-ltb most n j)
+
+pub letters_some : (p : ℕ → Bool) (least most n : ℕ) (text front back : List ℕ) → n ≡ prefix_len p text → least ≤ n → n ≤ most → front ≡ take n text → back ≡ drop n text → letters_in p least most text ≡ found front back
+unfolding letters_in
+letters_some p least most n text front back e h j f b =
+    ap (λ (k : ℕ). letters_at k least most text) (sym e)
+    ∙ ap (λ (t : Bool). cond t (Err (length text - n)) (cond (nat_lt most n) (Err (length text - most)) (found (take n text) (drop n text)))) (le-ltb n least h)
+    ∙ ap (λ (t : Bool). cond t (Err (length text - most)) (found (take n text) (drop n text))) (le-ltb most n j)
+    ∙ ap (λ (x : List ℕ). found x (drop n text)) (sym f)
+    ∙ ap (λ (x : List ℕ). found front x) (sym b)
+
+pub letters_all : (p : ℕ → Bool) (least most : ℕ) (text front back : List ℕ) → letters_in p least most text ≡ found front back → list_all p front ≡ true
+letters_all p least most text front back e = ((letters_part p least most).only text front back e).is.is.letters
+
+-- the characters of a batch are ASCII
+batch_small : (b : ℕ) → is_batch_character b ≡ true → b < 128
+batch_small b h = grind (arith, nat_tests)
+
+pub batch_ascii : (bs : List ℕ) → list_all is_batch_character bs ≡ true → (i : ℕ) → get_or bs i 0 < 128
+batch_ascii [] h i = omega arith
+batch_ascii (b ∷ bs) h zero = batch_small b (and-left (is_batch_character b) (list_all is_batch_character bs) h)
+batch_ascii (b ∷ bs) h (suc i) = batch_ascii bs (and-right (is_batch_character b) (list_all is_batch_character bs) h) i

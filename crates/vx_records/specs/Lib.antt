@@ -6,3 +6,4 @@ pub mod Characters
 pub mod Reading
 pub mod Faults
 pub mod Stops
+pub mod Letters

@@ -23,6 +23,7 @@ use Rattle.vx_records.specs.declared.numbers.Numbers.{Numbers}
 use Rattle.vx_records.specs.declared.numbers.Numbers.TheVariants.{Between, Fronts}
 use Rattle.vx_records.specs.declared.sheets.Head.{Head}
 use Rattle.vx_records.specs.declared.sheets.Room.{Room}
+use Rattle.vx_records.specs.Letters.{is_hex, is_state_letter}
 use Rattle.vx_records.specs.Parts.{Found, Read, found, stop, word_in, choice_in, first_is, followed_by, ended_at, ended, letters_in, each_in}
 use Rattle.vx_records.specs.Numbers.{number_in}
 use Rattle.vx_records.specs.Characters.{words_in}
@@ -129,10 +130,7 @@ head_in text = do
   kind ← choice_in (λ (kind : Kind × Bool). kind_word kind.0 kind.1) kinds front.rest
   found (record { key = key.value; card = card.value; front = front.value; kind = kind.value.0; test = kind.value.1 }) kind.rest
 
--- a state's letter
-abbrev pub is_state_letter : ℕ → Bool
-is_state_letter b = b == 109 || b == 103 || b == 99
-
+-- what a letter says
 abbrev pub state_of : ℕ → State
 state_of b = if b == 109 then Marked else if b == 103 then Marginal else Clear
 
@@ -173,10 +171,7 @@ act_in Name text = decide_in name_in text
 unfoldable pub record_in : List ℕ → Read Event
 record_in body = choice_in act_word acts body >>= λ act. act_in act.value act.rest
 
--- a lower-case hex digit, and what pairs of them say
-abbrev pub is_hex : ℕ → Bool
-is_hex b = is_within 48 57 b || is_within 97 102 b
-
+-- what pairs of hex digits say
 abbrev pub hex_value : ℕ → ℕ
 hex_value b = if nat_le b 57 then b - 48 else b - 87
 

@@ -10,6 +10,8 @@
 mod acts;
 mod decoding;
 mod encoding;
+mod keys;
+mod letters;
 mod numbers;
 mod parts;
 mod sheets;

@@ -1,9 +1,9 @@
-ghost use Rattle.std.specs.Prelude.{◌≡◌, ◌<◌, ◌≤◌, ◌^◌, true, MatchResult};
+ghost use Rattle.std.specs.Prelude.{◌≡◌, [], ◌<◌, ◌≤◌, ◌^◌, true, IfOk, MatchResult};
 ghost use Rattle.vx_records.specs.Numbers.{takes as takes_of, begins as begins_of, reaches as reaches_of, is_digit as is_digit_of, taken as taken_of, digits_in, number_in};
-ghost use Rattle.vx_records.specs.Parts.{found};
+ghost use Rattle.vx_records.specs.Parts.{ended, followed_by, found};
 ghost use Rattle.vx_records.specs.Stops.{Stops};
 
-use crate::parts::{Stop, split};
+use crate::parts::{Stop, byte, end, split};
 
 /// Which numbers may stand in a place of a record.
 #[derive(Clone, Copy)]
@@ -64,8 +64,9 @@ fn is_digit(byte: u8) -> bool
 
 /// The number, where it may stand here.
 fn taken(numbers: Numbers, n: u64, text: &[u8]) -> Result<(u32, &[u8]), Stop>
-    ensures { MatchResult result
+    ensures exact { MatchResult result
         (λ x. taken_of numbers n text.now ≡ found x.0 x.1.now) (λ stop. Stops stop (taken_of numbers n text.now)) }
+    ensures may { IfOk result (λ x. takes_of numbers x.0 ≡ true) }
 {
     if takes(numbers, n) {
         Ok((n as u32, text))
@@ -77,9 +78,10 @@ fn taken(numbers: Numbers, n: u64, text: &[u8]) -> Result<(u32, &[u8]), Stop>
 /// The number with these first digits, and the digits that stand here.
 fn digits(text: &[u8], numbers: Numbers, first: u64) -> Result<(u32, &[u8]), Stop>
     requires { first < 2 ^ 32 }
-    ensures { MatchResult result
+    ensures exact { MatchResult result
         (λ x. digits_in numbers first text.now ≡ found x.0 x.1.now)
         (λ stop. Stops stop (digits_in numbers first text.now)) }
+    ensures may { IfOk result (λ x. takes_of numbers x.0 ≡ true) }
 {
     let mut n = first;
     let mut rest = text;
@@ -102,9 +104,10 @@ fn digits(text: &[u8], numbers: Numbers, first: u64) -> Result<(u32, &[u8]), Sto
 
 /// A number that may stand here.
 pub(crate) fn number(text: &[u8], numbers: Numbers) -> Result<(u32, &[u8]), Stop>
-    ensures { MatchResult result
+    ensures exact { MatchResult result
         (λ x. number_in numbers text.now ≡ found x.0 x.1.now)
         (λ stop. Stops stop (number_in numbers text.now)) }
+    ensures may { IfOk result (λ x. takes_of numbers x.0 ≡ true) }
 {
     match split(text) {
         None => Err(Stop::Left(0)),
@@ -120,4 +123,27 @@ pub(crate) fn number(text: &[u8], numbers: Numbers) -> Result<(u32, &[u8]), Stop
             }
         }
     }
+}
+
+/// A number that may stand here, with this byte behind it.
+pub(crate) fn number_before(text: &[u8], numbers: Numbers, behind: u8) -> Result<(u32, &[u8]), Stop>
+    ensures exact { MatchResult result
+        (λ x. followed_by behind (number_in numbers text.now) ≡ found x.0 x.1.now)
+        (λ stop. Stops stop (followed_by behind (number_in numbers text.now))) }
+    ensures may { IfOk result (λ x. takes_of numbers x.0 ≡ true) }
+{
+    let (n, rest) = number(text, numbers)?;
+    let rest = byte(rest, behind)?;
+    Ok((n, rest))
+}
+
+/// A number that may stand here, with nothing behind it.
+pub(crate) fn last_number(text: &[u8], numbers: Numbers) -> Result<u32, Stop>
+    ensures { MatchResult result
+        (λ n. ended (number_in numbers text.now) ≡ found n [])
+        (λ stop. Stops stop (ended (number_in numbers text.now))) }
+{
+    let (n, rest) = number(text, numbers)?;
+    end(rest)?;
+    Ok(n)
 }

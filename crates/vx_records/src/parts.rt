@@ -1,8 +1,8 @@
 ghost use Rattle.std.specs.Prelude.{◌≡◌, ◌∷◌, [], MatchOption, MatchResult};
-ghost use Rattle.vx_records.specs.Parts.{found, next_is, word_in, done};
+ghost use Rattle.vx_records.specs.Parts.{ended_at, found, next_is, word_in, done};
 ghost use Rattle.vx_records.specs.Stops.{Stops};
 
-use std::alloc::AllocError;
+use std::alloc::{AllocError, AllocFailed};
 
 /// Why nothing was read.
 #[derive(Clone, Copy)]
@@ -13,7 +13,21 @@ pub(crate) enum Stop {
 }
 
 impl From<AllocError> for Stop {
+    ghost use Rattle.vx_records.specs.declared.parts.Stop.TheVariants as stops;
+
+    ghost from_gives = { λ _ stop. stop ≡ stops.NoMemory };
+
     fn from(_error: AllocError) -> Self {
+        Stop::NoMemory
+    }
+}
+
+impl<T: Drop> From<AllocFailed<T>> for Stop {
+    ghost use Rattle.vx_records.specs.declared.parts.Stop.TheVariants as stops;
+
+    ghost from_gives = { λ _ stop. stop ≡ stops.NoMemory };
+
+    fn from(_error: AllocFailed<T>) -> Self {
         Stop::NoMemory
     }
 }
@@ -36,6 +50,18 @@ pub(crate) fn byte(text: &[u8], wanted: u8) -> Result<&[u8], Stop>
     match text {
         [first, rest @ ..] => { if *first == wanted { Ok(rest) } else { Err(Stop::Left(text.len())) } }
         [] => Err(Stop::Left(0)),
+    }
+}
+
+/// Nothing more.
+pub(crate) fn end(text: &[u8]) -> Result<(), Stop>
+    ensures { MatchResult result
+        (λ _. text.now ≡ []) (λ stop. Stops stop (ended_at done text.now)) }
+{
+    if text.is_empty() {
+        Ok(())
+    } else {
+        Err(Stop::Left(text.len()))
     }
 }
 

@@ -3,18 +3,18 @@ use Rattle.vx_records.specs.Numbers.{begins, is_digit, digits_in}
 use Rattle.vx_records.proofs.Loops.{digits_end, digits_before, digits_zero, digits_break, digits_go}
 use Rattle.vx_records.proofs.numbers.digits.Goals as goal
 
-pub returns-then-not-is_digit : goal.returns-then-not-is_digit
-returns-then-not-is_digit c =
+pub returns-then-not-is_digit-clause-exact : goal.returns-then-not-is_digit-clause-exact
+returns-then-not-is_digit-clause-exact c =
     let no : is_digit c.in-Some.byte ≡ false = cc (c.is_digit.ensures) in
-    rw (c.loop-byte.invariant.same ∙ digits_before c.args.numbers c.loop-byte.n c.in-Some.byte c.loop-byte.rest.now c.in-Some.further.now c.in-Some.ensures no) c.taken.ensures
+    rw (c.loop-byte.invariant.same ∙ digits_before c.args.numbers c.loop-byte.n c.in-Some.byte c.loop-byte.rest.now c.in-Some.further.now c.in-Some.ensures no) c.taken.ensures.exact
 
-pub returns-then-n-eq0 : goal.returns-then-n-eq0
-returns-then-n-eq0 c =
+pub returns-then-n-eq0-clause-exact : goal.returns-then-n-eq0-clause-exact
+returns-then-n-eq0-clause-exact c =
     let yes : is_digit c.in-Some.byte ≡ true = cc (c.is_digit.ensures) in
     c.loop-byte.invariant.same ∙ digits_zero c.args.numbers c.loop-byte.n c.in-Some.byte c.loop-byte.rest.now c.in-Some.further.now c.in-Some.ensures yes (omega arith)
 
-pub returns-then-not-begins : goal.returns-then-not-begins
-returns-then-not-begins c =
+pub returns-then-not-begins-clause-exact : goal.returns-then-not-begins-clause-exact
+returns-then-not-begins-clause-exact c =
     let yes : is_digit c.in-Some.byte ≡ true = cc (c.is_digit.ensures) in
     let none : begins c.args.numbers (10 * c.loop-byte.n + (c.in-Some.byte - 48)) ≡ false = cc (c.begins.ensures.exact, c.from.ensures) in
     c.loop-byte.invariant.same ∙ digits_break c.args.numbers c.loop-byte.n c.in-Some.byte c.loop-byte.rest.now c.in-Some.further.now c.in-Some.ensures yes none
@@ -30,5 +30,5 @@ loop-byte-preserved c =
       small = c.begins.ensures.small (cc);
     }
 
-pub returns : goal.returns
-returns c = rw (c.loop-byte.invariant.same ∙ digits_end c.args.numbers c.loop-byte.n c.loop-byte.rest.now c.in_default.ensures) c.taken-2.ensures
+pub returns-clause-exact : goal.returns-clause-exact
+returns-clause-exact c = rw (c.loop-byte.invariant.same ∙ digits_end c.args.numbers c.loop-byte.n c.loop-byte.rest.now c.in_default.ensures) c.taken-2.ensures.exact
