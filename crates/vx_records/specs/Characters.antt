@@ -25,9 +25,12 @@ character_in room (b ∷ text) =
     then followers_in (continuation_len b) (second_byte_min b) (second_byte_max b) text
     else stop (b ∷ text)
 
+abbrev pub next_place : ℕ → Unit {0} → ℕ → ℕ
+next_place room x spent = room - spent
+
 -- one or more characters in at most 256 bytes, to the end of the text
 unfoldable pub words_in : List ℕ → Read (List ℕ)
 words_in text =
     character_in 256 text >>= λ first.
-    each_in character_in (λ room x spent. room - spent) 256 (256 - (length text - length first.rest)) first.rest >>= λ more.
+    each_in character_in next_place 256 (256 - (length text - length first.rest)) first.rest >>= λ more.
     found text []

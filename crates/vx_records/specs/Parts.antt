@@ -1,5 +1,5 @@
 -- Parts of a record: what is read from the front of a text.
-use Rattle.std.specs.Prelude.{ℕ, zero, suc, ◌-◌, ◌==◌, Bool, false, List, [], ◌∷◌, length, take, drop, min, nat_lt, if◌then◌else◌, Result, Ok, Err}
+use Rattle.std.specs.Prelude.{ℕ, zero, suc, ◌-◌, ◌==◌, Bool, false, List, [], ◌∷◌, ◌++◌, length, take, drop, min, nat_lt, if◌then◌else◌, Result, Ok, Err}
 use Rattle.std.specs.List.{prefix_len}
 use Rattle.vx_base.specs.Results.{◌>>=◌}
 
@@ -83,3 +83,13 @@ each_in item next (suc most) k (b ∷ text) =
     item k (b ∷ text) >>= λ x.
     each_in item next most (next k x.value (length (b ∷ text) - length x.rest)) x.rest >>= λ xs.
     found (x.value ∷ xs.value) xs.rest
+
+-- items that were read before, and those that are read
+abbrev pub behind : {X : Type 0} → List X → Read (List X) → Read (List X)
+behind before (Ok xs) = found (before ++ xs.value) xs.rest
+behind before (Err left) = Err left
+
+-- that items are read, without their values
+abbrev pub passed : {X : Type 0} → Read X → Read (Unit {0})
+passed (Ok x) = found done x.rest
+passed (Err left) = Err left

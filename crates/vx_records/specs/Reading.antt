@@ -18,7 +18,9 @@ use Rattle.vx_events.specs.declared.event.Event.TheVariants.{Add, Claim, Release
 use Rattle.vx_events.specs.declared.key.Key.{Key}
 use Rattle.vx_events.specs.Fits.{is_batch_character}
 use Rattle.vx_records.specs.declared.acts.Act.{Act}
-use Rattle.vx_records.specs.declared.acts.Act.TheVariants.{AddSheet, ClaimSheet, ReleaseSheet, Select, Overvote, Accept, Name}
+use Rattle.vx_records.specs.declared.acts.Act.TheVariants.{AddSheet, ClaimSheet, ReleaseSheet, DecideContest}
+use Rattle.vx_records.specs.declared.acts.Ruling.{Ruling}
+use Rattle.vx_records.specs.declared.acts.Ruling.TheVariants.{Select, Overvote, Accept, Name}
 use Rattle.vx_records.specs.declared.numbers.Numbers.{Numbers}
 use Rattle.vx_records.specs.declared.numbers.Numbers.TheVariants.{Between, Fronts}
 use Rattle.vx_records.specs.declared.sheets.Head.{Head}
@@ -33,13 +35,15 @@ abbrev pub act_word : Act → List ℕ
 act_word AddSheet = codes "1 add "
 act_word ClaimSheet = codes "1 claim "
 act_word ReleaseSheet = codes "1 release "
-act_word Select = codes "1 select "
-act_word Overvote = codes "1 overvote "
-act_word Accept = codes "1 accept "
-act_word Name = codes "1 name "
+act_word (DecideContest Select) = codes "1 select "
+act_word (DecideContest Overvote) = codes "1 overvote "
+act_word (DecideContest Accept) = codes "1 accept "
+act_word (DecideContest Name) = codes "1 name "
 
 abbrev pub acts : List Act
-acts = AddSheet ∷ ClaimSheet ∷ ReleaseSheet ∷ Select ∷ Overvote ∷ Accept ∷ Name ∷ []
+acts =
+    AddSheet ∷ ClaimSheet ∷ ReleaseSheet
+    ∷ DecideContest Select ∷ DecideContest Overvote ∷ DecideContest Accept ∷ DecideContest Name ∷ []
 
 -- S, B and N with a blank behind each
 unfoldable pub station_in : List ℕ → Read ℕ
@@ -55,22 +59,25 @@ key_in text = do
   found (record { batch = batch.value; number = number.value }) number.rest
 
 -- `S B N` and nothing more
-unfoldable pub claim_in : (ℕ → Key → Event) → List ℕ → Read Event
-claim_in event text = do
+unfoldable pub claim_in : List ℕ → Read (ℕ × Key)
+claim_in text = do
   station ← station_in text
   key ← ended (key_in station.rest)
-  found (event station.value key.value) key.rest
+  found (station.value, key.value) key.rest
 
 -- an option from `least` on, behind a comma
 unfoldable pub option_in : ℕ → List ℕ → Read ℕ
 option_in least text =
     if nat_lt least 1000 then (word_in (44 ∷ []) text >>= λ comma. number_in (Between least 999) comma.rest) else stop text
 
+abbrev pub next_option : ℕ → ℕ → ℕ → ℕ
+next_option least option spent = option + 1
+
 -- options that ascend, with commas between
 unfoldable pub some_options_in : List ℕ → Read (List ℕ)
 some_options_in text = do
   first ← number_in (Between 0 999) text
-  more ← each_in option_in (λ least option spent. option + 1) 1000 (first.value + 1) first.rest
+  more ← each_in option_in next_option 1000 (first.value + 1) first.rest
   found (first.value ∷ more.value) more.rest
 
 unfoldable pub no_options_in : List ℕ → Read (List ℕ)
@@ -99,20 +106,30 @@ candidate_in text = do
   number ← ended (number_in (Between 0 999) word.rest)
   found (Candidate number.value) number.rest
 
+unfoldable pub written_in : List ℕ → Read WriteInName
+written_in text = if first_is 116 text then text_name_in text else candidate_in text
+
 unfoldable pub name_in : List ℕ → Read Decision
 name_in text = do
   blank ← word_in (32 ∷ []) text
   slot ← followed_by 32 (number_in (Between 0 999) blank.rest)
-  name ← (if first_is 116 slot.rest then text_name_in slot.rest else candidate_in slot.rest)
+  name ← written_in slot.rest
   found (NameWriteIn slot.value name.value) name.rest
 
--- `S B N C`, and what is decided behind it
-unfoldable pub decide_in : (List ℕ → Read Decision) → List ℕ → Read Event
-decide_in decision_in text = do
+-- what stands behind the contest
+abbrev pub decision_in : Ruling → List ℕ → Read Decision
+decision_in Select text = select_in text
+decision_in Overvote text = ended_at RuledOvervote text
+decision_in Accept text = ended_at AcceptRead text
+decision_in Name text = name_in text
+
+-- `S B N C`, and what is decided of the contest
+unfoldable pub decide_in : Ruling → List ℕ → Read Event
+decide_in ruling text = do
   station ← station_in text
   key ← followed_by 32 (key_in station.rest)
   contest ← number_in (Between 0 499) key.rest
-  decision ← decision_in contest.rest
+  decision ← decision_in ruling contest.rest
   found (Decide station.value key.value contest.value decision.value) decision.rest
 
 -- kinds of ballots
@@ -138,14 +155,18 @@ state_of b = if b == 109 then Marked else if b == 103 then Marginal else Clear
 abbrev pub most_contest : ℕ → ℕ
 most_contest room = if room == 4 then 9 else if room == 5 then 99 else 499
 
+-- the letters of a contest's states in at most `room` bytes
+unfoldable pub states_in : ℕ → List ℕ → Read (List State)
+states_in room text = letters_in is_state_letter 1 (min room 150) text >>= λ letters. found (map state_of letters.value) letters.rest
+
 -- a contest from `least` on, behind a blank, in at most `room` bytes
 unfoldable pub contest_in : Room → List ℕ → Read ContestMarks
 contest_in place text =
     if nat_le 4 place.room && nat_le place.least (most_contest place.room) then (do
       blank ← word_in (32 ∷ []) text
       contest ← followed_by 58 (number_in (Between place.least (most_contest place.room)) blank.rest)
-      letters ← letters_in is_state_letter 1 (min 150 (place.room - 1 - (length blank.rest - length contest.rest))) contest.rest
-      found (record { contest = contest.value; states = map state_of letters.value }) letters.rest)
+      states ← states_in (place.room - 1 - (length blank.rest - length contest.rest)) contest.rest
+      found (record { contest = contest.value; states = states.value }) states.rest)
     else stop text
 
 abbrev pub next_room : Room → ContestMarks → ℕ → Room
@@ -161,12 +182,9 @@ add_in text = do
 -- what stands behind a record's first word
 abbrev pub act_in : Act → List ℕ → Read Event
 act_in AddSheet text = add_in text
-act_in ClaimSheet text = claim_in Claim text
-act_in ReleaseSheet text = claim_in Release text
-act_in Select text = decide_in select_in text
-act_in Overvote text = decide_in (ended_at RuledOvervote) text
-act_in Accept text = decide_in (ended_at AcceptRead) text
-act_in Name text = decide_in name_in text
+act_in ClaimSheet text = claim_in text >>= λ x. found (Claim x.value.0 x.value.1) x.rest
+act_in ReleaseSheet text = claim_in text >>= λ x. found (Release x.value.0 x.value.1) x.rest
+act_in (DecideContest ruling) text = decide_in ruling text
 
 unfoldable pub record_in : List ℕ → Read Event
 record_in body = choice_in act_word acts body >>= λ act. act_in act.value act.rest

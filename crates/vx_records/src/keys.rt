@@ -3,7 +3,6 @@ ghost use Rattle.std.specs.Str.{IsUtf8};
 ghost use Rattle.vx_records.specs.Parts.{ended, followed_by, found};
 ghost use Rattle.vx_records.specs.Reading.{batch_in, claim_in, key_in, station_in};
 ghost use Rattle.vx_records.specs.Stops.{Stops};
-ghost use Rattle.vx_events.specs.declared.event.Event.TheVariants as events;
 
 use crate::letters::{Letters, letters_at};
 use crate::numbers::{Numbers, number, number_before};
@@ -79,8 +78,8 @@ fn last_key(alloc: Global, text: &[u8]) -> Result<Key, Stop>
 #[tactic(auto, unfolding(crate::specs::Reading::claim_in))]
 pub(crate) fn claim(alloc: Global, text: &[u8]) -> Result<(u32, Key), Stop>
     ensures { MatchResult result
-        (λ x. claim_in events.Claim text.now ≡ found (events.Claim x.0 x.1) [])
-        (λ stop. Stops stop (claim_in events.Claim text.now)) }
+        (λ x. claim_in text.now ≡ found x [])
+        (λ stop. Stops stop (claim_in text.now)) }
 {
     let (station, rest) = station(text)?;
     let key = last_key(alloc, rest)?;

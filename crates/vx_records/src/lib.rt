@@ -8,11 +8,15 @@
 #![tactic(auto)]
 
 mod acts;
+mod characters;
+mod contests;
+mod decisions;
 mod decoding;
 mod encoding;
 mod keys;
 mod letters;
 mod numbers;
+mod options;
 mod parts;
 mod sheets;
 

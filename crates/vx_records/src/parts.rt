@@ -1,5 +1,5 @@
 ghost use Rattle.std.specs.Prelude.{◌≡◌, ◌∷◌, [], MatchOption, MatchResult};
-ghost use Rattle.vx_records.specs.Parts.{ended_at, found, next_is, word_in, done};
+ghost use Rattle.vx_records.specs.Parts.{ended_at, first_is, found, next_is, word_in, done};
 ghost use Rattle.vx_records.specs.Stops.{Stops};
 
 use std::alloc::{AllocError, AllocFailed};
@@ -39,6 +39,16 @@ pub(crate) fn split(text: &[u8]) -> Option<(u8, &[u8])>
     match text {
         [first, rest @ ..] => Some((*first, rest)),
         [] => None,
+    }
+}
+
+/// Whether the text begins with this byte.
+pub(crate) fn is_first(text: &[u8], byte: u8) -> bool
+    ensures { result ≡ first_is byte text.now }
+{
+    match split(text) {
+        None => false,
+        Some((first, _)) => byte == first,
     }
 }
 
