@@ -1,5 +1,5 @@
 -- What is read step by step, as loops go.
-use Rattle.std.proofs.Common.{◌≡◌, ℕ, zero, suc, ◌+◌, ◌-◌, ◌*◌, ◌≤◌, ◌<◌, Bool, true, false, cond, List, [], ◌∷◌, ◌++◌, length, get_or, take, drop, refl, ap, sym, subst, ◌∙◌, inl, inr, min, arith, add-one, drop-cons, length-append, append-nil, append_assoc}
+use Rattle.std.proofs.Common.{◌≡◌, ℕ, zero, suc, ◌+◌, ◌-◌, ◌*◌, ◌≤◌, ◌<◌, Bool, true, false, cond, List, [], ◌∷◌, ◌++◌, length, map, get_or, take, drop, refl, ap, sym, subst, ◌∙◌, inl, inr, min, arith, add-one, drop-cons, length-append, append-nil, append_assoc}
 use Rattle.std.specs.Prelude.{Result, Ok, Err, MatchResult, ◌&&◌, ◌||◌, ◌==◌, nat_le, nat_lt}
 use Rattle.std.proofs.Math.ListN.{drop_of_length-le}
 use Rattle.std.proofs.lemmas.Bool.{le-leb, lt-leb, lt-ltb, le-ltb, eqb-true}
@@ -18,6 +18,8 @@ use Rattle.vx_base.proofs.Booleans.{and-left, and-right}
 use Rattle.vx_events.specs.Fits.{is_batch_character}
 use Rattle.vx_json.specs.Reading.{is_within}
 use Rattle.vx_records.specs.Characters.{followers_in}
+use Rattle.vx_records.specs.Letters.{is_state_letter}
+use Rattle.vx_records.specs.Reading.{states_in, state_of}
 
 word_next : (word : List ℕ) (i : ℕ) (rest : List ℕ) → i < length word → word_in (drop i word) rest ≡ (next_is (get_or word i 0) done rest >>= λ x. word_in (drop (i + 1) word) x.rest)
 word_next word i rest h =
@@ -298,3 +300,9 @@ followers_good k m low high b text rest e h j =
 pub followers_end : (k low high : ℕ) (text : List ℕ) → k ≡ 0 → followers_in k low high text ≡ found done text
 unfolding followers_in
 followers_end k low high text e = ap (λ (n : ℕ). followers_in n low high text) e
+
+pub states_stops : (n room left : ℕ) (text : List ℕ) → n ≡ min room 150 → letters_in is_state_letter 1 n text ≡ Err left → states_in room text ≡ Err left
+unfolding states_in
+states_stops n room left text e h =
+    ap (λ (r : Read (List ℕ)). r >>= λ letters. found (map state_of letters.value) letters.rest)
+      (ap (λ (k : ℕ). letters_in is_state_letter 1 k text) (sym e) ∙ h)

@@ -138,13 +138,16 @@ kinds =
     (Precinct, false) ∷ (Absentee, false) ∷ (Provisional, false) ∷ (Other, false)
     ∷ (Precinct, true) ∷ (Absentee, true) ∷ (Provisional, true) ∷ (Other, true) ∷ []
 
+abbrev pub kind_text : Kind × Bool → List ℕ
+kind_text kind = kind_word kind.0 kind.1
+
 -- B, N, CARD, FRONT and KIND
 unfoldable pub head_in : List ℕ → Read Head
 head_in text = do
   key ← followed_by 32 (key_in text)
   card ← followed_by 32 (number_in (Between 0 1023) key.rest)
   front ← followed_by 32 (number_in Fronts card.rest)
-  kind ← choice_in (λ (kind : Kind × Bool). kind_word kind.0 kind.1) kinds front.rest
+  kind ← choice_in kind_text kinds front.rest
   found (record { key = key.value; card = card.value; front = front.value; kind = kind.value.0; test = kind.value.1 }) kind.rest
 
 -- what a letter says
