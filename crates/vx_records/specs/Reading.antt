@@ -201,9 +201,13 @@ bytes_of [] = []
 bytes_of (high ∷ []) = []
 bytes_of (high ∷ low ∷ hex) = (hex_value high * 16 + hex_value low) ∷ bytes_of hex
 
+-- how a header begins
+unfoldable pub header_word : List ℕ
+header_word = codes "1 election "
+
 unfoldable pub header_in : List ℕ → Read (List ℕ)
 header_in body = do
-  word ← word_in (codes "1 election ") body
+  word ← word_in header_word body
   hex ← ended (letters_in is_hex 64 64 word.rest)
   found (bytes_of hex.value) hex.rest
 

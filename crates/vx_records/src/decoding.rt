@@ -3,7 +3,7 @@ ghost use Rattle.hex.specs.Hex.{decode_of};
 ghost use Rattle.vx_base.specs.Refusals.{Gives};
 ghost use Rattle.vx_records.specs.Faults.{decoded, digested, is_no_memory};
 ghost use Rattle.vx_records.specs.Parts.{found};
-ghost use Rattle.vx_records.specs.Reading.{act_in, bytes_of, event_in, digest_in, header_in, record_in};
+ghost use Rattle.vx_records.specs.Reading.{act_in, bytes_of, event_in, digest_in, header_in, header_word as header_word_of, record_in};
 ghost use Rattle.vx_records.specs.Stops.{Stops};
 
 use crate::acts::{Act, first_word};
@@ -68,6 +68,14 @@ pub fn decode(alloc: Global, body: &[u8], index: u64) -> Result<Event, JournalFa
     }
 }
 
+/// How a header begins.
+#[tactic(auto, unfolding(crate::specs::Reading::header_word))]
+fn header_word() -> &'static [u8]
+    ensures { result.now ≡ header_word_of }
+{
+    b"1 election "
+}
+
 /// The 64 hex digits of a header.
 #[tactic(auto, unfolding(crate::specs::Reading::header_in))]
 fn header_hex(body: &[u8]) -> Result<&[u8], Stop>
@@ -75,7 +83,7 @@ fn header_hex(body: &[u8]) -> Result<&[u8], Stop>
         (λ hex. header_in body.now ≡ found (bytes_of hex.now) []) (λ stop. Stops stop (header_in body.now)) }
     ensures digits { IfOk result (λ hex. decode_of hex.now ≡ Ok (bytes_of hex.now)) }
 {
-    let rest = word(body, b"1 election ")?;
+    let rest = word(body, header_word())?;
     let (hex, rest) = letters_at(rest, Letters::Hex, 64, 64)?;
     end(rest)?;
     Ok(hex)
