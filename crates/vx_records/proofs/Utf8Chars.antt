@@ -205,3 +205,144 @@ char_of c s names = elim (cases_lt c 128) [
     | inr d ↦ elim (cases_lt c 65536) [ inl e ↦ char_3 c d e (scalar_of c s) | inr e ↦ char_4 c e (scalar_of c s) ] ] ] where
   first_name : c < 128 → is_name_byte c ≡ true
   first_name a = and-left (is_name_byte c) true (subst (λ (t : List ℕ). list_all is_name_byte t ≡ true) (bytes_1 c a) names)
+
+-- a character's bytes, none of them a control character
+pub record IsScalarText (u : List ℕ) : Type 0 where
+  pub c : ℕ
+  pub is : scalar c ≡ true
+  pub text : encode c ≡ u
+  pub names : list_all is_name_byte u ≡ true
+
+high_name : (b : ℕ) → 128 ≤ b → is_name_byte b ≡ true
+high_name b h = name_is b (omega arith) (λ e. absurd (omega (arith, e)))
+
+-- the shapes of further bytes
+record One_more (low high : ℕ) (u : List ℕ) : Type 0 where
+  x : ℕ
+  rest : List ℕ
+  is : is_within low high x ≡ true
+  text : u ≡ x ∷ rest
+
+follow_zero : (low high : ℕ) (u : List ℕ) → Follow zero low high u → u ≡ []
+follow_zero low high [] no_follow = refl
+follow_zero low high (b ∷ u) h = elim h [ ]
+
+-- one byte more, and those behind it
+pub data Splits_follow (count low high : ℕ) (u : List ℕ) : Type 0 where
+  splits : (x : ℕ) (rest : List ℕ) → is_within low high x ≡ true → u ≡ x ∷ rest → Follow count 128 191 rest → Splits_follow count low high u
+
+follow_suc : (count low high : ℕ) (u : List ℕ) → Follow (suc count) low high u → Splits_follow count low high u
+follow_suc count low high [] h = elim h [ ]
+follow_suc count low high (b ∷ u) (follow _ h r) = splits b u h refl r
+
+tail_low : (x : ℕ) → is_within 128 191 x ≡ true → 128 ≤ x
+tail_low x h = within_low 128 191 x h
+
+tail_high : (x : ℕ) → is_within 128 191 x ≡ true → x ≤ 191
+tail_high x h = within_high 128 191 x h
+
+text_1 : (b : ℕ) → b < 128 → is_lead b ≡ true → IsScalarText (b ∷ [])
+text_1 b h lead = or-cases (is_within 32 126 b) (is_within 194 244 b) lead
+    (λ k. record { c = b; is = scalar_is b (inl (omega arith)); text = bytes_1 b h; names = and-both (is_name_byte b) true (name_is b (within_low 32 126 b k) (λ e. absurd (omega (arith, e, within_high 32 126 b k)))) refl })
+    (λ k. absurd (omega (arith, within_low 194 244 b k)))
+
+text_2 : (b x : ℕ) → 194 ≤ b → b < 224 → 128 ≤ x → x ≤ 191 → IsScalarText (b ∷ x ∷ [])
+text_2 b x low high xl xh =
+    let c = (b - 192) * 64 + (x - 128) in
+    let one : 192 + c / 64 ≡ b = omega arith in
+    let two : 128 + c % 64 ≡ x = omega arith in
+    record {
+      c = c; is = scalar_is c (inl (omega arith));
+      text = bytes_2 c (omega arith) (omega arith) ∙ ap (λ (n : ℕ). n ∷ (128 + c % 64) ∷ []) one ∙ ap (λ (n : ℕ). b ∷ n ∷ []) two;
+      names = and-both (is_name_byte b) (is_name_byte x && true) (high_name b (omega arith)) (and-both (is_name_byte x) true (high_name x xl) refl);
+    }
+
+text_3 : (b x y : ℕ) → 224 ≤ b → b < 240 → Second b x → 128 ≤ y → y ≤ 191 → IsScalarText (b ∷ x ∷ y ∷ [])
+text_3 b x y low high s yl yh =
+    let c = (b - 224) * 4096 + ((x - 128) * 64 + (y - 128)) in
+    let xl = s.low in
+    let xh = s.high in
+    let q : c / 64 ≡ (b - 224) * 64 + (x - 128) = omega (arith, xl, xh) in
+    let one : 224 + c / 4096 ≡ b = omega (arith, xl, xh) in
+    let two : 128 + (c / 64) % 64 ≡ x = omega (arith, xl, xh, q) in
+    let three : 128 + c % 64 ≡ y = omega (arith, xl, xh) in
+    record {
+      c = c; is = scalar_is c (apart xl xh);
+      text = bytes_3 c (big xl xh) (omega (arith, xl, xh)) ∙ ap (λ (n : ℕ). n ∷ (128 + (c / 64) % 64) ∷ (128 + c % 64) ∷ []) one ∙ ap (λ (n : ℕ). b ∷ n ∷ (128 + c % 64) ∷ []) two ∙ ap (λ (n : ℕ). b ∷ x ∷ n ∷ []) three;
+      names = and-both (is_name_byte b) (is_name_byte x && (is_name_byte y && true)) (high_name b (omega arith)) (and-both (is_name_byte x) (is_name_byte y && true) (high_name x xl) (and-both (is_name_byte y) true (high_name y yl) refl));
+    } where
+  big : 128 ≤ x → x ≤ 191 → 2048 ≤ (b - 224) * 4096 + ((x - 128) * 64 + (y - 128))
+  big xl xh = elim (cases_lt b 225) [ inl a ↦ omega (arith, s.three_low (omega arith)) | inr a ↦ omega (arith, xl) ]
+  apart : 128 ≤ x → x ≤ 191 → ((b - 224) * 4096 + ((x - 128) * 64 + (y - 128)) < 55296) ⊎ ((57344 ≤ (b - 224) * 4096 + ((x - 128) * 64 + (y - 128))) × ((b - 224) * 4096 + ((x - 128) * 64 + (y - 128)) < 1114112))
+  apart xl xh = elim (cases_lt b 238) [
+      inl a ↦ elim (cases_lt b 237) [ inl d ↦ inl (omega (arith, xl, xh)) | inr d ↦ inl (omega (arith, xl, s.three_high (omega arith))) ]
+    | inr a ↦ inr (omega (arith, xl, xh), omega (arith, xl, xh)) ]
+
+text_4 : (b x y z : ℕ) → 240 ≤ b → b ≤ 244 → Second b x → 128 ≤ y → y ≤ 191 → 128 ≤ z → z ≤ 191 → IsScalarText (b ∷ x ∷ y ∷ z ∷ [])
+text_4 b x y z low high s yl yh zl zh =
+    let c = (b - 240) * 262144 + ((x - 128) * 4096 + ((y - 128) * 64 + (z - 128))) in
+    let xl = s.low in
+    let xh = s.high in
+    let q : c / 64 ≡ (b - 240) * 4096 + ((x - 128) * 64 + (y - 128)) = omega (arith, xl, xh) in
+    let r : c / 4096 ≡ (b - 240) * 64 + (x - 128) = omega (arith, xl, xh) in
+    let one : 240 + c / 262144 ≡ b = omega (arith, xl, xh) in
+    let two : 128 + (c / 4096) % 64 ≡ x = omega (arith, xl, xh, r) in
+    let three : 128 + (c / 64) % 64 ≡ y = omega (arith, xl, xh, q) in
+    let four : 128 + c % 64 ≡ z = omega (arith, xl, xh) in
+    record {
+      c = c; is = scalar_is c (inr (omega (arith, big xl xh), small xl xh));
+      text = bytes_4 c (big xl xh) ∙ ap (λ (n : ℕ). n ∷ (128 + (c / 4096) % 64) ∷ (128 + (c / 64) % 64) ∷ (128 + c % 64) ∷ []) one ∙ ap (λ (n : ℕ). b ∷ n ∷ (128 + (c / 64) % 64) ∷ (128 + c % 64) ∷ []) two ∙ ap (λ (n : ℕ). b ∷ x ∷ n ∷ (128 + c % 64) ∷ []) three ∙ ap (λ (n : ℕ). b ∷ x ∷ y ∷ n ∷ []) four;
+      names = and-both (is_name_byte b) (is_name_byte x && (is_name_byte y && (is_name_byte z && true))) (high_name b (omega arith)) (and-both (is_name_byte x) (is_name_byte y && (is_name_byte z && true)) (high_name x xl) (and-both (is_name_byte y) (is_name_byte z && true) (high_name y yl) (and-both (is_name_byte z) true (high_name z zl) refl)));
+    } where
+  big : 128 ≤ x → x ≤ 191 → 65536 ≤ (b - 240) * 262144 + ((x - 128) * 4096 + ((y - 128) * 64 + (z - 128)))
+  big xl xh = elim (cases_lt b 241) [ inl a ↦ omega (arith, s.four_low (omega arith)) | inr a ↦ omega (arith, xl) ]
+  small : 128 ≤ x → x ≤ 191 → (b - 240) * 262144 + ((x - 128) * 4096 + ((y - 128) * 64 + (z - 128))) < 1114112
+  small xl xh = elim (cases_lt b 244) [ inl a ↦ omega (arith, xl, xh) | inr a ↦ omega (arith, xl, s.four_high (omega arith)) ]
+
+lead_at_least : (b : ℕ) → is_lead b ≡ true → 128 ≤ b → (194 ≤ b) × (b ≤ 244)
+lead_at_least b h k = or-cases (is_within 32 126 b) (is_within 194 244 b) h
+    (λ e. absurd (omega (arith, within_high 32 126 b e)))
+    (λ e. (within_low 194 244 b e, within_high 194 244 b e))
+
+text_at : (b low high : ℕ) (u v : List ℕ) → u ≡ v → IsScalarText (b ∷ v) → IsScalarText (b ∷ u)
+text_at b low high u v e h = subst (λ (t : List ℕ). IsScalarText (b ∷ t)) (sym e) h
+
+from_1 : (b : ℕ) (u : List ℕ) → b < 128 → is_lead b ≡ true → Follow 0 (second_byte_min b) (second_byte_max b) u → IsScalarText (b ∷ u)
+from_1 b u h lead f = text_at b 0 0 u [] (follow_zero (second_byte_min b) (second_byte_max b) u f) (text_1 b h lead)
+
+from_2 : (b : ℕ) (u : List ℕ) → 194 ≤ b → b < 224 → Splits_follow 0 (second_byte_min b) (second_byte_max b) u → IsScalarText (b ∷ u)
+from_2 b u low high (splits x rest h e r) =
+    let s = second_of b x h in
+    text_at b 0 0 u (x ∷ []) (e ∙ ap (λ (t : List ℕ). x ∷ t) (follow_zero 128 191 rest r)) (text_2 b x low high s.low s.high)
+
+from_3_at : (b x : ℕ) (u rest : List ℕ) → 224 ≤ b → b < 240 → Second b x → u ≡ x ∷ rest → Splits_follow 0 128 191 rest → IsScalarText (b ∷ u)
+from_3_at b x u rest low high s e (splits y last k f r) =
+    text_at b 0 0 u (x ∷ y ∷ []) (e ∙ ap (λ (t : List ℕ). x ∷ t) (f ∙ ap (λ (t : List ℕ). y ∷ t) (follow_zero 128 191 last r))) (text_3 b x y low high s (tail_low y k) (tail_high y k))
+
+from_3 : (b : ℕ) (u : List ℕ) → 224 ≤ b → b < 240 → Splits_follow 1 (second_byte_min b) (second_byte_max b) u → IsScalarText (b ∷ u)
+from_3 b u low high (splits x rest h e r) = from_3_at b x u rest low high (second_of b x h) e (follow_suc 0 128 191 rest r)
+
+from_4_last : (b x y : ℕ) (u rest last : List ℕ) → 240 ≤ b → b ≤ 244 → Second b x → 128 ≤ y → y ≤ 191 → u ≡ x ∷ rest → rest ≡ y ∷ last → Splits_follow 0 128 191 last → IsScalarText (b ∷ u)
+from_4_last b x y u rest last low high s yl yh e f (splits z nil k g r) =
+    text_at b 0 0 u (x ∷ y ∷ z ∷ []) (e ∙ ap (λ (t : List ℕ). x ∷ t) (f ∙ ap (λ (t : List ℕ). y ∷ t) (g ∙ ap (λ (t : List ℕ). z ∷ t) (follow_zero 128 191 nil r))))
+      (text_4 b x y z low high s yl yh (tail_low z k) (tail_high z k))
+
+from_4_at : (b x : ℕ) (u rest : List ℕ) → 240 ≤ b → b ≤ 244 → Second b x → u ≡ x ∷ rest → Splits_follow 1 128 191 rest → IsScalarText (b ∷ u)
+from_4_at b x u rest low high s e (splits y last k f r) = from_4_last b x y u rest last low high s (tail_low y k) (tail_high y k) e f (follow_suc 0 128 191 last r)
+
+from_4 : (b : ℕ) (u : List ℕ) → 240 ≤ b → b ≤ 244 → Splits_follow 2 (second_byte_min b) (second_byte_max b) u → IsScalarText (b ∷ u)
+from_4 b u low high (splits x rest h e r) = from_4_at b x u rest low high (second_of b x h) e (follow_suc 1 128 191 rest r)
+
+by_count : (b n : ℕ) (u : List ℕ) → continuation_len b ≡ n → Follow (continuation_len b) (second_byte_min b) (second_byte_max b) u → Follow n (second_byte_min b) (second_byte_max b) u
+by_count b n u e h = subst (λ (k : ℕ). Follow k (second_byte_min b) (second_byte_max b) u) e h
+
+pub text_of_char : (b : ℕ) (u : List ℕ) → is_lead b ≡ true → Follow (continuation_len b) (second_byte_min b) (second_byte_max b) u → IsScalarText (b ∷ u)
+text_of_char b u lead f = elim (cases_lt b 128) [
+    inl a ↦ from_1 b u a lead (by_count b 0 u (cl_1 b a) f)
+  | inr a ↦ long (lead_at_least b lead a) a ] where
+  long : (194 ≤ b) × (b ≤ 244) → 128 ≤ b → IsScalarText (b ∷ u)
+  long range a = elim (cases_lt b 224) [
+      inl d ↦ from_2 b u range.0 d (follow_suc 0 (second_byte_min b) (second_byte_max b) u (by_count b 1 u (cl_2 b a d) f))
+    | inr d ↦ elim (cases_lt b 240) [
+        inl e ↦ from_3 b u d e (follow_suc 1 (second_byte_min b) (second_byte_max b) u (by_count b 2 u (cl_3 b d e) f))
+      | inr e ↦ from_4 b u e range.1 (follow_suc 2 (second_byte_min b) (second_byte_max b) u (by_count b 3 u (cl_4 b e) f)) ] ]
