@@ -179,3 +179,67 @@ some_found text rest xs first e h =
 -- what is read as options ascends
 pub options_ascend : (text xs : List ℕ) → some_options_in text ≡ found xs [] → is_ascending xs ≡ true
 options_ascend text xs e = some_ascend xs (some_options_part.only text xs [] e).is.is
+
+-- `-` for no options
+pub record No_options (xs : List ℕ) : Type 0 where
+  pub is : xs ≡ []
+
+no_to : (xs u : List ℕ) → Both (Word (45 ∷ [])) (λ a n. Nothing {A = List ℕ} []) xs u → Spelled No_options (λ x. 45 ∷ []) xs u
+no_to xs u h = record { is = record { is = h.second.value }; text = h.text ∙ ap (λ (t : List ℕ). t ++ h.w) h.first.text ∙ ap (λ (t : List ℕ). 45 ∷ t) h.second.text }
+
+no_back : (xs u : List ℕ) → Spelled No_options (λ x. 45 ∷ []) xs u → Both (Word (45 ∷ [])) (λ a n. Nothing {A = List ℕ} []) xs u
+no_back xs u h = record { a = done; u = 45 ∷ []; w = []; first = record { is = tt; text = refl }; second = record { value = h.is.is; text = refl }; text = h.text }
+
+no_options_part : Part (Spelled No_options (λ x. 45 ∷ [])) none no_options_in
+unfolding no_options_in
+no_options_part = same_texts
+    (then_part (Word (45 ∷ [])) any (word_in (45 ∷ [])) (λ a n. Nothing {A = List ℕ} []) none (λ a n. ended_at [])
+      (word_part (45 ∷ [])) (λ a n. ended_at_part []) (λ a u h. record { b = []; w = []; is = record { value = refl; text = refl } }) (λ a n xs w x h k. StopsAt-any (w ++ x)))
+    (λ xs u h. no_to xs u h) (λ xs u h. no_back xs u h)
+
+no_starts : (xs u : List ℕ) → Spelled No_options (λ x. 45 ∷ []) xs u → Starts 45 u
+no_starts xs u h = record { tail = []; text = h.text }
+
+some_differ_at : (xs : List ℕ) → Some_options xs → Differs 45 (options_word xs)
+some_differ_at [] h = elim h [ ]
+some_differ_at (first ∷ further) (options_from _ _ h k) =
+    let d = first_digit first (omega (arith, within_high 0 999 first h)) in
+    record { head = d.digit; tail = d.more ++ commas further; text = ap (λ (t : List ℕ). t ++ commas further) d.text; other = λ e. absurd (omega (arith, d.low, e)) }
+
+some_differ : (xs u : List ℕ) → Spelled Some_options options_word xs u → Differs 45 u
+some_differ xs u h = subst (Differs 45) (sym h.text) (some_differ_at xs h.is)
+
+-- options that ascend and are below 1,000
+pub record Options (xs : List ℕ) : Type 0 where
+  pub ascends : is_ascending xs ≡ true
+  pub below : list_all (λ option. nat_lt option 1000) xs ≡ true
+
+some_are_at : (xs : List ℕ) → Some_options xs → Options xs
+some_are_at [] h = elim h [ ]
+some_are_at (first ∷ further) (options_from _ _ h k) = record {
+  ascends = and-both (nat_le 0 first) (ascends_from (first + 1) further) (le-leb 0 first (omega arith)) k.ascends;
+  below = and-both (nat_lt first 1000) (list_all (λ option. nat_lt option 1000) further) (lt-ltb first 1000 (omega (arith, within_high 0 999 first h))) k.below;
+}
+
+options_to : (xs u : List ℕ) → Either (Spelled No_options (λ x. 45 ∷ [])) (Spelled Some_options options_word) xs u → Spelled Options options_word xs u
+options_to xs u (this h) = subst (λ (ys : List ℕ). Spelled Options options_word ys u) (sym h.is.is) (record { is = record { ascends = refl; below = refl }; text = h.text })
+options_to xs u (that h) = record { is = some_are_at xs h.is; text = h.text }
+
+options_back : (xs u : List ℕ) → Spelled Options options_word xs u → Either (Spelled No_options (λ x. 45 ∷ [])) (Spelled Some_options options_word) xs u
+options_back [] u h = this (record { is = record { is = refl }; text = h.text })
+options_back (first ∷ further) u h =
+    let low = and-left (nat_lt first 1000) (list_all (λ option. nat_lt option 1000) further) h.is.below in
+    that (record {
+      is = options_from first further (within 0 999 first (omega arith) (omega (arith, ltb-true first 1000 low)))
+        (record { ascends = and-right (nat_le 0 first) (ascends_from (first + 1) further) h.is.ascends; below = and-right (nat_lt first 1000) (list_all (λ option. nat_lt option 1000) further) h.is.below });
+      text = h.text;
+    })
+
+pub options_part : Part (Spelled Options options_word) none options_in
+unfolding options_in
+options_part = same_texts
+    (either_part 45 (Spelled No_options (λ x. 45 ∷ [])) (Spelled Some_options options_word) none no_options_in some_options_in no_options_part some_options_part
+      (λ xs u h. no_starts xs u h) (λ xs u h. some_differ xs u h)
+      (record { b = []; w = 45 ∷ []; is = record { is = record { is = refl }; text = refl } })
+      (record { b = 0 ∷ []; w = decimal 0 ++ []; is = record { is = options_from 0 [] refl (record { ascends = refl; below = refl }); text = refl } }))
+    (λ xs u h. options_to xs u h) (λ xs u h. options_back xs u h)
