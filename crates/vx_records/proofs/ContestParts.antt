@@ -275,3 +275,83 @@ contest_part place = same_texts
       (then_in (word_in (32 ∷ [])) (λ a n. then_in (λ s. followed_by 58 (number_in (Between place.least (most_contest place.room)) s)) (stated_in place)))
       (contest_both place))
     (λ m u h. contest_to place m u h) (λ m u h. contest_back place m u h)
+
+-- the contests of a sheet
+abbrev pub marks_text : List ContestMarks → List ℕ
+marks_text list = spaced (map marks_word list)
+
+pub record Listed (place : Room) (list : List ContestMarks) : Type 0 where
+  pub ascends : ascends_from place.least (contests_of list) ≡ true
+  pub marked : list_all is_marked list ≡ true
+  pub short : length (marks_text list) ≤ place.room
+
+abbrev pub Contest : Room → ContestMarks → List ℕ → Type 0
+Contest place = Spelled (Marks place) blank_marks
+
+contest_head : (place : Room) (m : ContestMarks) (u : List ℕ) → Contest place m u → Head (no_letter is_state_letter) u
+contest_head place m u h = record { head = 32; tail = marks_word m; text = h.text; is = refl }
+
+some_contest : (place : Room) → may place ≡ true → Some_text (Contest place)
+some_contest place e =
+    let room = leb-true 4 place.room (and-left (nat_le 4 place.room) (nat_le place.least (most_contest place.room)) e) in
+    let some = leb-true place.least (most_contest place.room) (and-right (nat_le 4 place.room) (nat_le place.least (most_contest place.room)) e) in
+    let one = some_marks place room some in
+    record { b = one.b; w = 32 ∷ one.w; is = contest_to place one.b (32 ∷ one.w) (record { may = e; is = record { a = done; u = 32 ∷ []; w = one.w; first = record { is = tt; text = refl }; second = one.is; text = refl } }) }
+
+contest_stops : (place : Room) → may place ≡ false → (s : List ℕ) → contest_in place s ≡ stop s
+unfolding contest_in
+contest_stops place e s = rw e refl
+
+contest_decided_at : (place : Room) (t : Bool) → may place ≡ t → Some_text (Contest place) ⊎ ((s : List ℕ) → contest_in place s ≡ stop s)
+contest_decided_at place true e = inl (some_contest place e)
+contest_decided_at place false e = inr (contest_stops place e)
+
+contests_of_items : (most : ℕ) (place : Room) → Part (Items Contest next_room most place) none (each_in contest_in next_room most place)
+contests_of_items most place = items_part Contest contest_in next_room (no_letter is_state_letter) contest_part contest_head (λ p. contest_decided_at p (may p) refl) most place
+
+marked_is : (m : ContestMarks) → m.contest < 500 → 1 ≤ length m.states → length m.states ≤ 150 → is_marked m ≡ true
+marked_is m a b c = and-both (nat_lt m.contest 500) (is_within 1 150 (length m.states)) (lt-ltb m.contest 500 a) (within 1 150 (length m.states) b c)
+
+items_to : (most : ℕ) (place : Room) (list : List ContestMarks) (u : List ℕ) → Items Contest next_room most place list u → Spelled (Listed place) marks_text list u
+items_to most place [] u no_more = record { is = record { ascends = refl; marked = refl; short = omega arith }; text = refl }
+items_to zero place (m ∷ list) u h = elim h [ ]
+items_to (suc most) place (m ∷ list) u (one_more v w h r) =
+    let rest = items_to most (next_room place m (length v)) list w r in
+    let size : length v ≡ length (blank_marks m) = ap (length {A = ℕ}) h.text in
+    record {
+      is = record {
+        ascends = and-both (nat_le place.least m.contest) (ascends_from (m.contest + 1) (contests_of list)) (le-leb place.least m.contest h.is.least) rest.is.ascends;
+        marked = and-both (is_marked m) (list_all is_marked list) (marked_is m h.is.small h.is.low h.is.high) rest.is.marked;
+        short = omega (arith, size, h.is.short, rest.is.short, length-append (blank_marks m) (marks_text list));
+      };
+      text = ap (λ (t : List ℕ). t ++ w) h.text ∙ ap (λ (t : List ℕ). blank_marks m ++ t) rest.text;
+    }
+
+items_back : (most : ℕ) (place : Room) (list : List ContestMarks) → 500 ≤ most + place.least → Listed place list → Items Contest next_room most place list (marks_text list)
+items_back most place [] enough h = no_more
+items_back zero place (m ∷ list) enough h =
+    let low = leb-true place.least m.contest (and-left (nat_le place.least m.contest) (ascends_from (m.contest + 1) (contests_of list)) h.ascends) in
+    let one = and-left (is_marked m) (list_all is_marked list) h.marked in
+    absurd (omega (arith, low, enough, ltb-true m.contest 500 (and-left (nat_lt m.contest 500) (is_within 1 150 (length m.states)) one)))
+items_back (suc most) place (m ∷ list) enough h =
+    let low = leb-true place.least m.contest (and-left (nat_le place.least m.contest) (ascends_from (m.contest + 1) (contests_of list)) h.ascends) in
+    let one = and-left (is_marked m) (list_all is_marked list) h.marked in
+    let states = and-right (nat_lt m.contest 500) (is_within 1 150 (length m.states)) one in
+    let size = length-append (blank_marks m) (marks_text list) in
+    let short = h.short in
+    let rest = items_back most (next_room place m (length (blank_marks m))) list (omega (arith, low, enough)) (record {
+      ascends = and-right (nat_le place.least m.contest) (ascends_from (m.contest + 1) (contests_of list)) h.ascends;
+      marked = and-right (is_marked m) (list_all is_marked list) h.marked;
+      short = omega (arith, size, short) }) in
+    one_more (blank_marks m) (marks_text list) (record {
+      is = record { least = low; small = ltb-true m.contest 500 (and-left (nat_lt m.contest 500) (is_within 1 150 (length m.states)) one); low = within_low 1 150 (length m.states) states; high = within_high 1 150 (length m.states) states; short = omega (arith, size, short) };
+      text = refl }) rest
+
+-- the contests that stand in so much room
+pub contests_part : (room : ℕ) → Part (Spelled (Listed (record { least = 0; room = room })) marks_text) none (each_in contest_in next_room 500 (record { least = 0; room = room }))
+contests_part room = same_texts (contests_of_items 500 (record { least = 0; room = room }))
+    (λ list u h. items_to 500 (record { least = 0; room = room }) list u h)
+    (λ list u h. subst (Items Contest next_room 500 (record { least = 0; room = room }) list) (sym h.text) (items_back 500 (record { least = 0; room = room }) list (omega arith) h.is))
+
+pub marks_stop : (room : ℕ) (list : List ContestMarks) → Listed (record { least = 0; room = room }) list → length (marks_text list) ≤ room
+marks_stop room list h = h.short

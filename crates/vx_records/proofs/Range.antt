@@ -112,13 +112,13 @@ module _ (least most : ℕ) (some : least ≤ most) (few : most < 1000000) where
     back = λ n m more small h k. back_at n m more (n == 0) refl small h k;
   }
 
-front_odd : (n : ℕ) → takes Fronts n ≡ true → n % 2 ≡ 1
+pub front_odd : (n : ℕ) → takes Fronts n ≡ true → n % 2 ≡ 1
 front_odd n h = eqb-true (n % 2) 1 (and-left (n % 2 == 1) (nat_lt n 64) h)
 
-front_few : (n : ℕ) → takes Fronts n ≡ true → n < 64
+pub front_few : (n : ℕ) → takes Fronts n ≡ true → n < 64
 front_few n h = ltb-true n 64 (and-right (n % 2 == 1) (nat_lt n 64) h)
 
-front_is : (n : ℕ) → n % 2 ≡ 1 → n < 64 → takes Fronts n ≡ true
+pub front_is : (n : ℕ) → n % 2 ≡ 1 → n < 64 → takes Fronts n ≡ true
 front_is n h k = and-both (n % 2 == 1) (nat_lt n 64) (eq-eqb (n % 2) 1 h) (lt-ltb n 64 k)
 
 fronts_small : (n : ℕ) → begins Fronts n ≡ true → n < 1000000
