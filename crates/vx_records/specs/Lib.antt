@@ -7,3 +7,4 @@ pub mod Reading
 pub mod Faults
 pub mod Stops
 pub mod Letters
+pub mod Laws

@@ -14,6 +14,7 @@ mod decisions;
 mod decoding;
 mod encoding;
 mod keys;
+mod laws;
 mod letters;
 mod numbers;
 mod options;
@@ -22,6 +23,7 @@ mod sheets;
 
 pub use decoding::{JournalFault, decode, header_digest};
 pub use encoding::{encode, header};
+pub use laws::{headers_are_read, records_are_read, refusals_are_small};
 
 #[cfg(test)]
 mod tests;
