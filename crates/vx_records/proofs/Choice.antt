@@ -22,8 +22,8 @@ differ_apart (b ∷ u) (c ∷ v) w x h e =
     let same : b ≡ c = cc (e) in
     let rest : u ++ w ≡ v ++ x = cc (e) in
     or-cases (not (b == c)) (differ u v) h (λ k. clash (eq-eqb b c same) (not-true (b == c) k)) (λ k. differ_apart u v w x k rest) where
-  clash : (b == c) ≡ true → (b == c) ≡ false → ⊥
-  clash x y = cc
+      clash : (b == c) ≡ true → (b == c) ≡ false → ⊥
+      clash x y = cc
 
 abbrev pub Among : {A : Type 0} → A → List A → Type 0
 Among a [] = ⊥
@@ -68,7 +68,7 @@ module _ {A : Type 0} (word : A → List ℕ) where
   whole_first : (left : ℕ) (v a : A) (more : List A) (w : List ℕ) → a ≡ v → choice_from left word (v ∷ more) (word a ++ w) ≡ found a w
   whole_first left v a more w e =
       let here : word_in (word v) (word a ++ w) ≡ found done w =
-        ap (λ (x : A). word_in (word v) (word x ++ w)) e ∙ (word_part (word v)).whole done (word v) w (record { is = tt; text = refl }) (StopsAt-any w) in
+      ap (λ (x : A). word_in (word v) (word x ++ w)) e ∙ (word_part (word v)).whole done (word v) w (record { is = tt; text = refl }) (StopsAt-any w) in
       picks left v more (word a ++ w) w here ∙ ap (λ (x : A). found x w) (sym e)
 
   whole_next : (left : ℕ) (v a : A) (more : List A) (w : List ℕ) → differ (word v) (word a) ≡ true → Tried v (word a ++ w) → ((left : ℕ) → choice_from left word more (word a ++ w) ≡ found a w) → choice_from left word (v ∷ more) (word a ++ w) ≡ found a w
@@ -80,7 +80,7 @@ module _ {A : Type 0} (word : A → List ℕ) where
   choice_whole left (v ∷ more) a w h (inl e) = whole_first left v a more w e
   choice_whole left (v ∷ more) a w h (inr k) =
       whole_next left v a more w (apart_of word v a more (and-left (list_all (λ x. differ (word v) (word x)) more) (all_apart word more) h) k) (tried v (word a ++ w))
-        (λ n. choice_whole n more a w (and-right (list_all (λ x. differ (word v) (word x)) more) (all_apart word more) h) k)
+      (λ n. choice_whole n more a w (and-right (list_all (λ x. differ (word v) (word x)) more) (all_apart word more) h) k)
 
   -- only a word is read
   record Reads (values : List A) (s : List ℕ) (a : A) (w : List ℕ) : Type 0 where
@@ -107,10 +107,12 @@ module _ {A : Type 0} (word : A → List ℕ) where
 
   known_min : (all : List A) (s : List ℕ) (n m : ℕ) → Known all s n → Known all s m → Known all s (min n m)
   known_min all s n m h k = elim (cases_lt n m) [
-      inl a ↦ subst (Known all s) (least_left a) h
-    | inr a ↦ subst (Known all s) (least_right a) k ] where
+    | inl a ↦ subst (Known all s) (least_left a) h
+    | inr a ↦ subst (Known all s) (least_right a) k
+  ] where
     least_left : n < m → n ≡ min n m
     least_left a = omega arith
+
     least_right : m ≤ n → m ≡ min n m
     least_right a = omega arith
 

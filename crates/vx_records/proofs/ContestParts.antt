@@ -126,25 +126,32 @@ most_6 room h = rw (ne_eqb room 4 (λ e. absurd (omega (arith, e)))) (rw (ne_eqb
 
 most_fits : (room n : ℕ) → 4 ≤ room → n ≤ most_contest room → length (decimal n) + 3 ≤ room
 most_fits room n h k = elim (cases_lt room 5) [
-    inl a ↦ short_4 (most_4 room (omega arith)) a
-  | inr a ↦ elim (cases_lt room 6) [ inl d ↦ short_5 (most_5 room (omega arith)) a | inr d ↦ short_6 (most_6 room d) d ] ] where
+  | inl a ↦ short_4 (most_4 room (omega arith)) a
+  | inr a ↦ elim (cases_lt room 6) [ inl d ↦ short_5 (most_5 room (omega arith)) a | inr d ↦ short_6 (most_6 room d) d ]
+] where
   short_4 : most_contest room ≡ 9 → room < 5 → length (decimal n) + 3 ≤ room
   short_4 e a = omega (arith, length-decimal-le 1 n (omega arith) (omega (arith, e, k)) (omega (arith, e, k)), h)
+
   short_5 : most_contest room ≡ 99 → 5 ≤ room → length (decimal n) + 3 ≤ room
   short_5 e a = omega (arith, length-decimal-le 2 n (omega arith) (omega (arith, e, k)) (omega (arith, e, k)), a)
+
   short_6 : most_contest room ≡ 499 → 6 ≤ room → length (decimal n) + 3 ≤ room
   short_6 e a = omega (arith, length-decimal-le 3 n (omega arith) (omega (arith, e, k)) (omega (arith, e, k)), a)
 
 fits_most : (room n : ℕ) → n < 500 → length (decimal n) + 3 ≤ room → n ≤ most_contest room
 fits_most room n small k = elim (cases_lt room 5) [
-    inl a ↦ elim (cases_lt n 10) [
-      inl d ↦ omega (arith, d, most_4 room (omega (arith, k, a, long_1 n (omega arith))))
-    | inr d ↦ absurd (omega (arith, k, a, long_2 n d (omega arith))) ]
+  | inl a ↦ elim (cases_lt n 10) [
+    | inl d ↦ omega (arith, d, most_4 room (omega (arith, k, a, long_1 n (omega arith))))
+    | inr d ↦ absurd (omega (arith, k, a, long_2 n d (omega arith)))
+  ]
   | inr a ↦ elim (cases_lt room 6) [
-      inl d ↦ elim (cases_lt n 100) [
-        inl e ↦ omega (arith, e, most_5 room (omega arith))
-      | inr e ↦ absurd (omega (arith, k, d, long_3 n e (omega arith))) ]
-    | inr d ↦ omega (arith, most_6 room d) ] ]
+    | inl d ↦ elim (cases_lt n 100) [
+      | inl e ↦ omega (arith, e, most_5 room (omega arith))
+      | inr e ↦ absurd (omega (arith, k, d, long_3 n e (omega arith)))
+    ]
+    | inr d ↦ omega (arith, most_6 room d)
+  ]
+]
 
 -- a contest from `least` on, behind a blank, in at most so many bytes
 pub record Marks (place : Room) (marks : ContestMarks) : Type 0 where
@@ -175,7 +182,7 @@ may place = nat_le 4 place.room && nat_le place.least (most_contest place.room)
 numbered_part : (place : Room) → place.least ≤ most_contest place.room → Part (Numbered place) any (λ s. followed_by 58 (number_in (Between place.least (most_contest place.room)) s))
 numbered_part place h =
     followed_part (λ n. is_within place.least (most_contest place.room) n ≡ true) decimal no_digit (number_in (Between place.least (most_contest place.room)))
-      (within_part place.least (most_contest place.room) h (omega (arith, most_small place.room))) 58 refl
+    (within_part place.least (most_contest place.room) h (omega (arith, most_small place.room))) 58 refl
 
 stated_in : Room → ℕ → ℕ → List ℕ → Read ContestMarks
 stated_in place contest n = map_in (made_marks contest) (states_in (place.room - 1 - n))
@@ -197,7 +204,7 @@ some_stated place n u h k =
 marks_part : (place : Room) → 4 ≤ place.room → place.least ≤ most_contest place.room → Part (Both (Numbered place) (Stated place)) (no_letter is_state_letter) (then_in (λ s. followed_by 58 (number_in (Between place.least (most_contest place.room)) s)) (stated_in place))
 marks_part place room h =
     then_part (Numbered place) any (λ s. followed_by 58 (number_in (Between place.least (most_contest place.room)) s)) (Stated place) (no_letter is_state_letter) (stated_in place)
-      (numbered_part place h) (stated_part place) (λ n u k. some_stated place n u room k) (λ n m marks w x k j. StopsAt-any (w ++ x))
+    (numbered_part place h) (stated_part place) (λ n u k. some_stated place n u room k) (λ n m marks w x k j. StopsAt-any (w ++ x))
 
 some_numbered : (place : Room) → place.least ≤ most_contest place.room → Some_text (Numbered place)
 some_numbered place h = record { b = place.least; w = decimal place.least ++ 58 ∷ []; is = record { is = within place.least (most_contest place.room) place.least (omega arith) h; text = refl } }
@@ -213,8 +220,8 @@ contest_both place e =
     let room = leb-true 4 place.room (and-left (nat_le 4 place.room) (nat_le place.least (most_contest place.room)) e) in
     let some = leb-true place.least (most_contest place.room) (and-right (nat_le 4 place.room) (nat_le place.least (most_contest place.room)) e) in
     then_part (Word (32 ∷ [])) any (word_in (32 ∷ [])) (Behind_blank place) (no_letter is_state_letter)
-      (λ a n. then_in (λ s. followed_by 58 (number_in (Between place.least (most_contest place.room)) s)) (stated_in place))
-      (word_part (32 ∷ [])) (λ a n. marks_part place room some) (λ a u h. some_marks place room some) (λ a n marks w x h k. StopsAt-any (w ++ x))
+    (λ a n. then_in (λ s. followed_by 58 (number_in (Between place.least (most_contest place.room)) s)) (stated_in place))
+    (word_part (32 ∷ [])) (λ a n. marks_part place room some) (λ a u h. some_marks place room some) (λ a n marks w x h k. StopsAt-any (w ++ x))
 
 abbrev Guarded_contest : Room → ContestMarks → List ℕ → Type 0
 Guarded_contest place = Guarded (may place) (Both (Word (32 ∷ [])) (Behind_blank place))
@@ -225,7 +232,10 @@ contest_to_at place n u states room k h =
     let low = within_low place.least (most_contest place.room) n k.is in
     let high = within_high place.least (most_contest place.room) n k.is in
     record {
-      least = low; small = omega (arith, high, most_small place.room); low = h.low; high = omega (arith, h.high);
+      least = low;
+      small = omega (arith, high, most_small place.room);
+      low = h.low;
+      high = omega (arith, h.high);
       short = omega (arith, h.high, size.0, size.1, length-append (decimal n) (58 ∷ map state_letter states), map_length state_letter states);
     }
 
@@ -256,10 +266,14 @@ contest_back place marks u h =
     record {
       may = and-both (nat_le 4 place.room) (nat_le place.least (most_contest place.room)) (le-leb 4 place.room room) (le-leb place.least (most_contest place.room) some);
       is = record {
-        a = done; u = 32 ∷ []; w = (decimal n ++ 58 ∷ []) ++ letters;
+        a = done;
+        u = 32 ∷ [];
+        w = (decimal n ++ 58 ∷ []) ++ letters;
         first = record { is = tt; text = refl };
         second = record {
-          a = n; u = decimal n ++ 58 ∷ []; w = letters;
+          a = n;
+          u = decimal n ++ 58 ∷ [];
+          w = letters;
           first = record { is = within place.least (most_contest place.room) n h.is.least most; text = refl };
           second = record { a = marks.states; is = record { is = record { low = h.is.low; high = omega (arith, short, size, count, number, h.is.high) }; text = refl }; value = refl };
           text = refl;
@@ -272,8 +286,8 @@ pub contest_part : (place : Room) → Part (Spelled (Marks place) blank_marks) (
 unfolding contest_in stated_in
 contest_part place = same_texts
     (guarded_part (may place) (Both (Word (32 ∷ [])) (Behind_blank place)) (no_letter is_state_letter)
-      (then_in (word_in (32 ∷ [])) (λ a n. then_in (λ s. followed_by 58 (number_in (Between place.least (most_contest place.room)) s)) (stated_in place)))
-      (contest_both place))
+    (then_in (word_in (32 ∷ [])) (λ a n. then_in (λ s. followed_by 58 (number_in (Between place.least (most_contest place.room)) s)) (stated_in place)))
+    (contest_both place))
     (λ m u h. contest_to place m u h) (λ m u h. contest_back place m u h)
 
 -- the contests of a sheet
@@ -342,10 +356,12 @@ items_back (suc most) place (m ∷ list) enough h =
     let rest = items_back most (next_room place m (length (blank_marks m))) list (omega (arith, low, enough)) (record {
       ascends = and-right (nat_le place.least m.contest) (ascends_from (m.contest + 1) (contests_of list)) h.ascends;
       marked = and-right (is_marked m) (list_all is_marked list) h.marked;
-      short = omega (arith, size, short) }) in
+      short = omega (arith, size, short);
+    }) in
     one_more (blank_marks m) (marks_text list) (record {
       is = record { least = low; small = ltb-true m.contest 500 (and-left (nat_lt m.contest 500) (is_within 1 150 (length m.states)) one); low = within_low 1 150 (length m.states) states; high = within_high 1 150 (length m.states) states; short = omega (arith, size, short) };
-      text = refl }) rest
+      text = refl;
+    }) rest
 
 -- the contests that stand in so much room
 pub contests_part : (room : ℕ) → Part (Spelled (Listed (record { least = 0; room = room })) marks_text) none (each_in contest_in next_room 500 (record { least = 0; room = room }))

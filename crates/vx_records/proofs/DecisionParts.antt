@@ -66,8 +66,12 @@ module _ {A B : Type 0} (word : List ℕ) (held : A → Type 0) (spell : A → L
 
   pub word_back : (a : A) → held a → Both (Word word) (λ x n. Mapped f (Spelled held spell)) (f a) (word ++ spell a)
   word_back a h = record {
-    a = done; u = word; w = spell a; first = record { is = tt; text = refl };
-    second = record { a = a; is = record { is = h; text = refl }; value = refl }; text = refl;
+    a = done;
+    u = word;
+    w = spell a;
+    first = record { is = tt; text = refl };
+    second = record { a = a; is = record { is = h; text = refl }; value = refl };
+    text = refl;
   }
 
 some_options : Some_text (Spelled Options options_word)
@@ -80,7 +84,7 @@ select_both = behind_word blank Options options_word options_in options_part som
 select_to : (d : Decision) (u : List ℕ) → Both (Word blank) (λ a n. Mapped Selections (Spelled Options options_word)) d u → Spelled (Ruled Select) decision_text d u
 select_to d u h =
     subst (λ (e : Decision). Spelled (Ruled Select) decision_text e u) (sym h.second.value)
-      (record { is = selects h.second.is.is; text = word_text blank Options options_word options_in options_part some_options Selections d u h })
+    (record { is = selects h.second.is.is; text = word_text blank Options options_word options_in options_part some_options Selections d u h })
 
 select_back : (d : Decision) (u : List ℕ) → Spelled (Ruled Select) decision_text d u → Both (Word blank) (λ a n. Mapped Selections (Spelled Options options_word)) d u
 select_back d u h = select_back_at d u h.is h.text where
@@ -123,7 +127,8 @@ text_starts name u h = record { tail = codes "ext " ++ h.second.a; text = word_t
 
 candidate_differs : (name : WriteInName) (u : List ℕ) → Candidate_name name u → Differs 116 u
 candidate_differs name u h = record {
-  head = 99; tail = codes "andidate " ++ decimal h.second.a;
+  head = 99;
+  tail = codes "andidate " ++ decimal h.second.a;
   text = word_text (codes "candidate ") (λ n. is_within 0 999 n ≡ true) decimal (λ s. ended (number_in (Between 0 999) s)) last_number_part (some_within 0 999 (omega arith)) Candidate name u h;
   other = λ e. absurd (omega (arith, e));
 }
@@ -131,10 +136,10 @@ candidate_differs name u h = record {
 written_to : (name : WriteInName) (u : List ℕ) → Either Text_name Candidate_name name u → Spelled Named name_text name u
 written_to name u (this h) =
     subst (λ (n : WriteInName). Spelled Named name_text n u) (sym h.second.value)
-      (record { is = by_words h.second.is.is; text = word_text (codes "text ") AreWords (λ words. words) words_in words_part some_words Words name u h })
+    (record { is = by_words h.second.is.is; text = word_text (codes "text ") AreWords (λ words. words) words_in words_part some_words Words name u h })
 written_to name u (that h) =
     subst (λ (n : WriteInName). Spelled Named name_text n u) (sym h.second.value)
-      (record { is = by_number h.second.is.is; text = word_text (codes "candidate ") (λ n. is_within 0 999 n ≡ true) decimal (λ s. ended (number_in (Between 0 999) s)) last_number_part (some_within 0 999 (omega arith)) Candidate name u h })
+    (record { is = by_number h.second.is.is; text = word_text (codes "candidate ") (λ n. is_within 0 999 n ≡ true) decimal (λ s. ended (number_in (Between 0 999) s)) last_number_part (some_within 0 999 (omega arith)) Candidate name u h })
 
 written_back_at : (name : WriteInName) → Named name → Either Text_name Candidate_name name (name_text name)
 written_back_at (Words words) (by_words h) = this (word_back (codes "text ") AreWords (λ words. words) words_in words_part some_words Words words h)
@@ -144,8 +149,8 @@ written_part : Part (Spelled Named name_text) none written_in
 unfolding written_in some_words
 written_part = same_texts
     (either_part 116 Text_name Candidate_name none text_name_in candidate_in text_name_part candidate_part (λ n u h. text_starts n u h) (λ n u h. candidate_differs n u h)
-      (record { b = Words (65 ∷ []); w = codes "text " ++ 65 ∷ []; is = word_back (codes "text ") AreWords (λ words. words) words_in words_part some_words Words (65 ∷ []) some_words.is.is })
-      (record { b = Candidate 0; w = codes "candidate " ++ decimal 0; is = word_back (codes "candidate ") (λ n. is_within 0 999 n ≡ true) decimal (λ s. ended (number_in (Between 0 999) s)) last_number_part (some_within 0 999 (omega arith)) Candidate 0 refl }))
+    (record { b = Words (65 ∷ []); w = codes "text " ++ 65 ∷ []; is = word_back (codes "text ") AreWords (λ words. words) words_in words_part some_words Words (65 ∷ []) some_words.is.is })
+    (record { b = Candidate 0; w = codes "candidate " ++ decimal 0; is = word_back (codes "candidate ") (λ n. is_within 0 999 n ≡ true) decimal (λ s. ended (number_in (Between 0 999) s)) last_number_part (some_within 0 999 (omega arith)) Candidate 0 refl }))
     (λ n u h. written_to n u h) (λ n u h. subst (Either Text_name Candidate_name n) (sym h.text) (written_back_at n h.is))
 
 some_written : Some_text (Spelled Named name_text)
@@ -179,7 +184,7 @@ name_to d u h =
     subst (λ (e : Decision). Spelled (Ruled Name) decision_text e u) (sym both.second.value) (record {
       is = names both.first.is both.second.is.is;
       text = h.text ∙ ap (λ (t : List ℕ). t ++ h.w) h.first.text ∙ ap (λ (t : List ℕ). 32 ∷ t)
-        (both.text ∙ ap (λ (t : List ℕ). t ++ both.w) both.first.text ∙ ap (λ (t : List ℕ). (decimal both.a ++ 32 ∷ []) ++ t) both.second.is.text);
+          (both.text ∙ ap (λ (t : List ℕ). t ++ both.w) both.first.text ∙ ap (λ (t : List ℕ). (decimal both.a ++ 32 ∷ []) ++ t) both.second.is.text);
     })
 
 name_back_at : (d : Decision) → Ruled Name d → Both (Word blank) Behind_name d (decision_text d)
@@ -187,10 +192,17 @@ name_back_at (Selections options) h = elim h [ ]
 name_back_at RuledOvervote h = elim h [ ]
 name_back_at AcceptRead h = elim h [ ]
 name_back_at (NameWriteIn slot name) (names h k) = record {
-  a = done; u = blank; w = (decimal slot ++ 32 ∷ []) ++ name_text name; first = record { is = tt; text = refl };
+  a = done;
+  u = blank;
+  w = (decimal slot ++ 32 ∷ []) ++ name_text name;
+  first = record { is = tt; text = refl };
   second = record {
-    a = slot; u = decimal slot ++ 32 ∷ []; w = name_text name; first = record { is = h; text = refl };
-    second = record { a = name; is = record { is = k; text = refl }; value = refl }; text = refl;
+    a = slot;
+    u = decimal slot ++ 32 ∷ [];
+    w = name_text name;
+    first = record { is = h; text = refl };
+    second = record { a = name; is = record { is = k; text = refl }; value = refl };
+    text = refl;
   };
   text = refl;
 }
@@ -260,7 +272,7 @@ stationed_in ruling station n = then_in (λ s. followed_by 32 (key_in s)) (keyed
 contested_ending : (ruling : Ruling) (station : ℕ) (key : Key) (contest n : ℕ) (e : Event) (w x : List ℕ) → Contested ruling station key contest n e w → StopsAt none x → StopsAt no_digit (w ++ x)
 contested_ending ruling station key contest n e w x h k =
     subst (λ (t : List ℕ). StopsAt no_digit (w ++ t)) (sym (StopsAt-none x k))
-      (subst (StopsAt no_digit) (sym (append-nil w)) (subst (StopsAt no_digit) (sym h.is.text) (decision_stops h.a)))
+    (subst (StopsAt no_digit) (sym (append-nil w)) (subst (StopsAt no_digit) (sym h.is.text) (decision_stops h.a)))
 
 keyed_part : (ruling : Ruling) (station : ℕ) (key : Key) (n : ℕ) → Part (Keyed ruling station key n) none (keyed_in ruling station key n)
 keyed_part ruling station key n = then_part (Within 0 499) no_digit (number_in (Between 0 499)) (Contested ruling station key) none (contested_in ruling station key)

@@ -94,8 +94,10 @@ reaches_same limit n m h e = record { more = 0; few = h; low = omega arith; high
 
 reaches_more : (limit n m : ℕ) → Reaches limit n (m / 10) → Reaches (suc limit) n m
 reaches_more limit n m h = record {
-  more = suc h.more; few = omega (arith, h.few);
-  low = omega (arith, h.low); high = omega (arith, h.high);
+  more = suc h.more;
+  few = omega (arith, h.few);
+  low = omega (arith, h.low);
+  high = omega (arith, h.high);
 }
 
 one_digit : (n m : ℕ) (more : List ℕ) → n < 2 ^ 64 → m < 10 → decimal m ≡ decimal n ++ more → m ≡ n
@@ -113,7 +115,7 @@ reaches_step limit n m [] small fits big e next = reaches_same (suc (suc limit))
 reaches_step limit n m (b ∷ more) small fits big e next =
     let h = snoc b more in
     let parted : decimal (m / 10) ++ ((48 + m % 10) ∷ []) ≡ (decimal n ++ h.front) ++ (h.last ∷ []) =
-      sym (decimal_step m big fits) ∙ e ∙ ap (λ (t : List ℕ). decimal n ++ t) h.text ∙ sym (append_assoc (decimal n) h.front (h.last ∷ [])) in
+    sym (decimal_step m big fits) ∙ e ∙ ap (λ (t : List ℕ). decimal n ++ t) h.text ∙ sym (append_assoc (decimal n) h.front (h.last ∷ [])) in
     reaches_more (suc limit) n m (next h.front (snoc_front (decimal (m / 10)) (decimal n ++ h.front) (48 + m % 10) h.last parted))
 
 -- a number that begins with the digits of n lies in such a range
@@ -121,8 +123,9 @@ pub reaches_from : (limit n m : ℕ) (more : List ℕ) → n < 2 ^ 64 → m < te
 unfolding tens
 reaches_from zero n m more small few fits e = reaches_same 1 n m (omega arith) (one_digit n m more small (omega arith) e)
 reaches_from (suc limit) n m more small few fits e = elim (cases_lt m 10) [
-    inl h ↦ reaches_same (suc (suc limit)) n m (omega arith) (one_digit n m more small h e)
-  | inr h ↦ reaches_step limit n m more small fits h e (λ rest k. reaches_from limit n (m / 10) rest small (omega (arith, few)) (omega arith) k) ]
+  | inl h ↦ reaches_same (suc (suc limit)) n m (omega arith) (one_digit n m more small h e)
+  | inr h ↦ reaches_step limit n m more small fits h e (λ rest k. reaches_from limit n (m / 10) rest small (omega (arith, few)) (omega arith) k)
+]
 
 -- std's own words for digits and their value
 own : IsNumeralModel (AllDigits 10) (digits_value 10)

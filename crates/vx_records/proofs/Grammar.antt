@@ -146,9 +146,13 @@ module _ {A B : Type 0} (P : A → List ℕ → Type 0) (ends : ℕ → Bool) (p
       let one = part.begun s left e h.a h.u h.first in
       let two = goes one.value (one.front ++ one.more) one.is in
       record {
-        front = one.front; rest = one.rest; more = one.more ++ two.w; value = two.b;
+        front = one.front;
+        rest = one.rest;
+        more = one.more ++ two.w;
+        value = two.b;
         is = record { a = one.value; u = one.front ++ one.more; w = two.w; first = one.is; second = two.is; text = sym (append_assoc one.front one.more two.w) };
-        text = one.text; left_is = one.left_is;
+        text = one.text;
+        left_is = one.left_is;
       }
 
   begun_next : (s : List ℕ) (left : ℕ) (x : Found A) → p s ≡ Ok x → q x.value (length s - length x.rest) x.rest ≡ Err left → Begins (Both P Q) s left
@@ -159,7 +163,10 @@ module _ {A B : Type 0} (P : A → List ℕ → Type 0) (ends : ℕ → Bool) (p
       let some = goes x.value one.u one.is in
       let two = (next x.value (length one.u)).begun x.rest left k' some.b some.w some.is in
       record {
-        front = one.u ++ two.front; rest = two.rest; more = two.more; value = two.value;
+        front = one.u ++ two.front;
+        rest = two.rest;
+        more = two.more;
+        value = two.value;
         is = record { a = x.value; u = one.u; w = two.front ++ two.more; first = one.is; second = two.is; text = append_assoc one.u two.front two.more };
         text = one.text ∙ ap (λ (t : List ℕ). one.u ++ t) two.text ∙ sym (append_assoc one.u two.front two.rest);
         left_is = two.left_is;
@@ -189,7 +196,7 @@ module _ {A B : Type 0} (P : A → List ℕ → Type 0) (ends : ℕ → Bool) (p
       let same : h.a ≡ x.value = found_value its mine in
       let same_rest : h.w ≡ c ∷ (f ++ more) = found_rest its mine in
       let size : length h.u ≡ length one.u =
-        omega (arith, ap (length {A = ℕ}) h.text, ap (length {A = ℕ}) whole_text, ap (length {A = ℕ}) same_rest, length-append h.u h.w, length-append one.u (c ∷ (f ++ more))) in
+      omega (arith, ap (length {A = ℕ}) h.text, ap (length {A = ℕ}) whole_text, ap (length {A = ℕ}) same_rest, length-append h.u h.w, length-append one.u (c ∷ (f ++ more))) in
       let second : Q x.value (length h.u) b h.w = subst (λ (y : A). Q y (length h.u) b h.w) same h.second in
       let second' : Q x.value (length one.u) b h.w = subst (λ (i : ℕ). Q x.value i b h.w) size second in
       let second'' : Q x.value (length one.u) b ((c ∷ f) ++ more) = subst (Q x.value (length one.u) b) same_rest second' in

@@ -86,15 +86,15 @@ hex_low : (c : ℕ) → 48 ≤ c → c ≤ 57 → HexDigit c
 hex_low c h j =
     let v : hex_value c ≡ c - 48 = value_low c j in
     record { small = omega (arith, v); back = ap (slice_index lower_digits) v ∙ digit_below_10 (c - 48) (omega arith) ∙ same c h } where
-  same : (c : ℕ) → 48 ≤ c → 48 + (c - 48) ≡ c
-  same c h = omega arith
+      same : (c : ℕ) → 48 ≤ c → 48 + (c - 48) ≡ c
+      same c h = omega arith
 
 hex_high : (c : ℕ) → 97 ≤ c → c ≤ 102 → HexDigit c
 hex_high c h j =
     let v : hex_value c ≡ c - 87 = value_high c (omega arith) in
     record { small = omega (arith, v); back = ap (slice_index lower_digits) v ∙ digit_from_10 (c - 87) (omega arith) (omega arith) ∙ same c h } where
-  same : (c : ℕ) → 97 ≤ c → 87 + (c - 87) ≡ c
-  same c h = omega arith
+      same : (c : ℕ) → 97 ≤ c → 87 + (c - 87) ≡ c
+      same c h = omega arith
 
 hex_digit : (c : ℕ) → is_hex c ≡ true → HexDigit c
 hex_digit c h = or-cases (is_within 48 57 c) (is_within 97 102 c) h
@@ -110,10 +110,12 @@ digit_hex_at k d e h j = record { is = ap is_hex e ∙ h; value = ap hex_value e
 
 digit_hex : (k : ℕ) → k < 16 → DigitHex k
 digit_hex k h = elim (cases_lt k 10) [
-    inl a ↦ digit_hex_at k (48 + k) (digit_below_10 k a) (or-left (is_within 48 57 (48 + k)) (is_within 97 102 (48 + k)) (within 48 57 (48 + k) (omega arith) (omega arith))) (value_low (48 + k) (omega arith) ∙ low_back k)
-  | inr a ↦ digit_hex_at k (87 + k) (digit_from_10 k a h) (or-right (is_within 48 57 (87 + k)) (is_within 97 102 (87 + k)) (within 97 102 (87 + k) (omega arith) (omega arith))) (value_high (87 + k) (omega arith) ∙ high_back k) ] where
+  | inl a ↦ digit_hex_at k (48 + k) (digit_below_10 k a) (or-left (is_within 48 57 (48 + k)) (is_within 97 102 (48 + k)) (within 48 57 (48 + k) (omega arith) (omega arith))) (value_low (48 + k) (omega arith) ∙ low_back k)
+  | inr a ↦ digit_hex_at k (87 + k) (digit_from_10 k a h) (or-right (is_within 48 57 (87 + k)) (is_within 97 102 (87 + k)) (within 97 102 (87 + k) (omega arith) (omega arith))) (value_high (87 + k) (omega arith) ∙ high_back k)
+] where
   low_back : (k : ℕ) → (48 + k) - 48 ≡ k
   low_back k = omega arith
+
   high_back : (k : ℕ) → (87 + k) - 87 ≡ k
   high_back k = omega arith
 
@@ -179,10 +181,11 @@ text_of (b ∷ digest) h =
       letters = and-both (is_hex high) (is_hex low && list_all is_hex (encode_lower digest)) one.is (and-both (is_hex low) (list_all is_hex (encode_lower digest)) two.is rest.letters);
       size = size_at b digest (length (encode_lower digest)) rest.size;
     } where
-  byte_back : (b h l : ℕ) → h ≡ b / 16 → l ≡ b % 16 → h * 16 + l ≡ b
-  byte_back b h l e f = omega (arith, e, f)
-  size_at : (b : ℕ) (digest : List ℕ) (n : ℕ) → n ≡ 2 * length digest → suc (suc n) ≡ 2 * length (b ∷ digest)
-  size_at b digest n e = omega (arith, e)
+      byte_back : (b h l : ℕ) → h ≡ b / 16 → l ≡ b % 16 → h * 16 + l ≡ b
+      byte_back b h l e f = omega (arith, e, f)
+
+      size_at : (b : ℕ) (digest : List ℕ) (n : ℕ) → n ≡ 2 * length digest → suc (suc n) ≡ 2 * length (b ∷ digest)
+      size_at b digest n e = omega (arith, e)
 
 -- 64 digits of 32 bytes, to the end of the text
 hex_ended : Part (Spelled (AreLetters is_hex 64 64) (λ x. x)) none (λ s. ended (letters_in is_hex 64 64 s))
@@ -198,6 +201,7 @@ sixteen_fours : Some_text (Spelled (AreLetters is_hex 64 64) (λ x. x))
 sixteen_fours = record { b = zeros; w = zeros; is = record { is = record { letters = refl; low = omega arith; high = omega arith }; text = refl } } where
   eight : List ℕ → List ℕ
   eight rest = 48 ∷ 48 ∷ 48 ∷ 48 ∷ 48 ∷ 48 ∷ 48 ∷ 48 ∷ rest
+
   zeros : List ℕ
   zeros = eight (eight (eight (eight (eight (eight (eight (eight [])))))))
 
@@ -224,7 +228,9 @@ header_back : (digest u : List ℕ) → Spelled IsDigest header_text digest u �
 header_back digest u h =
     let t = text_of digest h.is.bytes in
     record {
-      a = done; u = header_word; w = encode_lower digest;
+      a = done;
+      u = header_word;
+      w = encode_lower digest;
       first = record { is = tt; text = refl };
       second = record {
         a = encode_lower digest;

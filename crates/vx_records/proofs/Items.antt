@@ -103,7 +103,8 @@ module _ {K X : Type 0} (Item : K → X → List ℕ → Type 0) (item : K → L
 
   more_decided : (most : ℕ) (k : K) → Some_text (Item k) ⊎ ((s : List ℕ) → item k s ≡ stop s) → Some_text (More most k) ⊎ ((s : List ℕ) → more_in most k s ≡ stop s)
   more_decided most k (inl h) = inl (record {
-    b = h.b ∷ []; w = h.w ++ [];
+    b = h.b ∷ [];
+    w = h.w ++ [];
     is = record { a = h.b; u = h.w; w = []; first = h.is; second = record { a = []; is = no_more; value = refl }; text = refl };
   })
   more_decided most k (inr h) = inr (λ s. ap (λ (r : Read X). r >>= λ x. map_in (λ (xs : List X). x.value ∷ xs) (each_in item next most (next k x.value (length s - length x.rest))) x.rest) (h s))
@@ -129,12 +130,17 @@ module _ {K X : Type 0} (Item : K → X → List ℕ → Type 0) (item : K → L
   more_to most k xs u (nothing e t) = subst (λ (ys : List X). Items Item next (suc most) k ys u) (sym e) (subst (Items Item next (suc most) k []) (sym t) no_more)
   more_to most k xs u (something h) =
       subst (λ (ys : List X). Items Item next (suc most) k ys u) (sym h.second.value)
-        (subst (Items Item next (suc most) k (h.a ∷ h.second.a)) (sym h.text) (one_more h.u h.w h.first h.second.is))
+      (subst (Items Item next (suc most) k (h.a ∷ h.second.a)) (sym h.text) (one_more h.u h.w h.first h.second.is))
 
   more_back : (most : ℕ) (k : K) (xs : List X) (u : List ℕ) → Items Item next (suc most) k xs u → Perhaps [] (More most k) xs u
   more_back most k [] u no_more = nothing refl refl
   more_back most k (x ∷ xs) u (one_more v w h r) = something (record {
-    a = x; u = v; w = w; first = h; second = record { a = xs; is = r; value = refl }; text = refl;
+    a = x;
+    u = v;
+    w = w;
+    first = h;
+    second = record { a = xs; is = r; value = refl };
+    text = refl;
   })
 
   -- items to the end of the text
@@ -142,10 +148,10 @@ module _ {K X : Type 0} (Item : K → X → List ℕ → Type 0) (item : K → L
   items_part zero k = same_texts (same_reader (ended_at_part []) (none_left k)) (λ xs u h. none_to k xs u h) (λ xs u h. none_back k xs u h)
   items_part (suc most) k =
       let both : Part (More most k) none (more_in most k) =
-        then_part (Item k) ends (item k) (λ x n. Mapped (λ (xs : List X). x ∷ xs) (Items Item next most (next k x n))) none
-          (λ x n. map_in (λ (xs : List X). x ∷ xs) (each_in item next most (next k x n))) (part k)
-          (λ x n. map_part (λ (xs : List X). x ∷ xs) (items_part most (next k x n)))
-          (λ x u h. record { b = x ∷ []; w = []; is = record { a = []; is = no_more; value = refl } })
-          (λ x n xs w y h j. ending most k x n xs w y h j) in
+      then_part (Item k) ends (item k) (λ x n. Mapped (λ (xs : List X). x ∷ xs) (Items Item next most (next k x n))) none
+      (λ x n. map_in (λ (xs : List X). x ∷ xs) (each_in item next most (next k x n))) (part k)
+      (λ x n. map_part (λ (xs : List X). x ∷ xs) (items_part most (next k x n)))
+      (λ x u h. record { b = x ∷ []; w = []; is = record { a = []; is = no_more; value = refl } })
+      (λ x n xs w y h j. ending most k x n xs w y h j) in
       same_texts (same_reader (perhaps_part [] (More most k) (more_in most k) both (λ xs u h. more_head most k xs u h) (more_decided most k (decided k))) (one_left most k))
-        (λ xs u h. more_to most k xs u h) (λ xs u h. more_back most k xs u h)
+      (λ xs u h. more_to most k xs u h) (λ xs u h. more_back most k xs u h)

@@ -83,7 +83,9 @@ key_to k u h =
 
 key_back : (k : Key) (u : List ℕ) → IsKey k u → Both Batch Numbered k u
 key_back k u h = record {
-  a = k.batch; u = k.batch ++ 32 ∷ []; w = decimal k.number;
+  a = k.batch;
+  u = k.batch ++ 32 ∷ [];
+  w = decimal k.number;
   first = record { is = and-left (is_batch k.batch) (is_within 1 999999 k.number) h.is; text = refl };
   second = record { a = k.number; is = record { is = and-right (is_batch k.batch) (is_within 1 999999 k.number) h.is; text = refl }; value = refl };
   text = h.text;
@@ -93,9 +95,9 @@ pub key_part : Part IsKey no_digit key_in
 unfolding key_in
 key_part = same_texts
     (then_part Batch any batch_in Numbered no_digit (λ batch n. map_in (made_key batch) (number_in (Between 1 999999)))
-      batch_part (λ batch n. map_part (made_key batch) (within_part 1 999999 (omega arith) (omega arith)))
-      (λ batch u h. some_mapped (made_key batch) (some_within 1 999999 (omega arith)))
-      (λ batch n k w x h j. StopsAt-any (w ++ x)))
+    batch_part (λ batch n. map_part (made_key batch) (within_part 1 999999 (omega arith) (omega arith)))
+    (λ batch u h. some_mapped (made_key batch) (some_within 1 999999 (omega arith)))
+    (λ batch n k w x h j. StopsAt-any (w ++ x)))
     (λ k u h. key_to k u h) (λ k u h. key_back k u h)
 
 pub some_key : Some_text IsKey
@@ -133,7 +135,9 @@ claim_to x u h =
 
 claim_back : (x : ℕ × Key) (u : List ℕ) → Spelled Claims claim_text x u → Both Station Claimed x u
 claim_back x u h = record {
-  a = x.0; u = decimal x.0 ++ 32 ∷ []; w = key_text x.1;
+  a = x.0;
+  u = decimal x.0 ++ 32 ∷ [];
+  w = key_text x.1;
   first = record { is = h.is.station; text = refl };
   second = record { a = x.1; is = record { is = h.is.key; text = refl }; value = refl };
   text = h.text;
@@ -143,9 +147,9 @@ pub claim_part : Part (Spelled Claims claim_text) none claim_in
 unfolding claim_in
 claim_part = same_texts
     (then_part Station any station_in Claimed none (λ station n. map_in (made_claim station) (λ s. ended (key_in s)))
-      station_part (λ station n. map_part (made_claim station) (ended_part (λ key. is_key key ≡ true) key_text no_digit key_in key_part))
-      (λ station u h. some_mapped (made_claim station) some_key)
-      (λ station n k w x h j. StopsAt-any (w ++ x)))
+    station_part (λ station n. map_part (made_claim station) (ended_part (λ key. is_key key ≡ true) key_text no_digit key_in key_part))
+    (λ station u h. some_mapped (made_claim station) some_key)
+    (λ station n k w x h j. StopsAt-any (w ++ x)))
     (λ x u h. claim_to x u h) (λ x u h. claim_back x u h)
 
 pub some_claim : Some_text (Spelled Claims claim_text)

@@ -100,9 +100,9 @@ digits_break numbers n b text rest e h k =
     ∙ ap (λ (t : Bool). cond (nat_lt 0 n && t) (digits_in numbers (10 * n + (b - 48)) rest) (stop (b ∷ rest))) k
     ∙ no_way (nat_lt 0 n)
     ∙ ap (λ (t : List ℕ). Err (length t)) (sym e) where
-  no_way : (t : Bool) → cond (t && false) (digits_in numbers (10 * n + (b - 48)) rest) (stop (b ∷ rest)) ≡ stop (b ∷ rest)
-  no_way true = refl
-  no_way false = refl
+      no_way : (t : Bool) → cond (t && false) (digits_in numbers (10 * n + (b - 48)) rest) (stop (b ∷ rest)) ≡ stop (b ∷ rest)
+      no_way true = refl
+      no_way false = refl
 
 pub digits_go : (numbers : Numbers) (n b : ℕ) (text rest : List ℕ) → text ≡ b ∷ rest → is_digit b ≡ true → 0 < n → begins numbers (10 * n + (b - 48)) ≡ true → digits_in numbers n text ≡ digits_in numbers (10 * n + (b - 48)) rest
 digits_go numbers n b text rest e h j k =
@@ -305,4 +305,4 @@ pub states_stops : (n room left : ℕ) (text : List ℕ) → n ≡ min room 150 
 unfolding states_in
 states_stops n room left text e h =
     ap (λ (r : Read (List ℕ)). r >>= λ letters. found (map state_of letters.value) letters.rest)
-      (ap (λ (k : ℕ). letters_in is_state_letter 1 k text) (sym e) ∙ h)
+    (ap (λ (k : ℕ). letters_in is_state_letter 1 k text) (sym e) ∙ h)

@@ -97,14 +97,17 @@ module _ (numbers : Numbers) (good : Good numbers) where
   whole_end n m [] e h k = end_at (last numbers n) where
     taken : takes numbers n ≡ true
     taken = subst (λ (x : ℕ). takes numbers x ≡ true) e h
+
     end_at : Last numbers n (digits_in numbers n []) → digits_in numbers n [] ≡ found m []
     end_at (whole_number a r) = r ∙ ap (λ (x : ℕ). found x []) (sym e)
     end_at (no_number a r) = absurd (no_both (takes numbers n) taken a)
   whole_end n m (b ∷ w) e h k = end_at (step numbers n b w) where
     taken : takes numbers n ≡ true
     taken = subst (λ (x : ℕ). takes numbers x ≡ true) e h
+
     no : is_digit b ≡ false
     no = not-true (is_digit b) k
+
     end_at : Step numbers n b w (digits_in numbers n (b ∷ w)) → digits_in numbers n (b ∷ w) ≡ found m (b ∷ w)
     end_at (goes_on a p s r) = absurd (no_both (is_digit b) a no)
     end_at (breaks a s r) = absurd (no_both (is_digit b) a no)
@@ -164,9 +167,13 @@ module _ (numbers : Numbers) (good : Good numbers) where
       let one = next v (sym r ∙ h) in
       let e = next_text n b (within_low 48 57 b a) (within_high 48 57 b a) p (small n g) in
       record {
-        front = b ∷ one.front; rest = one.rest; more = one.more; value = one.value;
+        front = b ∷ one.front;
+        rest = one.rest;
+        more = one.more;
+        value = one.value;
         is = behind_back n one.value b (one.front ++ one.more) e one.is;
-        text = ap (λ (t : List ℕ). b ∷ t) one.text; left_is = one.left_is;
+        text = ap (λ (t : List ℕ). b ∷ t) one.text;
+        left_is = one.left_is;
       }
   begun_step n b left s g (breaks a v r) h next = begun_here n left (b ∷ s) g (cc)
   begun_step n b left s g (ends a v r) h next = absurd cc
@@ -187,7 +194,7 @@ module _ (numbers : Numbers) (good : Good numbers) where
   digits_most n m left [] rest more g h k = left_within (digits_begun n left rest g h)
   digits_most n m left (b ∷ front) rest more g h k =
       most_step n m b left front rest more g k (next_of n m b (front ++ more) g k) (step numbers n b (front ++ rest)) h
-        (λ v e i. digits_most (10 * n + (b - 48)) m left front rest more v e i)
+      (λ v e i. digits_most (10 * n + (b - 48)) m left front rest more v e i)
 
   -- the first digit
   number_step : (b : ℕ) (s : List ℕ) → is_digit b ≡ true → begins numbers (b - 48) ≡ true → number_in numbers (b ∷ s) ≡ digits_in numbers (b - 48) s
@@ -198,9 +205,10 @@ module _ (numbers : Numbers) (good : Good numbers) where
   of_first m b u h e =
       let d = first_digit m (omega (arith, good.small m h)) in
       let head : d.digit ≡ b = cc (d.text, e) in
-      let tail : d.more ≡ u = cc (d.text, e) in
-      (within 48 57 b (omega (arith, d.low, head)) (omega (arith, d.high, head)),
-       record { is = h; text = d.begins ∙ ap (λ (x : ℕ). decimal (x - 48) ++ d.more) head ∙ ap (λ (t : List ℕ). decimal (b - 48) ++ t) tail })
+      let tail : d.more ≡ u = cc (d.text, e) in (
+        within 48 57 b (omega (arith, d.low, head)) (omega (arith, d.high, head)),
+        record { is = h; text = d.begins ∙ ap (λ (x : ℕ). decimal (x - 48) ++ d.more) head ∙ ap (λ (t : List ℕ). decimal (b - 48) ++ t) tail },
+      )
 
   begins_first : (m b : ℕ) (u : List ℕ) → is_digit b ≡ true → Behind numbers (b - 48) m u → begins numbers (b - 48) ≡ true
   begins_first m b u d h = good.back (b - 48) m u (omega (arith, within_high 48 57 b d)) h.is h.text
@@ -210,8 +218,8 @@ module _ (numbers : Numbers) (good : Good numbers) where
       let low = within_low 48 57 b d in
       let digit : decimal (b - 48) ≡ b ∷ [] = decimal_digit (b - 48) (omega (arith, within_high 48 57 b d)) ∙ ap (λ (k : ℕ). k ∷ []) (back_to b low) in
       h.text ∙ ap (λ (t : List ℕ). t ++ u) digit where
-    back_to : (b : ℕ) → 48 ≤ b → 48 + (b - 48) ≡ b
-    back_to b low = omega arith
+        back_to : (b : ℕ) → 48 ≤ b → 48 + (b - 48) ≡ b
+        back_to b low = omega arith
 
   -- the answers at the first byte
   data First (b : ℕ) (s : List ℕ) (r : Read ℕ) : Type 0 where
@@ -254,9 +262,13 @@ module _ (numbers : Numbers) (good : Good numbers) where
   number_begun_at s left b (starts d g r) h a u k =
       let one = digits_begun (b - 48) left s g (sym r ∙ h) in
       record {
-        front = b ∷ one.front; rest = one.rest; more = one.more; value = one.value;
+        front = b ∷ one.front;
+        rest = one.rest;
+        more = one.more;
+        value = one.value;
         is = record { is = one.is.is; text = sym (to_first one.value b (one.front ++ one.more) d one.is) };
-        text = ap (λ (t : List ℕ). b ∷ t) one.text; left_is = one.left_is;
+        text = ap (λ (t : List ℕ). b ∷ t) one.text;
+        left_is = one.left_is;
       }
   number_begun_at s left b (stays never r) h a u k = number_nothing (b ∷ s) left a u (cc) k
 

@@ -40,8 +40,8 @@ comma_both : (least : ℕ) → nat_lt least 1000 ≡ true → Part (Both (Word (
 comma_both least h =
     let few : least < 1000 = ltb-true least 1000 h in
     then_part (Word (44 ∷ [])) any (word_in (44 ∷ [])) (λ a n. Within least 999) no_digit (λ a n. number_in (Between least 999))
-      (word_part (44 ∷ [])) (λ a n. within_part least 999 (omega arith) (omega arith)) (λ a u h. some_within least 999 (omega arith))
-      (λ a n b w x h k. StopsAt-any (w ++ x))
+    (word_part (44 ∷ [])) (λ a n. within_part least 999 (omega arith) (omega arith)) (λ a u h. some_within least 999 (omega arith))
+    (λ a n b w x h k. StopsAt-any (w ++ x))
 
 comma_to : (least n : ℕ) (u : List ℕ) → Guarded (nat_lt least 1000) (Both (Word (44 ∷ [])) (λ a n. Within least 999)) n u → Comma least n u
 comma_to least n u h = record { is = h.is.second.is; text = h.is.text ∙ ap (λ (t : List ℕ). t ++ h.is.w) h.is.first.text ∙ ap (λ (t : List ℕ). 44 ∷ t) h.is.second.text }
@@ -109,7 +109,8 @@ further_back_at (suc most) least (x ∷ xs) enough h =
     let high = ltb-true x 1000 (and-left (nat_lt x 1000) (list_all (λ option. nat_lt option 1000) xs) h.below) in
     let rest = further_back_at most (x + 1) xs (omega (arith, low, enough)) (record {
       ascends = and-right (nat_le least x) (ascends_from (x + 1) xs) h.ascends;
-      below = and-right (nat_lt x 1000) (list_all (λ option. nat_lt option 1000) xs) h.below }) in
+      below = and-right (nat_lt x 1000) (list_all (λ option. nat_lt option 1000) xs) h.below;
+    }) in
     one_more (44 ∷ decimal x) (commas xs) (record { is = within least 999 x low (omega arith); text = refl }) rest
 
 further_back : (least : ℕ) (options u : List ℕ) → Spelled (Ascend least) commas options u → Items Comma next_option 1000 least options u
@@ -143,7 +144,9 @@ some_to xs u h =
 some_back_at : (xs : List ℕ) → Some_options xs → Both (Within 0 999) Firsts xs (options_word xs)
 some_back_at [] h = elim h [ ]
 some_back_at (first ∷ further) (options_from _ _ h k) = record {
-  a = first; u = decimal first; w = commas further;
+  a = first;
+  u = decimal first;
+  w = commas further;
   first = record { is = h; text = refl };
   second = record { a = further; is = record { is = k; text = refl }; value = refl };
   text = refl;
@@ -156,10 +159,10 @@ pub some_options_part : Part (Spelled Some_options options_word) none some_optio
 unfolding some_options_in
 some_options_part = same_texts
     (then_part (Within 0 999) no_digit (number_in (Between 0 999)) Firsts none (λ first n. map_in (λ (xs : List ℕ). first ∷ xs) (each_in option_in next_option 1000 (first + 1)))
-      (within_part 0 999 (omega arith) (omega arith))
-      (λ first n. map_part (λ (xs : List ℕ). first ∷ xs) (further_options_part (first + 1)))
-      (λ first u h. record { b = first ∷ []; w = []; is = record { a = []; is = record { is = record { ascends = refl; below = refl }; text = refl }; value = refl } })
-      (λ first n xs w x h k. firsts_ending first n xs w x h k))
+    (within_part 0 999 (omega arith) (omega arith))
+    (λ first n. map_part (λ (xs : List ℕ). first ∷ xs) (further_options_part (first + 1)))
+    (λ first u h. record { b = first ∷ []; w = []; is = record { a = []; is = record { is = record { ascends = refl; below = refl }; text = refl }; value = refl } })
+    (λ first n xs w x h k. firsts_ending first n xs w x h k))
     (λ xs u h. some_to xs u h) (λ xs u h. some_back xs u h)
 
 pub some_ascend : (xs : List ℕ) → Some_options xs → is_ascending xs ≡ true
@@ -194,7 +197,7 @@ no_options_part : Part (Spelled No_options (λ x. 45 ∷ [])) none no_options_in
 unfolding no_options_in
 no_options_part = same_texts
     (then_part (Word (45 ∷ [])) any (word_in (45 ∷ [])) (λ a n. Nothing {A = List ℕ} []) none (λ a n. ended_at [])
-      (word_part (45 ∷ [])) (λ a n. ended_at_part []) (λ a u h. record { b = []; w = []; is = record { value = refl; text = refl } }) (λ a n xs w x h k. StopsAt-any (w ++ x)))
+    (word_part (45 ∷ [])) (λ a n. ended_at_part []) (λ a u h. record { b = []; w = []; is = record { value = refl; text = refl } }) (λ a n xs w x h k. StopsAt-any (w ++ x)))
     (λ xs u h. no_to xs u h) (λ xs u h. no_back xs u h)
 
 no_starts : (xs u : List ℕ) → Spelled No_options (λ x. 45 ∷ []) xs u → Starts 45 u
@@ -231,7 +234,7 @@ options_back (first ∷ further) u h =
     let low = and-left (nat_lt first 1000) (list_all (λ option. nat_lt option 1000) further) h.is.below in
     that (record {
       is = options_from first further (within 0 999 first (omega arith) (omega (arith, ltb-true first 1000 low)))
-        (record { ascends = and-right (nat_le 0 first) (ascends_from (first + 1) further) h.is.ascends; below = and-right (nat_lt first 1000) (list_all (λ option. nat_lt option 1000) further) h.is.below });
+          (record { ascends = and-right (nat_le 0 first) (ascends_from (first + 1) further) h.is.ascends; below = and-right (nat_lt first 1000) (list_all (λ option. nat_lt option 1000) further) h.is.below });
       text = h.text;
     })
 
@@ -239,7 +242,7 @@ pub options_part : Part (Spelled Options options_word) none options_in
 unfolding options_in
 options_part = same_texts
     (either_part 45 (Spelled No_options (λ x. 45 ∷ [])) (Spelled Some_options options_word) none no_options_in some_options_in no_options_part some_options_part
-      (λ xs u h. no_starts xs u h) (λ xs u h. some_differ xs u h)
-      (record { b = []; w = 45 ∷ []; is = record { is = record { is = refl }; text = refl } })
-      (record { b = 0 ∷ []; w = decimal 0 ++ []; is = record { is = options_from 0 [] refl (record { ascends = refl; below = refl }); text = refl } }))
+    (λ xs u h. no_starts xs u h) (λ xs u h. some_differ xs u h)
+    (record { b = []; w = 45 ∷ []; is = record { is = record { is = refl }; text = refl } })
+    (record { b = 0 ∷ []; w = decimal 0 ++ []; is = record { is = options_from 0 [] refl (record { ascends = refl; below = refl }); text = refl } }))
     (λ xs u h. options_to xs u h) (λ xs u h. options_back xs u h)

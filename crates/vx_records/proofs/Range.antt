@@ -35,16 +35,16 @@ reaches_has (suc k) i zero least most n m few h j low high =
     let e : lowest (zero + i) n ≡ lowest i n = lowest_at (zero + i) i n (omega arith) in
     let f : highest (zero + i) n ≡ highest i n = highest_at (zero + i) i n (omega arith) in
     and-both (nat_le (lowest i n) most) (nat_le least (highest i n) || reaches k least most (lowest (suc i) n) (highest (suc i) n))
-      (le-leb (lowest i n) most (omega (arith, e, low, j)))
-      (or-left (nat_le least (highest i n)) (reaches k least most (lowest (suc i) n) (highest (suc i) n)) (le-leb least (highest i n) (omega (arith, f, high, h))))
+    (le-leb (lowest i n) most (omega (arith, e, low, j)))
+    (or-left (nat_le least (highest i n)) (reaches k least most (lowest (suc i) n) (highest (suc i) n)) (le-leb least (highest i n) (omega (arith, f, high, h))))
 reaches_has (suc k) i (suc d) least most n m few h j low high =
     let e : lowest (suc d + i) n ≡ lowest (d + suc i) n = lowest_at (suc d + i) (d + suc i) n (omega arith) in
     let f : highest (suc d + i) n ≡ highest (d + suc i) n = highest_at (suc d + i) (d + suc i) n (omega arith) in
     let grows = lowest-grows i (suc d) n in
     and-both (nat_le (lowest i n) most) (nat_le least (highest i n) || reaches k least most (lowest (suc i) n) (highest (suc i) n))
-      (le-leb (lowest i n) most (omega (arith, grows, low, j)))
-      (or-right (nat_le least (highest i n)) (reaches k least most (lowest (suc i) n) (highest (suc i) n))
-        (reaches_has k (suc i) d least most n m (omega arith) h j (omega (arith, e, low)) (omega (arith, f, high))))
+    (le-leb (lowest i n) most (omega (arith, grows, low, j)))
+    (or-right (nat_le least (highest i n)) (reaches k least most (lowest (suc i) n) (highest (suc i) n))
+    (reaches_has k (suc i) d least most n m (omega arith) h j (omega (arith, e, low)) (omega (arith, f, high))))
 
 record Meets (least most n : ℕ) : Type 0 where
   more : ℕ
@@ -56,9 +56,9 @@ unfolding reaches
 reaches_meets zero i least most n h = absurd cc
 reaches_meets (suc k) i least most n h =
     or-cases (nat_le least (highest i n)) (reaches k least most (lowest (suc i) n) (highest (suc i) n))
-      (and-right (nat_le (lowest i n) most) (nat_le least (highest i n) || reaches k least most (lowest (suc i) n) (highest (suc i) n)) h)
-      (λ e. record { more = i; low = leb-true (lowest i n) most (and-left (nat_le (lowest i n) most) (nat_le least (highest i n) || reaches k least most (lowest (suc i) n) (highest (suc i) n)) h); high = leb-true least (highest i n) e })
-      (λ e. reaches_meets k (suc i) least most n e)
+    (and-right (nat_le (lowest i n) most) (nat_le least (highest i n) || reaches k least most (lowest (suc i) n) (highest (suc i) n)) h)
+    (λ e. record { more = i; low = leb-true (lowest i n) most (and-left (nat_le (lowest i n) most) (nat_le least (highest i n) || reaches k least most (lowest (suc i) n) (highest (suc i) n)) h); high = leb-true least (highest i n) e })
+    (λ e. reaches_meets k (suc i) least most n e)
 
 reaches_first : (k least most first last : ℕ) → reaches k least most first last ≡ true → first ≤ most
 unfolding reaches

@@ -169,13 +169,15 @@ release_text_is x = release_record (decimal x.0) x.1.batch (decimal x.1.number)
 
 held_claim : (x : ℕ × Key) → Claims x → IsHeld (made_claim x)
 held_claim x h = record {
-  in_range = and-both (is_station x.0) (is_key x.1) h.station h.key; written = tt;
+  in_range = and-both (is_station x.0) (is_key x.1) h.station h.key;
+  written = tt;
   short = omega (arith, claims_short x h, ap (length {A = ℕ}) (claim_text_is x), length-append (codes "1 claim ") (claim_text x));
 }
 
 held_release : (x : ℕ × Key) → Claims x → IsHeld (made_release x)
 held_release x h = record {
-  in_range = and-both (is_station x.0) (is_key x.1) h.station h.key; written = tt;
+  in_range = and-both (is_station x.0) (is_key x.1) h.station h.key;
+  written = tt;
   short = omega (arith, claims_short x h, ap (length {A = ℕ}) (release_text_is x), length-append (codes "1 release ") (claim_text x));
 }
 
@@ -196,7 +198,8 @@ held_add head list n h e l =
     let three = and-both (nat_lt head.card 1024 && (head.front % 2 == 1) && nat_lt head.front 64) (is_ascending (contests_of list)) two l.ascends in
     let four = and-both (nat_lt head.card 1024 && (head.front % 2 == 1) && nat_lt head.front 64 && is_ascending (contests_of list)) (list_all is_marked list) three l.marked in
     record {
-      in_range = and-both (is_key head.key) (is_held_sheet (sheet_of head list)) h.key four; written = tt;
+      in_range = and-both (is_key head.key) (is_held_sheet (sheet_of head list)) h.key four;
+      written = tt;
       short = omega (arith, head_short head h, l.short, e, ap (length {A = ℕ}) (add_text_is head list), length-append (codes "1 add ") (head_text head ++ marks_text list), length-append (head_text head) (marks_text list));
     }
 
@@ -218,15 +221,20 @@ add_back key sheet h =
       front = and-both (sheet.front % 2 == 1) (nat_lt sheet.front 64) (and-right (nat_lt sheet.card 1024) (sheet.front % 2 == 1) two) (and-right (nat_lt sheet.card 1024 && (sheet.front % 2 == 1)) (nat_lt sheet.front 64) three);
     } in
     record {
-      a = head; u = head_text head; w = marks_text list;
+      a = head;
+      u = head_text head;
+      w = marks_text list;
       first = record { is = good; text = refl };
       second = record {
         a = list;
-        is = record { is = record {
-          ascends = and-right (nat_lt sheet.card 1024 && (sheet.front % 2 == 1) && nat_lt sheet.front 64) (is_ascending (contests_of list)) four;
-          marked = and-right (nat_lt sheet.card 1024 && (sheet.front % 2 == 1) && nat_lt sheet.front 64 && is_ascending (contests_of list)) (list_all is_marked list) is;
-          short = omega (arith, h.short, ap (length {A = ℕ}) (add_text_is head list), length-append (codes "1 add ") (head_text head ++ marks_text list), length-append (head_text head) (marks_text list)) };
-          text = refl };
+        is = record {
+          is = record {
+            ascends = and-right (nat_lt sheet.card 1024 && (sheet.front % 2 == 1) && nat_lt sheet.front 64) (is_ascending (contests_of list)) four;
+            marked = and-right (nat_lt sheet.card 1024 && (sheet.front % 2 == 1) && nat_lt sheet.front 64 && is_ascending (contests_of list)) (list_all is_marked list) is;
+            short = omega (arith, h.short, ap (length {A = ℕ}) (add_text_is head list), length-append (codes "1 add ") (head_text head ++ marks_text list), length-append (head_text head) (marks_text list));
+          };
+          text = refl;
+        };
         value = refl;
       };
       text = refl;
@@ -253,13 +261,17 @@ named_written (Candidate n) (by_number h) = tt
 
 ruled_facts : (ruling : Ruling) (d : Decision) → Ruled ruling d → RuledFacts ruling d
 ruled_facts Select (Selections options) (selects h) = record {
-  decision = and-both (is_ascending options) (list_all (λ option. nat_lt option 1000) options) h.ascends h.below; written = tt;
-  name = λ s b n c. word_is (codes "select") s b n c (Selections options) }
+  decision = and-both (is_ascending options) (list_all (λ option. nat_lt option 1000) options) h.ascends h.below;
+  written = tt;
+  name = λ s b n c. word_is (codes "select") s b n c (Selections options);
+}
 ruled_facts Overvote RuledOvervote overvotes = record { decision = refl; written = tt; name = λ s b n c. word_is (codes "overvote") s b n c RuledOvervote }
 ruled_facts Accept AcceptRead accepts = record { decision = refl; written = tt; name = λ s b n c. word_is (codes "accept") s b n c AcceptRead }
 ruled_facts Name (NameWriteIn slot name) (names h k) = record {
-  decision = and-both (nat_lt slot 1000) (is_name name) (lt-ltb slot 1000 (omega (arith, within_high 0 999 slot h))) (named_is name k); written = named_written name k;
-  name = λ s b n c. word_is (codes "name") s b n c (NameWriteIn slot name) }
+  decision = and-both (nat_lt slot 1000) (is_name name) (lt-ltb slot 1000 (omega (arith, within_high 0 999 slot h))) (named_is name k);
+  written = named_written name k;
+  name = λ s b n c. word_is (codes "name") s b n c (NameWriteIn slot name);
+}
 ruled_facts Select RuledOvervote h = elim h [ ]
 ruled_facts Select AcceptRead h = elim h [ ]
 ruled_facts Select (NameWriteIn slot name) h = elim h [ ]
@@ -281,8 +293,18 @@ deciding_short ruling station key contest d s k c r =
     let a = decimal station in
     let b = key_text key in
     let e = decimal contest in
-    omega (arith, decimal_4 station (within_high 1 9999 station s), key_short key k, decimal_3 contest (omega (arith, c)), decision_short ruling d r,
-      length-append (a ++ 32 ∷ []) ((b ++ 32 ∷ []) ++ (e ++ decision_text d)), length-append a (32 ∷ []), length-append (b ++ 32 ∷ []) (e ++ decision_text d), length-append b (32 ∷ []), length-append e (decision_text d))
+    omega (
+      arith,
+      decimal_4 station (within_high 1 9999 station s),
+      key_short key k,
+      decimal_3 contest (omega (arith, c)),
+      decision_short ruling d r,
+      length-append (a ++ 32 ∷ []) ((b ++ 32 ∷ []) ++ (e ++ decision_text d)),
+      length-append a (32 ∷ []),
+      length-append (b ++ 32 ∷ []) (e ++ decision_text d),
+      length-append b (32 ∷ []),
+      length-append e (decision_text d),
+    )
 
 act_short : (ruling : Ruling) → length (act_word (DecideContest ruling)) ≤ 20
 act_short Select = omega arith
@@ -314,13 +336,21 @@ named_of (Words words) h k =
 named_of (Candidate n) h k = by_number (within 0 999 n (omega arith) (omega (arith, ltb-true n 1000 h)))
 
 ruling_of : (d : Decision) → is_decision d ≡ true → DecidesWords d → RulingOf d
-ruling_of (Selections options) h k = record { ruling = Select; is = selects (record {
-  ascends = and-left (is_ascending options) (list_all (λ option. nat_lt option 1000) options) h; below = and-right (is_ascending options) (list_all (λ option. nat_lt option 1000) options) h }) }
+ruling_of (Selections options) h k = record {
+  ruling = Select;
+  is = selects (record {
+    ascends = and-left (is_ascending options) (list_all (λ option. nat_lt option 1000) options) h;
+    below = and-right (is_ascending options) (list_all (λ option. nat_lt option 1000) options) h;
+  });
+}
 ruling_of RuledOvervote h k = record { ruling = Overvote; is = overvotes }
 ruling_of AcceptRead h k = record { ruling = Accept; is = accepts }
-ruling_of (NameWriteIn slot name) h k = record { ruling = Name; is = names
-  (within 0 999 slot (omega arith) (omega (arith, ltb-true slot 1000 (and-left (nat_lt slot 1000) (is_name name) h))))
-  (named_of name (and-right (nat_lt slot 1000) (is_name name) h) k) }
+ruling_of (NameWriteIn slot name) h k = record {
+  ruling = Name;
+  is = names
+      (within 0 999 slot (omega arith) (omega (arith, ltb-true slot 1000 (and-left (nat_lt slot 1000) (is_name name) h))))
+      (named_of name (and-right (nat_lt slot 1000) (is_name name) h) k);
+}
 
 -- what is read is held, and is the event's record
 record Kept (act : Act) (e : Event) (w : List ℕ) : Type 0 where
@@ -333,8 +363,8 @@ kept_at act e f w v a b h = subst (λ (x : Event). Kept act x w) (sym a) (subst 
 add_kept : (e : Event) (w : List ℕ) → Adding e w → Kept AddSheet e w
 add_kept e w h =
     kept_at AddSheet e (made_add h.a h.second.a) w (head_text h.a ++ marks_text h.second.a) h.second.value
-      (h.text ∙ ap (λ (t : List ℕ). t ++ h.w) h.first.text ∙ ap (λ (t : List ℕ). head_text h.a ++ t) h.second.is.text)
-      (record { held = held_add h.a h.second.a (length h.u) h.first.is (ap (length {A = ℕ}) h.first.text) h.second.is.is; text = add_text_is h.a h.second.a })
+    (h.text ∙ ap (λ (t : List ℕ). t ++ h.w) h.first.text ∙ ap (λ (t : List ℕ). head_text h.a ++ t) h.second.is.text)
+    (record { held = held_add h.a h.second.a (length h.u) h.first.is (ap (length {A = ℕ}) h.first.text) h.second.is.is; text = add_text_is h.a h.second.a })
 
 decide_kept : (ruling : Ruling) (e : Event) (w : List ℕ) → Deciding ruling e w → Kept (DecideContest ruling) e w
 decide_kept ruling e w h =
@@ -343,12 +373,13 @@ decide_kept ruling e w h =
     let d = c.second in
     let facts = ruled_facts ruling d.a d.is.is in
     kept_at (DecideContest ruling) e (Decide h.a k.a c.a d.a) w (deciding_text h.a k.a c.a d.a) d.value
-      (h.text ∙ ap (λ (t : List ℕ). t ++ h.w) h.first.text ∙ ap (λ (t : List ℕ). (decimal h.a ++ 32 ∷ []) ++ t)
-        (k.text ∙ ap (λ (t : List ℕ). t ++ k.w) k.first.text ∙ ap (λ (t : List ℕ). (key_text k.a ++ 32 ∷ []) ++ t)
-          (c.text ∙ ap (λ (t : List ℕ). t ++ c.w) c.first.text ∙ ap (λ (t : List ℕ). decimal c.a ++ t) d.is.text)))
-      (record {
-        held = held_decide ruling h.a k.a c.a d.a h.first.is k.first.is (within_high 0 499 c.a c.first.is) d.is.is;
-        text = facts.name (decimal h.a) k.a.batch (decimal k.a.number) (decimal c.a) })
+    (h.text ∙ ap (λ (t : List ℕ). t ++ h.w) h.first.text ∙ ap (λ (t : List ℕ). (decimal h.a ++ 32 ∷ []) ++ t)
+    (k.text ∙ ap (λ (t : List ℕ). t ++ k.w) k.first.text ∙ ap (λ (t : List ℕ). (key_text k.a ++ 32 ∷ []) ++ t)
+    (c.text ∙ ap (λ (t : List ℕ). t ++ c.w) c.first.text ∙ ap (λ (t : List ℕ). decimal c.a ++ t) d.is.text)))
+    (record {
+      held = held_decide ruling h.a k.a c.a d.a h.first.is k.first.is (within_high 0 499 c.a c.first.is) d.is.is;
+      text = facts.name (decimal h.a) k.a.batch (decimal k.a.number) (decimal c.a);
+    })
 
 acted_kept : (act : Act) (e : Event) (w : List ℕ) → Acted act e w → Kept act e w
 acted_kept AddSheet e w h = add_kept e w h
@@ -374,15 +405,22 @@ decide_back station key contest d r h =
     let one = and-left (is_station station && is_key key) (nat_lt contest 500) two in
     let small = ltb-true contest 500 (and-right (is_station station && is_key key) (nat_lt contest 500) two) in
     record {
-      act = DecideContest r.ruling; w = deciding_text station key contest d;
+      act = DecideContest r.ruling;
+      w = deciding_text station key contest d;
       is = record {
-        a = station; u = decimal station ++ 32 ∷ []; w = (key_text key ++ 32 ∷ []) ++ (decimal contest ++ decision_text d);
+        a = station;
+        u = decimal station ++ 32 ∷ [];
+        w = (key_text key ++ 32 ∷ []) ++ (decimal contest ++ decision_text d);
         first = record { is = and-left (is_station station) (is_key key) one; text = refl };
         second = record {
-          a = key; u = key_text key ++ 32 ∷ []; w = decimal contest ++ decision_text d;
+          a = key;
+          u = key_text key ++ 32 ∷ [];
+          w = decimal contest ++ decision_text d;
           first = record { is = and-right (is_station station) (is_key key) one; text = refl };
           second = record {
-            a = contest; u = decimal contest; w = decision_text d;
+            a = contest;
+            u = decimal contest;
+            w = decision_text d;
             first = record { is = within 0 499 contest (omega arith) (omega arith); text = refl };
             second = record { a = d; is = record { is = r.is; text = refl }; value = refl };
             text = refl;
@@ -396,15 +434,23 @@ decide_back station key contest d r h =
 
 acts_of : (e : Event) → IsHeld e → Acts e
 acts_of (Add key sheet) h = record {
-  act = AddSheet; w = head_text (head_of key sheet) ++ marks_text sheet.contests; is = add_back key sheet h; text = sym (add_text_is (head_of key sheet) sheet.contests) }
+  act = AddSheet;
+  w = head_text (head_of key sheet) ++ marks_text sheet.contests;
+  is = add_back key sheet h;
+  text = sym (add_text_is (head_of key sheet) sheet.contests);
+}
 acts_of (Claim station key) h = record {
-  act = ClaimSheet; w = claim_text (station, key);
+  act = ClaimSheet;
+  w = claim_text (station, key);
   is = record { a = (station, key); is = record { is = record { station = and-left (is_station station) (is_key key) h.in_range; key = and-right (is_station station) (is_key key) h.in_range }; text = refl }; value = refl };
-  text = sym (claim_text_is (station, key)) }
+  text = sym (claim_text_is (station, key));
+}
 acts_of (Release station key) h = record {
-  act = ReleaseSheet; w = claim_text (station, key);
+  act = ReleaseSheet;
+  w = claim_text (station, key);
   is = record { a = (station, key); is = record { is = record { station = and-left (is_station station) (is_key key) h.in_range; key = and-right (is_station station) (is_key key) h.in_range }; text = refl }; value = refl };
-  text = sym (release_text_is (station, key)) }
+  text = sym (release_text_is (station, key));
+}
 acts_of (Decide station key contest d) h =
     decide_back station key contest d (ruling_of d (and-right (is_station station && is_key key && nat_lt contest 500) (is_decision d) h.in_range) h.written) h
 

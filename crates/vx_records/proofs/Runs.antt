@@ -38,7 +38,12 @@ word_to b word a u h = record { is = tt; text = h.text ∙ ap (λ (t : List ℕ)
 
 word_back : (b : ℕ) (word : List ℕ) (a : Unit {0}) (u : List ℕ) → Word (b ∷ word) a u → Both (One b done) (λ a n. Word word) a u
 word_back b word a u h = record {
-  a = done; u = b ∷ []; w = word; first = record { value = refl; text = refl }; second = record { is = tt; text = refl }; text = h.text;
+  a = done;
+  u = b ∷ [];
+  w = word;
+  first = record { value = refl; text = refl };
+  second = record { is = tt; text = refl };
+  text = h.text;
 }
 
 -- a word that is written out
@@ -46,9 +51,9 @@ pub word_part : (word : List ℕ) → Part (Word word) any (word_in word)
 word_part [] = no_word
 word_part (b ∷ word) =
     let both : Part (Both (One b done) (λ a n. Word word)) any (then_in (next_is b done) (λ a n. word_in word)) =
-      then_part (One b done) any (next_is b done) (λ a n. Word word) any (λ a n. word_in word) (next_part b done) (λ a n. word_part word)
-        (λ a u h. record { b = done; w = word; is = record { is = tt; text = refl } })
-        (λ a n v w x h k. StopsAt-any (w ++ x)) in
+    then_part (One b done) any (next_is b done) (λ a n. Word word) any (λ a n. word_in word) (next_part b done) (λ a n. word_part word)
+    (λ a u h. record { b = done; w = word; is = record { is = tt; text = refl } })
+    (λ a n v w x h k. StopsAt-any (w ++ x)) in
     same_texts (same_reader both (word_step b word)) (λ a u h. word_to b word a u h) (λ a u h. word_back b word a u h)
 
 -- letters of a kind, so many of them
@@ -71,8 +76,12 @@ record Run (is_letter : ℕ → Bool) (s : List ℕ) (n : ℕ) : Type 0 where
 
 run_cons : (p : ℕ → Bool) (c : ℕ) (s : List ℕ) (t : Bool) → p c ≡ t → Run p s (prefix_len p s) → Run p (c ∷ s) (cond t (1 + prefix_len p s) 0)
 run_cons p c s true e h = record {
-  f = c ∷ h.f; rest = h.rest; text = ap (λ (x : List ℕ). c ∷ x) h.text; size = omega (arith, h.size);
-  letters = and-both (p c) (list_all p h.f) e h.letters; stops = h.stops;
+  f = c ∷ h.f;
+  rest = h.rest;
+  text = ap (λ (x : List ℕ). c ∷ x) h.text;
+  size = omega (arith, h.size);
+  letters = and-both (p c) (list_all p h.f) e h.letters;
+  stops = h.stops;
 }
 run_cons p c s false e h = record { f = []; rest = c ∷ s; text = refl; size = refl; letters = refl; stops = ap not e }
 
@@ -88,7 +97,7 @@ prefix_len-letters : (p : ℕ → Bool) (u w : List ℕ) → list_all p u ≡ tr
 prefix_len-letters p [] w h k = prefix_len-stop p w k
 prefix_len-letters p (c ∷ u) w h k =
     let here : prefix_len p (c ∷ (u ++ w)) ≡ 1 + prefix_len p (u ++ w) =
-      ap (λ (t : Bool). cond t (1 + prefix_len p (u ++ w)) 0) (and-left (p c) (list_all p u) h) in
+    ap (λ (t : Bool). cond t (1 + prefix_len p (u ++ w)) 0) (and-left (p c) (list_all p u) h) in
     let more = prefix_len-letters p u w (and-right (p c) (list_all p u) h) k in
     omega (arith, here, more)
 
@@ -96,7 +105,7 @@ prefix_len-at_least : (p : ℕ → Bool) (front rest : List ℕ) → list_all p 
 prefix_len-at_least p [] rest h = omega arith
 prefix_len-at_least p (c ∷ front) rest h =
     let here : prefix_len p (c ∷ (front ++ rest)) ≡ 1 + prefix_len p (front ++ rest) =
-      ap (λ (t : Bool). cond t (1 + prefix_len p (front ++ rest)) 0) (and-left (p c) (list_all p front) h) in
+    ap (λ (t : Bool). cond t (1 + prefix_len p (front ++ rest)) 0) (and-left (p c) (list_all p front) h) in
     let more = prefix_len-at_least p front rest (and-right (p c) (list_all p front) h) in
     omega (arith, more, here)
 
@@ -174,7 +183,10 @@ module _ (p : ℕ → Bool) (least most : ℕ) where
   begun_few s left n run h e b good =
       let size : length (run.f ++ drop n b) ≡ length b = omega (arith, length-append run.f (drop n b), length-drop n b, h, good.low, run.size) in
       record {
-        front = run.f; rest = run.rest; more = drop n b; value = run.f ++ drop n b;
+        front = run.f;
+        rest = run.rest;
+        more = drop n b;
+        value = run.f ++ drop n b;
         is = record { is = record { letters = list_all-append p run.f (drop n b) run.letters (list_all-drop p n b good.letters); low = omega (arith, size, good.low); high = omega (arith, size, good.high) }; text = refl };
         text = run.text;
         left_is = omega (arith, e, ap (length {A = ℕ}) run.text, length-append run.f run.rest, run.size);
@@ -188,7 +200,10 @@ module _ (p : ℕ → Bool) (least most : ℕ) where
       let all : list_all p (f ++ []) ≡ true = subst (λ (t : List ℕ). list_all p t ≡ true) (sym (append-nil f)) (list_all-take p most run.f run.letters) in
       let same : length (f ++ []) ≡ most = ap (length {A = ℕ}) (append-nil f) ∙ size in
       record {
-        front = f; rest = drop most run.f ++ run.rest; more = []; value = f ++ [];
+        front = f;
+        rest = drop most run.f ++ run.rest;
+        more = [];
+        value = f ++ [];
         is = record { is = record { letters = all; low = omega (arith, same, good.low, good.high); high = omega (arith, same) }; text = refl };
         text = text;
         left_is = omega (arith, e, ap (length {A = ℕ}) text, length-append f (drop most run.f ++ run.rest), size);

@@ -114,19 +114,25 @@ head_to head u h =
     subst (λ (x : Head). Spelled IsHead head_text x u) (sym kind.value) (record {
       is = record { key = h.first.is; card = card.first.is; front = front.first.is };
       text = h.text ∙ ap (λ (t : List ℕ). t ++ h.w) h.first.text ∙ ap (λ (t : List ℕ). (key_text h.a ++ 32 ∷ []) ++ t)
-        (card.text ∙ ap (λ (t : List ℕ). t ++ card.w) card.first.text ∙ ap (λ (t : List ℕ). (decimal card.a ++ 32 ∷ []) ++ t)
+          (card.text ∙ ap (λ (t : List ℕ). t ++ card.w) card.first.text ∙ ap (λ (t : List ℕ). (decimal card.a ++ 32 ∷ []) ++ t)
           (front.text ∙ ap (λ (t : List ℕ). t ++ front.w) front.first.text ∙ ap (λ (t : List ℕ). (decimal front.a ++ 32 ∷ []) ++ t) kind.is.text));
     })
 
 head_back : (head : Head) (u : List ℕ) → Spelled IsHead head_text head u → Both Blank_key Carded head u
 head_back head u h = record {
-  a = head.key; u = key_text head.key ++ 32 ∷ []; w = (decimal head.card ++ 32 ∷ []) ++ ((decimal head.front ++ 32 ∷ []) ++ kind_word head.kind head.test);
+  a = head.key;
+  u = key_text head.key ++ 32 ∷ [];
+  w = (decimal head.card ++ 32 ∷ []) ++ ((decimal head.front ++ 32 ∷ []) ++ kind_word head.kind head.test);
   first = record { is = h.is.key; text = refl };
   second = record {
-    a = head.card; u = decimal head.card ++ 32 ∷ []; w = (decimal head.front ++ 32 ∷ []) ++ kind_word head.kind head.test;
+    a = head.card;
+    u = decimal head.card ++ 32 ∷ [];
+    w = (decimal head.front ++ 32 ∷ []) ++ kind_word head.kind head.test;
     first = record { is = h.is.card; text = refl };
     second = record {
-      a = head.front; u = decimal head.front ++ 32 ∷ []; w = kind_word head.kind head.test;
+      a = head.front;
+      u = decimal head.front ++ 32 ∷ [];
+      w = kind_word head.kind head.test;
       first = record { is = h.is.front; text = refl };
       second = record { a = (head.kind, head.test); is = record { is = kind_among head.kind head.test; text = refl }; value = refl };
       text = refl;
@@ -200,9 +206,18 @@ head_short head h =
     let d = kind_word head.kind head.test in
     let front = within_front head.front h.front in
     let card = within_high 0 1023 head.card h.card in
-    omega (arith, key_short head.key h.key, decimal_short 4 head.card (omega arith) (omega (arith, card)) (omega (arith, card)),
-      decimal_short 2 head.front (omega arith) (omega (arith, front)) (omega (arith, front)), kind_short head.kind head.test,
-      length-append a (32 ∷ []), length-append b (32 ∷ []), length-append c (32 ∷ []), length-append (c ++ 32 ∷ []) d,
-      length-append (b ++ 32 ∷ []) ((c ++ 32 ∷ []) ++ d), length-append (a ++ 32 ∷ []) ((b ++ 32 ∷ []) ++ ((c ++ 32 ∷ []) ++ d))) where
-  within_front : (n : ℕ) → takes Fronts n ≡ true → n < 64
-  within_front n h = front_few n h
+    omega (
+      arith,
+      key_short head.key h.key,
+      decimal_short 4 head.card (omega arith) (omega (arith, card)) (omega (arith, card)),
+      decimal_short 2 head.front (omega arith) (omega (arith, front)) (omega (arith, front)),
+      kind_short head.kind head.test,
+      length-append a (32 ∷ []),
+      length-append b (32 ∷ []),
+      length-append c (32 ∷ []),
+      length-append (c ++ 32 ∷ []) d,
+      length-append (b ++ 32 ∷ []) ((c ++ 32 ∷ []) ++ d),
+      length-append (a ++ 32 ∷ []) ((b ++ 32 ∷ []) ++ ((c ++ 32 ∷ []) ++ d)),
+    ) where
+      within_front : (n : ℕ) → takes Fronts n ≡ true → n < 64
+      within_front n h = front_few n h

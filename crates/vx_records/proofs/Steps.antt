@@ -126,8 +126,13 @@ module _ {A : Type 0} (b : ℕ) (a : A) where
 
   next_begun : (s : List ℕ) (left : ℕ) → next_is b a s ≡ Err left → Begins (One b a) s left
   next_begun s left h = record {
-    front = []; rest = s; more = b ∷ []; value = a;
-    is = record { value = refl; text = refl }; text = refl; left_is = (next_err b a s left h).0;
+    front = [];
+    rest = s;
+    more = b ∷ [];
+    value = a;
+    is = record { value = refl; text = refl };
+    text = refl;
+    left_is = (next_err b a s left h).0;
   }
 
   next_most : (s : List ℕ) (left : ℕ) → next_is b a s ≡ Err left → (front rest more : List ℕ) (v : A) → s ≡ front ++ rest → One b a v (front ++ more) → left ≤ length rest
@@ -169,8 +174,13 @@ module _ {A : Type 0} (a : A) where
 
   ended_begun : (s : List ℕ) (left : ℕ) → ended_at a s ≡ Err left → Begins (Nothing a) s left
   ended_begun s left h = record {
-    front = []; rest = s; more = []; value = a;
-    is = record { value = refl; text = refl }; text = refl; left_is = (ended_err a s left h).0;
+    front = [];
+    rest = s;
+    more = [];
+    value = a;
+    is = record { value = refl; text = refl };
+    text = refl;
+    left_is = (ended_err a s left h).0;
   }
 
   ended_most : (s : List ℕ) (left : ℕ) → ended_at a s ≡ Err left → (front rest more : List ℕ) (v : A) → s ≡ front ++ rest → Nothing a v (front ++ more) → left ≤ length rest
@@ -203,7 +213,9 @@ module _ {A : Type 0} (held : A → Type 0) (spell : A → List ℕ) (ends : ℕ
 
   followed_back : (b : ℕ) (v : A) (u : List ℕ) → Spelled held (λ a. spell a ++ b ∷ []) v u → Both (Spelled held spell) (λ a n. One b a) v u
   followed_back b v u h = record {
-    a = v; u = spell v; w = b ∷ [];
+    a = v;
+    u = spell v;
+    w = b ∷ [];
     first = record { is = h.is; text = refl };
     second = record { value = refl; text = refl };
     text = h.text;
@@ -215,9 +227,9 @@ module _ {A : Type 0} (held : A → Type 0) (spell : A → List ℕ) (ends : ℕ
   pub followed_part : (b : ℕ) → ends b ≡ true → Part (Spelled held (λ a. spell a ++ b ∷ [])) any (λ s. followed_by b (p s))
   followed_part b e =
       let both : Part (Both (Spelled held spell) (λ a n. One b a)) any (then_in p (λ a n. next_is b a)) =
-        then_part (Spelled held spell) ends p (λ a n. One b a) any (λ a n. next_is b a) part (λ a n. next_part b a)
-          (λ a u h. record { b = a; w = b ∷ []; is = record { value = refl; text = refl } })
-          (λ a n v w x h k. followed_ending b e a n v w x h k) in
+      then_part (Spelled held spell) ends p (λ a n. One b a) any (λ a n. next_is b a) part (λ a n. next_part b a)
+      (λ a u h. record { b = a; w = b ∷ []; is = record { value = refl; text = refl } })
+      (λ a n v w x h k. followed_ending b e a n v w x h k) in
       same_texts (same_reader both (λ s. followed_then b (p s))) (λ v u h. followed_to b v u h) (λ v u h. followed_back b v u h)
 
   ended_to : (v : A) (u : List ℕ) → Both (Spelled held spell) (λ a n. Nothing a) v u → Spelled held spell v u
@@ -228,7 +240,9 @@ module _ {A : Type 0} (held : A → Type 0) (spell : A → List ℕ) (ends : ℕ
 
   ended_back : (v : A) (u : List ℕ) → Spelled held spell v u → Both (Spelled held spell) (λ a n. Nothing a) v u
   ended_back v u h = record {
-    a = v; u = spell v; w = [];
+    a = v;
+    u = spell v;
+    w = [];
     first = record { is = h.is; text = refl };
     second = record { value = refl; text = refl };
     text = h.text ∙ sym (append-nil (spell v));
@@ -240,9 +254,9 @@ module _ {A : Type 0} (held : A → Type 0) (spell : A → List ℕ) (ends : ℕ
   pub ended_part : Part (Spelled held spell) none (λ s. ended (p s))
   ended_part =
       let both : Part (Both (Spelled held spell) (λ a n. Nothing a)) none (then_in p (λ a n. ended_at a)) =
-        then_part (Spelled held spell) ends p (λ a n. Nothing a) none (λ a n. ended_at a) part (λ a n. ended_at_part a)
-          (λ a u h. record { b = a; w = []; is = record { value = refl; text = refl } })
-          (λ a n v w x h k. ended_ending a n v w x h k) in
+      then_part (Spelled held spell) ends p (λ a n. Nothing a) none (λ a n. ended_at a) part (λ a n. ended_at_part a)
+      (λ a u h. record { b = a; w = []; is = record { value = refl; text = refl } })
+      (λ a n v w x h k. ended_ending a n v w x h k) in
       same_texts (same_reader both (λ s. ended_then (p s))) (λ v u h. ended_to v u h) (λ v u h. ended_back v u h)
 
 -- no more is left than there was
@@ -333,11 +347,11 @@ module _ {A : Type 0} (b : ℕ) (P Q : A → List ℕ → Type 0) (ends : ℕ �
   either_most true s e left h front rest more a t (this k) = first.most s left h front rest more a t k
   either_most true s e left h front rest more a t (that k) =
       front_empty front rest s left (apart b front rest more s (front ++ more) t refl (first_true b s e) (differs a (front ++ more) k)) t
-        (left_within (first.begun s left h some_p.b some_p.w some_p.is))
+      (left_within (first.begun s left h some_p.b some_p.w some_p.is))
   either_most false s e left h front rest more a t (that k) = second.most s left h front rest more a t k
   either_most false s e left h front rest more a t (this k) =
       front_empty front rest s left (front_other b front rest more s (front ++ more) e t refl (starts a (front ++ more) k)) t
-        (left_within (second.begun s left h some_q.b some_q.w some_q.is))
+      (left_within (second.begun s left h some_q.b some_q.w some_q.is))
 
   pub either_part : Part (Either P Q) ends (λ s. cond (first_is b s) (p s) (q s))
   either_part = record {

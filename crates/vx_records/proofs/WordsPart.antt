@@ -127,9 +127,9 @@ pub further_part : (count low high : ℕ) → Part (Further count low high) any 
 further_part zero low high = no_further low high
 further_part (suc count) low high = same_texts
     (same_reader
-      (then_part (Tested (is_within low high)) any (test_in (is_within low high)) (λ b n. Further count 128 191) any (λ b n. followers_in count 128 191)
-        (test_part (is_within low high)) (λ b n. further_part count 128 191) (λ b u h. some_further count) (λ b n a w x h k. StopsAt-any (w ++ x)))
-      (further_step count low high))
+    (then_part (Tested (is_within low high)) any (test_in (is_within low high)) (λ b n. Further count 128 191) any (λ b n. followers_in count 128 191)
+    (test_part (is_within low high)) (λ b n. further_part count 128 191) (λ b u h. some_further count) (λ b n a w x h k. StopsAt-any (w ++ x)))
+    (further_step count low high))
     (λ a u h. further_to count low high a u h) (λ a u h. further_back count low high a u h)
 
 -- a character of at most so many bytes
@@ -158,27 +158,35 @@ char_step room (b ∷ s) = char_cond b s (leads room b)
 
 char_to : (room : ℕ) (a : Unit {0}) (u : List ℕ) → Both (Tested (leads room)) Behind_lead a u → Char room a u
 char_to room a u h = record {
-  lead = h.a; more = h.w; is = and-left (is_lead h.a) (nat_lt (continuation_len h.a) room) h.first.is;
+  lead = h.a;
+  more = h.w;
+  is = and-left (is_lead h.a) (nat_lt (continuation_len h.a) room) h.first.is;
   fits = ltb-true (continuation_len h.a) room (and-right (is_lead h.a) (nat_lt (continuation_len h.a) room) h.first.is);
-  follows = h.second; text = h.text ∙ ap (λ (t : List ℕ). t ++ h.w) h.first.text;
+  follows = h.second;
+  text = h.text ∙ ap (λ (t : List ℕ). t ++ h.w) h.first.text;
 }
 
 char_back : (room : ℕ) (a : Unit {0}) (u : List ℕ) → Char room a u → Both (Tested (leads room)) Behind_lead a u
 char_back room a u h = record {
-  a = h.lead; u = h.lead ∷ []; w = h.more;
+  a = h.lead;
+  u = h.lead ∷ [];
+  w = h.more;
   first = record { is = and-both (is_lead h.lead) (nat_lt (continuation_len h.lead) room) h.is (lt-ltb (continuation_len h.lead) room h.fits); text = refl };
-  second = h.follows; text = h.text;
+  second = h.follows;
+  text = h.text;
 }
 
 least_fits : (b : ℕ) → is_within (second_byte_min b) (second_byte_max b) (second_byte_min b) ≡ true
 least_fits b = within (second_byte_min b) (second_byte_max b) (second_byte_min b) (omega arith)
     (cond_both (b == 237) 159 (cond (b == 244) 143 191) (λ m. second_byte_min b ≤ m) (λ e. low b e) (λ e. cond_both (b == 244) 143 191 (λ m. second_byte_min b ≤ m) (λ f. low' b f) (λ f. most b))) where
-  low : (b : ℕ) → (b == 237) ≡ true → second_byte_min b ≤ 159
-  low b e = subst (λ (n : ℕ). second_byte_min n ≤ 159) (sym (eqb-true b 237 e)) (omega arith)
-  low' : (b : ℕ) → (b == 244) ≡ true → second_byte_min b ≤ 143
-  low' b e = subst (λ (n : ℕ). second_byte_min n ≤ 143) (sym (eqb-true b 244 e)) (omega arith)
-  most : (b : ℕ) → second_byte_min b ≤ 191
-  most b = cond_both (b == 224) 160 (cond (b == 240) 144 128) (λ m. m ≤ 191) (λ e. omega arith) (λ e. cond_both (b == 240) 144 128 (λ m. m ≤ 191) (λ f. omega arith) (λ f. omega arith))
+      low : (b : ℕ) → (b == 237) ≡ true → second_byte_min b ≤ 159
+      low b e = subst (λ (n : ℕ). second_byte_min n ≤ 159) (sym (eqb-true b 237 e)) (omega arith)
+
+      low' : (b : ℕ) → (b == 244) ≡ true → second_byte_min b ≤ 143
+      low' b e = subst (λ (n : ℕ). second_byte_min n ≤ 143) (sym (eqb-true b 244 e)) (omega arith)
+
+      most : (b : ℕ) → second_byte_min b ≤ 191
+      most b = cond_both (b == 224) 160 (cond (b == 240) 144 128) (λ m. m ≤ 191) (λ e. omega arith) (λ e. cond_both (b == 240) 144 128 (λ m. m ≤ 191) (λ f. omega arith) (λ f. omega arith))
 
 some_behind_at : (b n : ℕ) → Some_text (Further n (second_byte_min b) (second_byte_max b))
 some_behind_at b zero = record { b = done; w = []; is = no_follow }
@@ -189,10 +197,10 @@ some_behind_at b (suc n) =
 pub char_part : (room : ℕ) → Part (Char room) any (character_in room)
 char_part room = same_texts
     (same_reader
-      (then_part (Tested (leads room)) any (test_in (leads room)) Behind_lead any (λ b n. followers_in (continuation_len b) (second_byte_min b) (second_byte_max b))
-        (test_part (leads room)) (λ b n. further_part (continuation_len b) (second_byte_min b) (second_byte_max b)) (λ b u h. some_behind_at b (continuation_len b))
-        (λ b n a w x h k. StopsAt-any (w ++ x)))
-      (char_step room))
+    (then_part (Tested (leads room)) any (test_in (leads room)) Behind_lead any (λ b n. followers_in (continuation_len b) (second_byte_min b) (second_byte_max b))
+    (test_part (leads room)) (λ b n. further_part (continuation_len b) (second_byte_min b) (second_byte_max b)) (λ b u h. some_behind_at b (continuation_len b))
+    (λ b n a w x h k. StopsAt-any (w ++ x)))
+    (char_step room))
     (λ a u h. char_to room a u h) (λ a u h. char_back room a u h)
 
 char_head : (room : ℕ) (a : Unit {0}) (u : List ℕ) → Char room a u → Head any u
@@ -204,9 +212,9 @@ no_room [] = refl
 no_room (b ∷ s) =
     ap (λ (v : Bool). cond (is_lead b && v) (followers_in (continuation_len b) (second_byte_min b) (second_byte_max b) s) (stop (b ∷ s))) (le-ltb (continuation_len b) 0 (omega arith))
     ∙ no_room_at b s (is_lead b) where
-  no_room_at : (b : ℕ) (s : List ℕ) (v : Bool) → cond (v && false) (followers_in (continuation_len b) (second_byte_min b) (second_byte_max b) s) (stop (b ∷ s)) ≡ stop (b ∷ s)
-  no_room_at b s true = refl
-  no_room_at b s false = refl
+      no_room_at : (b : ℕ) (s : List ℕ) (v : Bool) → cond (v && false) (followers_in (continuation_len b) (second_byte_min b) (second_byte_max b) s) (stop (b ∷ s)) ≡ stop (b ∷ s)
+      no_room_at b s true = refl
+      no_room_at b s false = refl
 
 pub some_char : (room : ℕ) → Some_text (Char (suc room))
 some_char room = record { b = done; w = 65 ∷ []; is = record { lead = 65; more = []; is = refl; fits = omega arith; follows = no_follow; text = refl } }
@@ -278,7 +286,7 @@ utf8_items zero room (c ∷ cs) s names short few =
 utf8_items (suc most) room (c ∷ cs) s names short few =
     let char = front_char room c (encodes cs) (and-left (scalar c) (scalars cs) s) names short in
     let rest = utf8_items most (room - length (encode c)) cs (and-right (scalar c) (scalars cs) s) (list_all-back is_name_byte (encode c) (encodes cs) names)
-      (omega (arith, short, length-append (encode c) (encodes cs))) (omega (arith, few, char.1, length-append (encode c) (encodes cs))) in
+    (omega (arith, short, length-append (encode c) (encodes cs))) (omega (arith, few, char.1, length-append (encode c) (encodes cs))) in
     record { xs = done ∷ rest.xs; is = one_more (encode c) (encodes cs) char.0 rest.is }
 
 -- the text of a part as its value
@@ -312,7 +320,8 @@ module _ {A : Type 0} {P : A → List ℕ → Type 0} {p : List ℕ → Read A} 
       let rest : [] ≡ w = found_rest {r = found s []} refl k.2 in
       let all : s ≡ one.u = one.text ∙ ap (λ (t : List ℕ). one.u ++ t) (StopsAt-none k.0.rest one.stops) ∙ append-nil one.u in
       record {
-        u = s; is = record { value = sym value; a = k.0.value; is = subst (P k.0.value) (sym all) one.is };
+        u = s;
+        is = record { value = sym value; a = k.0.value; is = subst (P k.0.value) (sym all) one.is };
         text = sym (append-nil s) ∙ ap (λ (t : List ℕ). s ++ t) rest;
         stops = subst (StopsAt none) rest tt;
       }
@@ -376,7 +385,7 @@ words_from [] s names low high = absurd (omega (arith, low))
 words_from (c ∷ cs) s names low high =
     let char = front_char 256 c (encodes cs) (and-left (scalar c) (scalars cs) s) names high in
     let rest = utf8_items 256 (256 - length (encode c)) cs (and-right (scalar c) (scalars cs) s) (list_all-back is_name_byte (encode c) (encodes cs) names)
-      (omega (arith, high, length-append (encode c) (encodes cs))) (omega (arith, high, length-append (encode c) (encodes cs))) in
+    (omega (arith, high, length-append (encode c) (encodes cs))) (omega (arith, high, length-append (encode c) (encodes cs))) in
     (rest.xs, record { a = done; u = encode c; w = encodes cs; first = char.0; second = rest.is; text = refl })
 
 words_back_at : (u cs : List ℕ) → encodes cs ≡ u → scalars cs ≡ true → AreWords u → (xs : List (Unit {0})) × Both (Char 256) Further_chars xs u

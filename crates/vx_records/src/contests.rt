@@ -76,7 +76,12 @@ fn contest(alloc: Global, text: &[u8], place: Room) -> Result<(ContestMarks, &[u
 }
 
 /// Adds the contests that stand here in at most `room` bytes, and nothing more.
-fn further_contests(list: &mut Vec<ContestMarks>, alloc: Global, text: &[u8], place: Room) -> Result<(), Stop>
+fn further_contests(
+    list: &mut Vec<ContestMarks>,
+    alloc: Global,
+    text: &[u8],
+    place: Room,
+) -> Result<(), Stop>
     ensures { MatchResult result
         (λ _. behind list.old.items (each_in contest_in next_room 500 place text.now) ≡ found list.new.items [])
         (λ stop. Stops stop (behind list.old.items (each_in contest_in next_room 500 place text.now))) }

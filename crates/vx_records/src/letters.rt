@@ -21,9 +21,7 @@ fn is_letter(letters: Letters, byte: u8) -> bool
     ensures { result ≡ is_letter_of letters byte }
 {
     match letters {
-        Letters::Batch => {
-            matches!(byte, b'A'..=b'Z' | b'a'..=b'z' | b'0'..=b'9' | b'_' | b'-')
-        }
+        Letters::Batch => { matches!(byte, b'A'..=b'Z' | b'a'..=b'z' | b'0'..=b'9' | b'_' | b'-') }
         Letters::States => matches!(byte, b'm' | b'g' | b'c'),
         Letters::Hex => matches!(byte, b'0'..=b'9' | b'a'..=b'f'),
     }

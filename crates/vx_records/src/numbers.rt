@@ -51,7 +51,13 @@ fn begins(numbers: Numbers, n: u64) -> bool
     ensures small { result ≡ true → n < 2 ^ 32 }
 {
     match numbers {
-        Numbers::Between(least, most) => { if n == 0 { least == 0 } else { reaches(least, most, n) } }
+        Numbers::Between(least, most) => {
+            if n == 0 {
+                least == 0
+            } else {
+                reaches(least, most, n)
+            }
+        }
         Numbers::Fronts => takes(numbers, n) || 1 <= n && n <= 6,
     }
 }

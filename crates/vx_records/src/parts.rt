@@ -58,7 +58,13 @@ pub(crate) fn byte(text: &[u8], wanted: u8) -> Result<&[u8], Stop>
         (λ rest. next_is wanted done text.now ≡ found done rest.now) (λ stop. Stops stop (next_is wanted done text.now)) }
 {
     match text {
-        [first, rest @ ..] => { if *first == wanted { Ok(rest) } else { Err(Stop::Left(text.len())) } }
+        [first, rest @ ..] => {
+            if *first == wanted {
+                Ok(rest)
+            } else {
+                Err(Stop::Left(text.len()))
+            }
+        }
         [] => Err(Stop::Left(0)),
     }
 }

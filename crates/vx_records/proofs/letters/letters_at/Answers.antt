@@ -14,7 +14,7 @@ returns-then-most-count-clause-exact c =
 pub returns-clause-exact : goal.returns-clause-exact
 returns-clause-exact c =
     letters_some (is_letter c.args.letters) c.args.least c.args.most c.letters_here-count.result c.args.text.now c.split_at.result.0.now c.split_at.result.1.now
-      c.letters_here-count.ensures.exact (omega arith) (omega arith) c.split_at.ensures.front c.split_at.ensures.back
+    c.letters_here-count.ensures.exact (omega arith) (omega arith) c.split_at.ensures.front c.split_at.ensures.back
 
 pub returns-clause-letters : goal.returns-clause-letters
 returns-clause-letters c = letters_all (is_letter c.args.letters) c.args.least c.args.most c.args.text.now c.split_at.result.0.now c.split_at.result.1.now (returns-clause-exact c)

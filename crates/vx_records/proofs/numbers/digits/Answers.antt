@@ -25,8 +25,8 @@ loop-byte-preserved c =
     let some : begins c.args.numbers (10 * c.loop-byte.n + (c.in-Some.byte - 48)) ≡ true = cc (c.begins.ensures.exact, c.from.ensures) in
     record {
       same = c.loop-byte.invariant.same
-        ∙ digits_go c.args.numbers c.loop-byte.n c.in-Some.byte c.loop-byte.rest.now c.in-Some.further.now c.in-Some.ensures yes (omega arith) some
-        ∙ ap (λ (d : ℕ). digits_in c.args.numbers (10 * c.loop-byte.n + d) c.in-Some.further.now) (sym c.from.ensures);
+          ∙ digits_go c.args.numbers c.loop-byte.n c.in-Some.byte c.loop-byte.rest.now c.in-Some.further.now c.in-Some.ensures yes (omega arith) some
+          ∙ ap (λ (d : ℕ). digits_in c.args.numbers (10 * c.loop-byte.n + d) c.in-Some.further.now) (sym c.from.ensures);
       small = c.begins.ensures.small (cc);
     }
 

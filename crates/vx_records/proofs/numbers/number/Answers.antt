@@ -16,7 +16,7 @@ returns-then-begins-clause-exact c =
     let yes : is_digit c.in-Some.byte ≡ true = cc (c.is_digit.ensures) in
     let some : begins c.args.numbers (c.in-Some.byte - 48) ≡ true = cc (c.begins.ensures.exact, c.from-digit.ensures) in
     rw (number_goes c.args.numbers c.in-Some.byte c.args.text.now c.in-Some.further.now c.in-Some.ensures yes some
-        ∙ ap (λ (d : ℕ). digits_in c.args.numbers d c.in-Some.further.now) (sym c.from-digit.ensures)) c.digits.ensures.exact
+    ∙ ap (λ (d : ℕ). digits_in c.args.numbers d c.in-Some.further.now) (sym c.from-digit.ensures)) c.digits.ensures.exact
 
 pub returns-else-begins-clause-exact : goal.returns-else-begins-clause-exact
 returns-else-begins-clause-exact c =

@@ -7,7 +7,7 @@ pub returns-in_err-rest : goal.returns-in_err-rest
 returns-in_err-rest c =
     let err = err_from_is_err_and c.from_residual.result c.from_residual.ensures.1 in
     rw err.1 (rw err.2 (stops_on c.in_err-rest.field-0.0 _ _ c.in_err-rest.ensures
-      (λ left e. c.loop-wanted.invariant ∙ word_stops c.args.word.now c.loop-wanted.wanted-index left c.loop-wanted.rest.now (omega arith) e)))
+    (λ left e. c.loop-wanted.invariant ∙ word_stops c.args.word.now c.loop-wanted.wanted-index left c.loop-wanted.rest.now (omega arith) e)))
 
 pub loop-wanted-preserved : goal.loop-wanted-preserved
 loop-wanted-preserved c =
