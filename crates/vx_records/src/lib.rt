@@ -4,9 +4,13 @@
 //! which events have a record, whatever the election. `header` and `encode` give the spellings.
 #![tactic(auto)]
 
+mod decoding;
 mod encoding;
+mod fault;
 
+pub use decoding::{decode, header_digest, records_are_read};
 pub use encoding::{encode, header};
+pub use fault::JournalFault;
 
 #[cfg(test)]
 mod tests;
