@@ -26,8 +26,8 @@ abbrev pub kept_with : Election → List Event → Event → Result (List Event)
 kept_with election kept event =
     if fits election event
     then (if is_done (reply_of election kept event)
-        then Ok (kept ++ event ∷ [])
-        else Err (Refused (reply_of election kept event)))
+    then Ok (kept ++ event ∷ [])
+    else Err (Refused (reply_of election kept event)))
     else Err Unfit
 
 -- each further record is an event's

@@ -2,6 +2,7 @@
 
 ghost use Rattle.vx_journal.specs.Laws.{HeadersBeginJournals, JournalsGrow, JournalsStay, ReadLaws};
 
+use vx_command::acts_in_order;
 use vx_records::records_are_read;
 
 /// The header begins a journal where no record is there.
@@ -19,7 +20,9 @@ pub fn journals_grow()
 /// A step that reads the journal, and then the rest of a command.
 pub fn journals_in_order()
     ensures { ReadLaws }
-{}
+{
+    acts_in_order();
+}
 
 /// Whatever stands of a command's acts, behind each of which the records are a journal, the keeper
 /// holds one.

@@ -9,14 +9,16 @@
 //! command's acts leaves one.
 #![tactic(auto)]
 
+mod fault;
 mod journal;
 mod keeping;
 mod laws;
 mod reading;
 mod replaying;
 
+pub use fault::ReplayFault;
 pub use journal::Journal;
 pub use keeping::{begin_journal, keep_event};
 pub use laws::{headers_begin_journals, journals_grow, journals_in_order, journals_stay};
 pub use reading::read_journal;
-pub use replaying::{ReplayFault, replay};
+pub use replaying::replay;
