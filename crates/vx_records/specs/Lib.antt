@@ -1,3 +1,7 @@
-pub mod Held
-pub mod Reading
 pub mod Records
+pub mod Held
+pub mod Parts
+pub mod Numbers
+pub mod Characters
+pub mod Reading
+pub mod Faults

@@ -2,15 +2,19 @@
 //!
 //! Each event has exactly one spelling, `record_of` of `specs/Records.antt`; `specs/Held.antt` says
 //! which events have a record, whatever the election. `header` and `encode` give the spellings.
+//! `decode` reads them back: `event_in` of `specs/Reading.antt`, which is the event of the record or
+//! the length of the longest front of the bytes that begins a record. `header_digest` does the same
+//! with headers.
 #![tactic(auto)]
 
+mod acts;
 mod decoding;
 mod encoding;
-mod fault;
+mod numbers;
+mod sheets;
 
-pub use decoding::{decode, header_digest, records_are_read};
+pub use decoding::{JournalFault, decode, header_digest};
 pub use encoding::{encode, header};
-pub use fault::JournalFault;
 
 #[cfg(test)]
 mod tests;
