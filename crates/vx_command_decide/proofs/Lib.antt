@@ -1,0 +1,5 @@
+mod Accepted
+mod Found
+mod Numbered
+mod Split
+mod Worded
