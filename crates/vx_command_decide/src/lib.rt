@@ -9,9 +9,11 @@
 
 mod deciding;
 mod events;
+mod laws;
 mod lines;
 mod numbers;
 mod verbs;
 mod words;
 
 pub use deciding::{SCRIPT_LIMIT, decide};
+pub use laws::decide_keeps_journals;

@@ -5,3 +5,4 @@ pub mod Numbers
 pub mod Characters
 pub mod Reading
 pub mod Faults
+pub mod Laws

@@ -10,11 +10,13 @@
 mod acts;
 mod decoding;
 mod encoding;
+mod laws;
 mod numbers;
 mod sheets;
 
 pub use decoding::{JournalFault, decode, header_digest};
 pub use encoding::{encode, header};
+pub use laws::records_are_read;
 
 #[cfg(test)]
 mod tests;
