@@ -1,0 +1,119 @@
+ghost use Rattle.std.specs.Prelude.{◌≡◌, true, false};
+ghost use Rattle.std.specs.Option.{ForSome};
+ghost use Rattle.vx_election_model.specs.Valid.{IsValid};
+ghost use Rattle.vx_command.specs.Devices.{LeavesInputs, LeavesKeeper, LeavesSink, writes_nothing};
+ghost use Rattle.vx_command.specs.Done.{IsDone};
+ghost use Rattle.vx_journal.specs.Steps.{once_read};
+ghost use Rattle.vx_command_decide.specs.Outcome.{begun_outcome, decide_outcome, script_outcome};
+
+use crate::lines::decide_lines;
+use std::alloc::Global;
+use vx_base::Bytes;
+use vx_command::{Halt, acts_in_order, steps_in_order, take_election, take_input};
+use vx_election_model::Election;
+use vx_io::{Inputs, Keeper, Sink};
+use vx_journal::{Journal, begin_journal, journals_in_order, read_journal};
+
+/// The most bytes that a script may have.
+pub const SCRIPT_LIMIT: u64 = 1_048_576;
+
+/// Takes the script and does its lines.
+fn decide_script<I: Inputs, S: Sink, K: Keeper>(
+    alloc: Global,
+    election: &Election,
+    journal: &mut Journal<'_>,
+    script: &str,
+    inputs: &mut I,
+    out: &mut S,
+    keeper: &mut K,
+) -> Result<(), Halt>
+    requires valid { IsValid election.now }
+    requires same { journal.old.center.election ≡ election.now }
+    ensures done { ForSome (I.held inputs.old) (λ files.
+        IsDone (script_outcome election.now journal.old.center.events (files script.now))
+        (S.taken out.old) (S.taken out.new) (K.held keeper.old) (K.held keeper.new) result) }
+    ensures inputs { LeavesInputs (I.held inputs.old) (I.held inputs.new)
+        (I.faults inputs.old) (I.faults inputs.new) result }
+    ensures sink { LeavesSink (S.faults out.old) (S.faults out.new) result }
+    ensures keeper { LeavesKeeper (K.faults keeper.old) (K.faults keeper.new) result }
+    ensures late { writes_nothing false result ≡ false }
+{
+    steps_in_order::<Bytes>();
+    let bytes = take_input(Bytes::new(alloc), inputs, script, 2, SCRIPT_LIMIT)?;
+    decide_lines(alloc, election, journal, bytes.as_slice(), out, keeper)
+}
+
+/// Begins the journal where no record was there, and does the script.
+fn decide_begun<I: Inputs, S: Sink, K: Keeper>(
+    alloc: Global,
+    election: &Election,
+    journal: &mut Journal<'_>,
+    script: &str,
+    inputs: &mut I,
+    out: &mut S,
+    keeper: &mut K,
+) -> Result<(), Halt>
+    requires valid { IsValid election.now }
+    requires same { journal.old.center.election ≡ election.now }
+    ensures done { ForSome (I.held inputs.old) (λ files.
+        IsDone (begun_outcome election.now (files script.now) journal.old)
+        (S.taken out.old) (S.taken out.new) (K.held keeper.old) (K.held keeper.new) result) }
+    ensures inputs { LeavesInputs (I.held inputs.old) (I.held inputs.new)
+        (I.faults inputs.old) (I.faults inputs.new) result }
+    ensures sink { LeavesSink (S.faults out.old) (S.faults out.new) result }
+    ensures keeper { LeavesKeeper (K.faults keeper.old) (K.faults keeper.new) result }
+    ensures late { writes_nothing false result ≡ false }
+{
+    acts_in_order();
+    begin_journal(alloc, election, journal, keeper)?;
+    decide_script(alloc, election, journal, script, inputs, out, keeper)
+}
+
+/// Reads the journal and does the script.
+fn decide_for<I: Inputs, S: Sink, K: Keeper>(
+    alloc: Global,
+    election: &Election,
+    script: &str,
+    inputs: &mut I,
+    out: &mut S,
+    keeper: &mut K,
+) -> Result<(), Halt>
+    requires { IsValid election.now }
+    ensures done { ForSome (I.held inputs.old) (λ files. ForSome (K.held keeper.old) (λ records.
+        IsDone (once_read election.now records (begun_outcome election.now (files script.now)))
+        (S.taken out.old) (S.taken out.new) (K.held keeper.old) (K.held keeper.new) result)) }
+    ensures nothing_written { writes_nothing false result ≡ true → S.taken out.new ≡ S.taken out.old }
+    ensures inputs { LeavesInputs (I.held inputs.old) (I.held inputs.new)
+        (I.faults inputs.old) (I.faults inputs.new) result }
+    ensures sink { LeavesSink (S.faults out.old) (S.faults out.new) result }
+    ensures keeper { LeavesKeeper (K.faults keeper.old) (K.faults keeper.new) result }
+{
+    journals_in_order();
+    let mut journal = read_journal(alloc, election, keeper)?;
+    decide_begun(alloc, election, &mut journal, script, inputs, out, keeper)
+}
+
+/// Does the command `decide`: takes the election under its name, which is word 1, reads its journal
+/// and begins it where it is empty, takes the script under its name, which is word 2, and does its
+/// lines. Lines are counted from 1.
+pub fn decide<I: Inputs, S: Sink, K: Keeper>(
+    alloc: Global,
+    election: &str,
+    script: &str,
+    inputs: &mut I,
+    out: &mut S,
+    keeper: &mut K,
+) -> Result<(), Halt>
+    ensures done { ForSome (I.held inputs.old) (λ files. ForSome (K.held keeper.old) (λ records.
+        IsDone (decide_outcome election.now script.now files records)
+        (S.taken out.old) (S.taken out.new) (K.held keeper.old) (K.held keeper.new) result)) }
+    ensures nothing_written { writes_nothing false result ≡ true → S.taken out.new ≡ S.taken out.old }
+    ensures inputs { LeavesInputs (I.held inputs.old) (I.held inputs.new)
+        (I.faults inputs.old) (I.faults inputs.new) result }
+    ensures sink { LeavesSink (S.faults out.old) (S.faults out.new) result }
+    ensures keeper { LeavesKeeper (K.faults keeper.old) (K.faults keeper.new) result }
+{
+    steps_in_order::<Election>();
+    let given = take_election(alloc, inputs, election)?;
+    decide_for(alloc, &given, script, inputs, out, keeper)
+}

@@ -1,0 +1,19 @@
+//! The command `decide`: the decisions of a script, line by line. Each accepted line's event is
+//! appended to the journal, and then its line is written; the first line that is refused ends the
+//! command, and all before it stands.
+//!
+//! What a line says stands in `specs/Script.antt`, what the command does as a whole in
+//! `specs/Outcome.antt`. That the journal stays one whatever stands of the command is the law of
+//! `specs/Laws.antt`.
+#![tactic(auto)]
+
+mod deciding;
+mod events;
+mod laws;
+mod lines;
+mod numbers;
+mod verbs;
+mod words;
+
+pub use deciding::{SCRIPT_LIMIT, decide};
+pub use laws::decide_keeps_journals;

@@ -1,0 +1,4 @@
+mod Lined
+mod Passed
+mod Reasoned
+mod Walked

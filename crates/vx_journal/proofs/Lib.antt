@@ -1,0 +1,5 @@
+mod Growing
+mod Read
+mod Recorded
+mod Replayed
+mod Standing

@@ -1,0 +1,5 @@
+pub mod Replay
+pub mod Replaying
+pub mod Keeping
+pub mod Steps
+pub mod Laws
