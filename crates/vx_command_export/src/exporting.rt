@@ -1,0 +1,110 @@
+ghost use Rattle.std.specs.Prelude.{◌≡◌, Bool, true, false, Ok};
+ghost use Rattle.std.specs.Option.{ForSome};
+ghost use Rattle.vx_base.specs.Refusals.{Gives};
+ghost use Rattle.vx_election_model.specs.Valid.{IsValid};
+ghost use Rattle.vx_command.specs.Acts.{writing};
+ghost use Rattle.vx_command.specs.Devices.{LeavesInputs, LeavesKeeper, LeavesSink, TouchesNothing, TouchesSink, is_read_fault, writes_nothing};
+ghost use Rattle.vx_command.specs.Done.{IsDone, IsWritten};
+ghost use Rattle.vx_command.specs.Steps.{is_no_memory};
+ghost use Rattle.vx_journal.specs.Steps.{once_read};
+ghost use Rattle.vx_cvr.specs.Report.{report_of};
+ghost use Rattle.vx_command_export.specs.Outcome.{export_outcome};
+
+use std::alloc::Global;
+use vx_base::Bytes;
+use vx_center::Center;
+use vx_command::{Halt, acts_in_order, steps_in_order, take_election, write_text};
+use vx_cvr::report;
+use vx_election_model::Election;
+use vx_io::{Inputs, Keeper, Sink};
+use vx_journal::{journals_in_order, read_journal};
+
+/// The report of a journal's events.
+fn text_of(
+    alloc: Global,
+    election: &Election,
+    center: &Center<'_>,
+    moment: &str,
+    device: &str,
+) -> Result<Bytes, Halt>
+    requires valid { IsValid election.now }
+    requires election { center.now.election ≡ election.now }
+    ensures exact { Gives is_no_memory result
+        (Ok (report_of election.now center.now.events moment.now device.now)) }
+    ensures devices { TouchesNothing result }
+{
+    Ok(report(alloc, election, center, moment, device)?)
+}
+
+/// Writes the report.
+fn write_report<S: Sink>(
+    alloc: Global,
+    election: &Election,
+    center: &Center<'_>,
+    moment: &str,
+    device: &str,
+    out: &mut S,
+) -> Result<(), Halt>
+    requires valid { IsValid election.now }
+    requires election { center.now.election ≡ election.now }
+    ensures done { IsWritten (writing (report_of election.now center.now.events moment.now device.now))
+        (S.taken out.old) (S.taken out.new) result }
+    ensures sink { TouchesSink (S.faults out.old) (S.faults out.new) result }
+    ensures late { (first : Bool) → writes_nothing first result ≡ false }
+{
+    acts_in_order();
+    let text = text_of(alloc, election, center, moment, device)?;
+    write_text(out, text.as_slice())
+}
+
+/// Reads the journal and writes its report.
+fn export_of<S: Sink, K: Keeper>(
+    alloc: Global,
+    election: &Election,
+    moment: &str,
+    device: &str,
+    out: &mut S,
+    keeper: &mut K,
+) -> Result<(), Halt>
+    requires { IsValid election.now }
+    ensures done { ForSome (K.held keeper.old) (λ records.
+        IsDone (once_read election.now records
+        (λ journal. writing (report_of election.now journal.center.events moment.now device.now)))
+        (S.taken out.old) (S.taken out.new) (K.held keeper.old) (K.held keeper.new) result) }
+    ensures nothing_written { writes_nothing false result ≡ true → S.taken out.new ≡ S.taken out.old }
+    ensures held { K.held keeper.new ≡ K.held keeper.old }
+    ensures no_read_fault { is_read_fault result ≡ false }
+    ensures sink { LeavesSink (S.faults out.old) (S.faults out.new) result }
+    ensures keeper { LeavesKeeper (K.faults keeper.old) (K.faults keeper.new) result }
+{
+    journals_in_order();
+    let journal = read_journal(alloc, election, keeper)?;
+    write_report(alloc, election, &journal.center, moment, device, out)
+}
+
+/// Does the command `export`: takes the election under its name, which is word 1, reads its journal,
+/// and writes the report of its events, with a moment (`YYYY-MM-DDTHH:MM:SSZ`) and the device that
+/// reports (its UUID in lower case with hyphens).
+pub fn export<I: Inputs, S: Sink, K: Keeper>(
+    alloc: Global,
+    election: &str,
+    moment: &str,
+    device: &str,
+    inputs: &mut I,
+    out: &mut S,
+    keeper: &mut K,
+) -> Result<(), Halt>
+    ensures done { ForSome (I.held inputs.old) (λ files. ForSome (K.held keeper.old) (λ records.
+        IsDone (export_outcome election.now moment.now device.now files records)
+        (S.taken out.old) (S.taken out.new) (K.held keeper.old) (K.held keeper.new) result)) }
+    ensures nothing_written { writes_nothing false result ≡ true → S.taken out.new ≡ S.taken out.old }
+    ensures held { K.held keeper.new ≡ K.held keeper.old }
+    ensures inputs { LeavesInputs (I.held inputs.old) (I.held inputs.new)
+        (I.faults inputs.old) (I.faults inputs.new) result }
+    ensures sink { LeavesSink (S.faults out.old) (S.faults out.new) result }
+    ensures keeper { LeavesKeeper (K.faults keeper.old) (K.faults keeper.new) result }
+{
+    steps_in_order::<Election>();
+    let given = take_election(alloc, inputs, election)?;
+    export_of(alloc, &given, moment, device, out, keeper)
+}
