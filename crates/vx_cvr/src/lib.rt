@@ -14,3 +14,6 @@ mod sheets;
 mod votes;
 
 pub use reporting::report;
+
+#[cfg(test)]
+mod tests;
