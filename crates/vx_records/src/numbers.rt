@@ -51,13 +51,10 @@ fn begins(numbers: Numbers, n: u64) -> bool
     ensures small { result ≡ true → n < 2 ^ 32 }
 {
     match numbers {
-        Numbers::Between(least, most) => {
-            if n == 0 {
-                least == 0
-            } else {
-                reaches(least, most, n)
-            }
-        }
+        Numbers::Between(least, most) => match n {
+            0 => least == 0,
+            _ => reaches(least, most, n),
+        },
         Numbers::Fronts => takes(numbers, n) || 1 <= n && n <= 6,
     }
 }
