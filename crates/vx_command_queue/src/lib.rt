@@ -10,3 +10,6 @@ mod queueing;
 mod walk;
 
 pub use queueing::queue;
+
+#[cfg(test)]
+mod tests;

@@ -1,0 +1,96 @@
+use crate::{ReplayFault, begin_journal, keep_event, read_journal, replay};
+use std::alloc::Global;
+use std::test::Fail;
+use vx_election::read_election;
+use vx_events::{Event, Key};
+use vx_io::{KeeperCalls, MemKeeper, Records};
+use vx_json::Text;
+use vx_refusals::Reply;
+
+const TOWN: &str =
+    r#"{"title":"Town","date":"2024-11-05","districts":[{"id":"d","name":"Town"}],"precincts":[{"id":"p","name":"North"}],"contests":[{"id":"mayor","type":"candidate","districtId":"d","title":"Mayor","seats":1,"candidates":[{"id":"a","name":"Ada"},{"id":"b","name":"Bo"}]}],"ballotStyles":[{"id":"s","precincts":["p"],"districts":["d"]}]}"#;
+
+/// The first record of the town's journal, with a sum that another program gave.
+const HEADER: &str = "1 election 16cbf4c3a45dae96ed01a82ac6d66a24812b6309d97421e2dc4282725ade6e70";
+
+const OTHER: &str = "1 election 06cbf4c3a45dae96ed01a82ac6d66a24812b6309d97421e2dc4282725ade6e70";
+
+const SHORT: &str = "1 election 16cbf4c3a45dae96ed01a82ac6d66a24812b6309d97421e2dc4282725ade6e7";
+
+/// A keeper of records in memory.
+fn keeper_of(alloc: Global, records: &[&str]) -> Result<MemKeeper, Fail> {
+    let mut kept = Records::new(alloc);
+    for record in records {
+        kept.push(record.as_bytes())?;
+    }
+    Ok(MemKeeper::new(kept, KeeperCalls::new(alloc)))
+}
+
+/// What the town's journal of these records is read as.
+fn read_as(alloc: Global, records: &[&str]) -> Result<String, Fail> {
+    let election = read_election(alloc, TOWN.as_bytes())?;
+    let mut keeper = keeper_of(alloc, records)?;
+    let text = match replay(alloc, &election, &mut keeper) {
+        Ok(center) => format!(in alloc; "{} events", center.events().len())?,
+        Err(ReplayFault::Stopped(index, stop)) => format!(in alloc; "{index} {stop}")?,
+        Err(ReplayFault::Failed) => format!(in alloc; "failed")?,
+        Err(ReplayFault::OutOfMemory) => format!(in alloc; "no memory")?,
+    };
+    Ok(text)
+}
+
+#[test]
+fn journals_are_read_or_stopped(rt: HostRuntime) -> Result<(), Fail> {
+    let sheet = "1 add b1 1 0 1 precinct 0:cc";
+    let rows: [(&[&str], &str); 12] = [
+        (&[], "0 events"),
+        (&[HEADER], "0 events"),
+        (&[HEADER, sheet], "1 events"),
+        (&[HEADER, sheet, "1 claim 1 b1 1"], "2 events"),
+        (&[HEADER, sheet, sheet], "2 1 repeated 0"),
+        (&[HEADER, "1 add b1 1 5 1 precinct"], "1 unfit"),
+        (&[HEADER, "1 claim 01 b1 1"], "1 bad 8"),
+        (&[HEADER, "1 claim 1 b1 1 "], "1 bad 14"),
+        (&[HEADER, HEADER], "1 bad 2"),
+        (&[""], "0 bad 0"),
+        (&[SHORT], "0 bad 74"),
+        (&[OTHER, sheet], "0 other election"),
+    ];
+    for (records, expected) in &rows {
+        let read = read_as(rt.alloc(), records)?;
+        assert_eq!(rt; read.as_str(), *expected);
+    }
+    Ok(())
+}
+
+/// Asks a journal of an event, and answers what its machine replies.
+fn asked(alloc: Global, keeper: &mut MemKeeper, event: &Event) -> Result<Option<Reply>, Fail> {
+    let election = read_election(alloc, TOWN.as_bytes())?;
+    let Ok(mut journal) = read_journal(alloc, &election, keeper) else {
+        return Ok(None);
+    };
+    if begin_journal(alloc, &election, &journal, keeper).is_err() || !journal.center.fits(event) {
+        return Ok(None);
+    }
+    match keep_event(alloc, &mut journal, keeper, event) {
+        Ok(reply) => Ok(Some(reply)),
+        Err(_halt) => Ok(None),
+    }
+}
+
+#[test]
+fn a_journal_is_begun_once_and_keeps_what_is_done(rt: HostRuntime) -> Result<(), Fail> {
+    let alloc = rt.alloc();
+    let key = Key {
+        batch: Text::from_str(alloc, "b1")?,
+        number: 1,
+    };
+    let claim = Event::Claim { station: 3, key };
+    let mut keeper = keeper_of(alloc, &[])?;
+    assert_eq!(rt; asked(alloc, &mut keeper, &claim)?, Some(Reply::NoSheet));
+    assert_eq!(rt; keeper.records().len(), 1);
+    let mut keeper = keeper_of(alloc, &[HEADER, "1 add b1 1 0 1 precinct 0:cc"])?;
+    assert_eq!(rt; asked(alloc, &mut keeper, &claim)?, Some(Reply::Done));
+    assert_eq!(rt; keeper.records().len(), 3);
+    Ok(())
+}
