@@ -1,13 +1,11 @@
 //! What `decide` leaves of a journal. This function does nothing; its contract is the law.
 
-ghost use Rattle.vx_records.specs.Laws.{RecordLaws};
 ghost use Rattle.vx_command_decide.specs.Laws.{DecideKeepsJournals};
 
 use vx_journal::{headers_begin_journals, journals_grow};
 
 /// A journal stays one behind each record that `decide` appends.
 pub fn decide_keeps_journals()
-    requires { RecordLaws }
     ensures { DecideKeepsJournals }
 {
     headers_begin_journals();

@@ -1,6 +1,5 @@
 //! Laws of journals. These functions do nothing; their contracts are the laws.
 
-ghost use Rattle.vx_records.specs.Laws.{RecordLaws};
 ghost use Rattle.vx_journal.specs.Laws.{HeadersBeginJournals, JournalsGrow, JournalsStay, ReadLaws};
 
 use vx_command::acts_in_order;
@@ -13,7 +12,6 @@ pub fn headers_begin_journals()
 
 /// A journal grows by the record of an event that fits, has a record, and is answered with Done.
 pub fn journals_grow()
-    requires { RecordLaws }
     ensures { JournalsGrow }
 {
     records_are_read();
