@@ -1,0 +1,5 @@
+pub mod Sums
+pub mod Paired
+pub mod Short
+pub mod Planned
+pub mod Kept

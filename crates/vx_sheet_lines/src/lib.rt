@@ -7,10 +7,12 @@
 
 mod came;
 mod lines;
+mod reading;
 
 
 pub use came::Came;
 pub use lines::{push_counted, push_lines, reason_word};
+pub use reading::{PageRead, read_sheet};
 
 
 
