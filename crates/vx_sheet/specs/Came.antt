@@ -9,8 +9,8 @@ use Rattle.vx_scan_model.specs.declared.reading.PageReading.{PageReading}
 use Rattle.vx_scan_model.specs.declared.fault.PageFault.{PageFault}
 use Rattle.vx_sheet.specs.declared.fault.SheetFault.{SheetFault}
 use Rattle.vx_sheet.specs.Sheet.{sheet_of}
-use Rattle.vx_sheet_lines.specs.declared.came.Came.{Came}
-use Rattle.vx_sheet_lines.specs.declared.came.Came.TheVariants.{Unread, Unpaired}
+use Rattle.vx_sheet.specs.declared.came.Came.{Came}
+use Rattle.vx_sheet.specs.declared.came.Came.TheVariants.{Unread, Unpaired}
 
 -- the plan of a card, which is there for a card that was read
 abbrev pub plan_there : ℕ → Result CardPlan LayoutFault → CardPlan

@@ -2,8 +2,8 @@ ghost use Rattle.std.specs.Prelude.{◌≡◌, ◌<◌, ◌+◌, ◌^◌, IfOk, 
 ghost use Rattle.vx_election_model.specs.Valid.{IsValid};
 ghost use Rattle.vx_layout.specs.Plan.{plan_of};
 ghost use Rattle.vx_layout.specs.Plans.{ArePlansOf};
-ghost use Rattle.vx_sheet_lines.specs.Came.{sheet_read};
-ghost use Rattle.vx_sheet_lines.specs.Shows.{CanBeAdded, IsOfPage, PlansShowOptions};
+ghost use Rattle.vx_sheet.specs.Came.{sheet_read};
+ghost use Rattle.vx_sheet.specs.Shows.{CanBeAdded, IsOfPage, PlansShowOptions};
 
 use crate::came::Came;
 use std::alloc::Global;
@@ -12,7 +12,9 @@ use vx_election_model::Election;
 use vx_layout::{CardPlan, CardPlans};
 use vx_rules::SheetMarks;
 use vx_scan_model::{PageFault, PageReading, named_pages_stand_on_the_grid};
-use vx_sheet::{SheetFault, pair, sheets_fit};
+use crate::fault::SheetFault;
+use crate::laws::sheets_fit;
+use crate::pairing::pair;
 
 /// What an image is read as, or its first fault.
 pub type PageRead = Result<PageReading, PageFault>;

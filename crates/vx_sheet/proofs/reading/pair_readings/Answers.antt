@@ -1,5 +1,5 @@
-use Rattle.vx_sheet_lines.proofs.Kept.{named-there, sheet-added}
-use Rattle.vx_sheet_lines.proofs.reading.pair_readings.Goals as goal
+use Rattle.vx_sheet.proofs.Kept.{named-there, sheet-added}
+use Rattle.vx_sheet.proofs.reading.pair_readings.Goals as goal
 
 pub card_plan-plan-requires-clause-there : goal.card_plan-plan-requires-clause-there
 card_plan-plan-requires-clause-there c = named-there c.args.election.now c.args.first.now c.requires.first

@@ -15,7 +15,7 @@ use Rattle.vx_scan_model.specs.declared.reading.PageReading.{PageReading}
 use Rattle.vx_scan_model.specs.Named.{page_numbered}
 use Rattle.vx_sheet.specs.declared.fault.SheetFault.TheVariants.{CardsDiffer, PagesNotFacing, KindsDiffer}
 use Rattle.vx_sheet.specs.Sheet.{has_bubble, state_on, states_on, bubbles_of, bubbles_on, is_on, marks_of, marks_if_on, contest_limit, sheet_with, either_sheet, are_facing, are_alike, alike_sheet, facing_sheet, sheet_of}
-use Rattle.vx_sheet_lines.proofs.Sums.{sums-below, sums-both, sums-nothing, sums-one, at-one}
+use Rattle.vx_sheet.proofs.Sums.{sums-below, sums-both, sums-nothing, sums-one, at-one}
 
 -- a reading is of a page of the plan, with a state for each of its bubbles, which are fewer than 1,000
 pub record IsOf (plan : CardPlan) (reading : PageReading) : Type 0 where

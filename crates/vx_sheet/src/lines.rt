@@ -3,8 +3,8 @@ ghost use Rattle.std.specs.List.{flat_map, list_all};
 ghost use Rattle.std.specs.Option.{option_copied};
 ghost use Rattle.vx_election_model.specs.Options.{options_of};
 ghost use Rattle.vx_events.specs.Fits.{is_read};
-ghost use Rattle.vx_sheet_lines.specs.Lines as lines;
-ghost use Rattle.vx_sheet_lines.specs.Shows.{IsReadAll};
+ghost use Rattle.vx_sheet.specs.Lines as lines;
+ghost use Rattle.vx_sheet.specs.Shows.{IsReadAll};
 
 use crate::came::Came;
 use vx_base::OutOfMemory;

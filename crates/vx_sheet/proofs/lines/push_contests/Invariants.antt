@@ -1,7 +1,7 @@
 use Rattle.std.proofs.Common.{◌≡◌, ◌++◌, drop, string_bytes}
 use Rattle.std.specs.List.{flat_map}
-use Rattle.vx_sheet_lines.specs.Lines.{contest_lines}
-use Rattle.vx_sheet_lines.proofs.lines.push_contests.Given as goal
+use Rattle.vx_sheet.specs.Lines.{contest_lines}
+use Rattle.vx_sheet.proofs.lines.push_contests.Given as goal
 
 -- the text so far and the lines of the contests that are left
 abbrev pub invariant-loop-marks : goal.invariant-loop-marks

@@ -18,8 +18,8 @@ use Rattle.vx_events.specs.declared.event.Event.TheVariants.{Add}
 use Rattle.vx_events.specs.declared.key.Key.{Key}
 use Rattle.vx_records.specs.Records.{marks_word, record_of, spaced, state_letter}
 use Rattle.vx_sheet.specs.Sheet.{bubbles_on, is_on, marks_if_on, marks_of, states_on, contest_limit, sheet_with}
-use Rattle.vx_sheet_lines.proofs.Sums.{sums-below, sums-both, sums-fives, sums-laid}
-use Rattle.vx_sheet_lines.proofs.Paired.{IsOf, states-few}
+use Rattle.vx_sheet.proofs.Sums.{sums-below, sums-both, sums-fives, sums-laid}
+use Rattle.vx_sheet.proofs.Paired.{IsOf, states-few}
 
 -- how long a contest stands in a record, with the blank before it
 abbrev pub weight : ContestMarks → ℕ

@@ -1,7 +1,7 @@
 use Rattle.std.proofs.Common.{ℕ, List, ◌++◌, ◌∙◌, ap₂, string_bytes}
 use Rattle.vx_election_model.specs.declared.reason.ReasonSet.{ReasonSet}
-use Rattle.vx_sheet_lines.specs.Lines.{reason_lines}
-use Rattle.vx_sheet_lines.proofs.lines.push_marks.Goals as goal
+use Rattle.vx_sheet.specs.Lines.{reason_lines}
+use Rattle.vx_sheet.proofs.lines.push_marks.Goals as goal
 
 pub returns : goal.returns
 returns c =

@@ -13,8 +13,8 @@ use Rattle.vx_records.specs.Held.{IsHeld}
 use Rattle.vx_rules.specs.declared.marks.SheetMarks.{SheetMarks}
 use Rattle.vx_scan_model.specs.declared.reading.PageReading.{PageReading}
 use Rattle.vx_scan_model.specs.Named.{named_plan}
-use Rattle.vx_sheet_lines.specs.declared.came.Came.{Came}
-use Rattle.vx_sheet_lines.specs.declared.came.Came.TheVariants.{Added}
+use Rattle.vx_sheet.specs.declared.came.Came.{Came}
+use Rattle.vx_sheet.specs.declared.came.Came.TheVariants.{Added}
 
 -- a sheet that was added has a state for each option of each of its contests, which are the election's
 abbrev pub IsReadAll : Election → Came → Type 0

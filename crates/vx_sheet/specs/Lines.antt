@@ -14,8 +14,8 @@ use Rattle.vx_rules.specs.declared.marks.SheetMarks.{SheetMarks}
 use Rattle.vx_rules.specs.Reasons.{is_blank_sheet, reasons_of}
 use Rattle.vx_scan_model.specs.FaultTexts as page
 use Rattle.vx_sheet.specs.FaultTexts as sheet
-use Rattle.vx_sheet_lines.specs.declared.came.Came.{Came}
-use Rattle.vx_sheet_lines.specs.declared.came.Came.TheVariants.{Added, Repeated, Unread, Unpaired, Single, Full, Beyond}
+use Rattle.vx_sheet.specs.declared.came.Came.{Came}
+use Rattle.vx_sheet.specs.declared.came.Came.TheVariants.{Added, Repeated, Unread, Unpaired, Single, Full, Beyond}
 
 -- a line: its first word, the others each behind a blank, and a line end
 abbrev pub line_of : List ℕ → List (List ℕ) → List ℕ

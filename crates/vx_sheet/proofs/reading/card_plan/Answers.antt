@@ -1,7 +1,7 @@
 use Rattle.std.proofs.Common.{◌<◌, List, Ok, length, get_or, ap, sym, ◌∙◌, arith}
 use Rattle.vx_layout.specs.declared.plan.CardPlan.{CardPlan}
-use Rattle.vx_sheet_lines.proofs.Planned.{card-there}
-use Rattle.vx_sheet_lines.proofs.reading.card_plan.Goals as goal
+use Rattle.vx_sheet.proofs.Planned.{card-there}
+use Rattle.vx_sheet.proofs.reading.card_plan.Goals as goal
 
 pub bounds-as_slice-card : goal.bounds-as_slice-card
 bounds-as_slice-card c =

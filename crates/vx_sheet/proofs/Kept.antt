@@ -32,10 +32,10 @@ use Rattle.vx_sheet.specs.declared.fault.SheetFault.{SheetFault}
 use Rattle.vx_sheet.specs.declared.fault.SheetFault.TheVariants.{CardsDiffer}
 use Rattle.vx_sheet.specs.Laws.{SheetsFit, IsPlanned, IsOfCard}
 use Rattle.vx_sheet.specs.Sheet.{bubbles_of, facing_sheet, sheet_of, sheet_with}
-use Rattle.vx_sheet_lines.specs.Shows.{CanBeAdded, IsOfPage, PlansShowOptions}
-use Rattle.vx_sheet_lines.proofs.Planned.{given-is_ok}
-use Rattle.vx_sheet_lines.proofs.Paired.{HasState, IsOf, contests-have, sheet-either}
-use Rattle.vx_sheet_lines.proofs.Short.{contests-weigh, record-short, weight}
+use Rattle.vx_sheet.specs.Shows.{CanBeAdded, IsOfPage, PlansShowOptions}
+use Rattle.vx_sheet.proofs.Planned.{given-is_ok}
+use Rattle.vx_sheet.proofs.Paired.{HasState, IsOf, contests-have, sheet-either}
+use Rattle.vx_sheet.proofs.Short.{contests-weigh, record-short, weight}
 use Rattle.std.specs.List.{sum_by}
 
 -- a contest has at most 150 options

@@ -1,5 +1,0 @@
-pub mod Sums
-pub mod Paired
-pub mod Short
-pub mod Planned
-pub mod Kept
