@@ -1,0 +1,7 @@
+pub mod Setting
+pub mod Tally
+pub mod Sheets
+pub mod Outcome
+pub mod Reads
+pub mod Gathering
+pub mod Steps

@@ -1,0 +1,81 @@
+ghost use Rattle.std.specs.Prelude.{◌≡◌, ◌≤◌, ◌∷◌, [], All, IfOk, MatchOption, length};
+ghost use Rattle.vx_pbm.specs.Faults.{is_no_memory as is_want_of_memory};
+ghost use Rattle.vx_pbm.specs.Images.{IsWholePage};
+
+use std::alloc::Global;
+use std::marker::Model;
+use vx_base::{Bytes, OutOfMemory};
+use vx_pbm::{Image, PbmFault, PbmReader, what_is_written_reads_back, write_p4};
+
+fn is_no_memory(fault: PbmFault) -> bool
+    ensures { result ≡ is_want_of_memory fault }
+{
+    matches!(fault, PbmFault::OutOfMemory)
+}
+
+/// The last image of a scan, which waits for the next one's first, or none. It keeps a bitmap of its own,
+/// so that its scan may go; it isn't read before its second is there. Contracts see the list of it.
+#[derive(Drop)]
+pub(crate) struct Waiting {
+    bitmap: Bytes,
+}
+
+impl Model for Waiting {
+    ghost use Rattle.std.specs.Prelude.{List, take};
+    ghost use Rattle.vx_plane.specs.Plane.{Page};
+    ghost use Rattle.vx_pbm.specs.Images.{images_of};
+
+    ghost Value = { List Page };
+
+    ghost view = { λ waiting. take 1 (images_of waiting.bitmap).pages };
+}
+
+impl Waiting {
+    /// No image; takes no memory.
+    pub(crate) fn none(alloc: Global) -> Waiting
+        ensures { result ≡ [] }
+    {
+        Waiting {
+            bitmap: Bytes::new(alloc),
+        }
+    }
+
+    /// The first of some images, if there is one.
+    pub(crate) fn of(alloc: Global, images: &[Image<'_>]) -> Result<Waiting, OutOfMemory>
+        requires one { length images.now ≤ 1 }
+        requires whole { All IsWholePage images.now }
+        ensures { IfOk result (λ waiting. waiting ≡ images.now) }
+    {
+        match images {
+            [image, ..] => Waiting::of_image(alloc, image),
+            [] => Ok(Waiting::none(alloc)),
+        }
+    }
+
+    fn of_image(alloc: Global, image: &Image<'_>) -> Result<Waiting, OutOfMemory>
+        requires { IsWholePage image.now }
+        ensures { IfOk result (λ waiting. waiting ≡ image.now ∷ []) }
+    {
+        what_is_written_reads_back();
+        let mut bitmap = Bytes::new(alloc);
+        write_p4(&image.view(), &mut bitmap)?;
+        Ok(Waiting { bitmap })
+    }
+
+    /// The image that waits.
+    pub(crate) fn image(&self, alloc: Global) -> Result<Option<Image<'_>>, OutOfMemory>
+        ensures { IfOk result (λ found. MatchOption found (self.now ≡ []) (λ image. self.now ≡ image ∷ [])) }
+    {
+        let mut reader = PbmReader::new(alloc, self.bitmap.as_slice());
+        match reader.next() {
+            Ok(found) => Ok(found),
+            Err(fault) => {
+                if is_no_memory(fault) {
+                    Err(OutOfMemory)
+                } else {
+                    Ok(None)
+                }
+            }
+        }
+    }
+}
