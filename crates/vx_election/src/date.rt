@@ -1,66 +1,15 @@
-//! Days of the calendar as `YYYY-MM-DD`.
+//! The day of an election among the members of its definition.
 
-ghost use Rattle.std.specs.Prelude.{◌≡◌, ◌+◌, ◌<◌, ◌≤◌, ◌*◌, length, IsTrue};
 ghost use Rattle.serde_json.specs.View.{view};
 ghost use Rattle.vx_base.specs.Refusals.{Gives};
 ghost use Rattle.vx_election.specs.Faults.{is_no_memory};
-ghost use Rattle.vx_election_model.specs.Dates.{are_digits, number_at, has_date_form, is_calendar_day, is_date};
 ghost use Rattle.vx_election.specs.Dates.{date_in};
 
 use crate::fault::ElectionFault;
-use jiff::civil::Date;
 use serde_json::Value;
 use std::alloc::Global;
+use vx_election_model::is_date;
 use vx_json::{Path, Text, string_of};
-
-fn are_digits(text: &[u8], at: usize) -> bool
-    requires { at + 1 < length text.now }
-    ensures { result ≡ are_digits text.now at }
-{
-    text[at].is_ascii_digit() && text[at + 1].is_ascii_digit()
-}
-
-fn number_at(text: &[u8], at: usize) -> u32
-    requires room { at + 1 < length text.now }
-    requires digits { IsTrue (are_digits text.now at) }
-    ensures value { result ≡ number_at text.now at }
-    ensures small { result ≤ 99 }
-{
-    10 * u32::from(text[at] - b'0') + u32::from(text[at + 1] - b'0')
-}
-
-fn has_date_form(text: &[u8]) -> bool
-    ensures { result ≡ has_date_form text.now }
-{
-    text.len() == 10
-        && are_digits(text, 0)
-        && are_digits(text, 2)
-        && text[4] == b'-'
-        && are_digits(text, 5)
-        && text[7] == b'-'
-        && are_digits(text, 8)
-}
-
-fn is_calendar_day(year: u32, month: u32, day: u32) -> bool
-    requires year { year ≤ 9999 }
-    requires month { month ≤ 99 }
-    requires day { day ≤ 99 }
-    ensures { result ≡ is_calendar_day year month day }
-{
-    Date::new(year as i16, month as i8, day as i8).is_ok()
-}
-
-#[tactic(auto, unfolding(vx_election_model::specs::Dates::is_date))]
-fn is_date(text: &str) -> bool
-    ensures { result ≡ is_date text.now }
-{
-    let text = text.as_bytes();
-    if !has_date_form(text) {
-        return false;
-    }
-    let year = 100 * number_at(text, 0) + number_at(text, 2);
-    is_calendar_day(year, number_at(text, 5), number_at(text, 8))
-}
 
 /// The text that the value is, where it is a day.
 #[tactic(auto, unfolding(crate::specs::Dates::date_in))]
@@ -68,7 +17,7 @@ pub(crate) fn date_of(alloc: Global, value: &Value, path: &Path) -> Result<Text,
     ensures { Gives is_no_memory result (date_in (view value.now) path.now) }
 {
     let text = string_of(alloc, value, path)?;
-    if !is_date(text) {
+    if !is_date(text.as_bytes()) {
         return Err(ElectionFault::OutOfRange(path.copy(alloc)?));
     }
     Ok(Text::from_str(alloc, text)?)

@@ -7,6 +7,7 @@
 
 mod choice;
 mod contest;
+mod dates;
 mod election;
 mod indexes;
 mod named;
@@ -15,6 +16,7 @@ mod style;
 
 pub use choice::{Choice, Choices};
 pub use contest::{Contest, Contests};
+pub use dates::{are_digits, is_date, number_at};
 pub use election::Election;
 pub use indexes::Indexes;
 pub use named::{Named, NamedList};

@@ -3,10 +3,12 @@ use Rattle.std.specs.Prelude.{◌≡◌, ◌<◌, ℕ, List, [], ◌∷◌, leng
 use Rattle.std.specs.List.{range_with_len}
 use Rattle.vx_base.specs.Results.{◌>>=◌}
 use Rattle.vx_election_model.specs.declared.election.Election.{Election}
+use Rattle.vx_election_model.specs.Valid.{IsValid}
 use Rattle.vx_styles.specs.Cards.{cards_of}
 use Rattle.vx_layout.specs.declared.plan.CardPlan.{CardPlan}
 use Rattle.vx_layout.specs.declared.fault.CardFault.{CardFault}
 use Rattle.vx_layout.specs.declared.fault.LayoutFault.{LayoutFault}
+use Rattle.vx_layout.specs.Options.{ShowsEachOption, GivesEachContestAPage}
 use Rattle.vx_layout.specs.Plan.{plan_of}
 
 -- the plan of a card, or its fault with the card's number
@@ -33,3 +35,9 @@ pub record ArePlansOf (election : Election) (plans : List CardPlan) : Type 0 whe
 pub record PlansAreThose : Type 0 where
   pub each : (election : Election) (plans : List CardPlan) → plans_of election ≡ Ok plans → ArePlansOf election plans
   pub one : (election : Election) (plans : List CardPlan) → ArePlansOf election plans → plans_of election ≡ Ok plans
+
+-- what a plan shows: each option of its card once, and each contest on one page
+abbrev pub PlansShowEachOption : Type 0
+PlansShowEachOption =
+    (election : Election) (card : ℕ) (plan : CardPlan) → IsValid election → plan_of election card ≡ Ok plan
+    → ShowsEachOption election card plan × GivesEachContestAPage plan

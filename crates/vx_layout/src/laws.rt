@@ -1,7 +1,7 @@
 //! Laws of the plans of an election. These functions do nothing; their contracts are the laws.
 
 ghost use Rattle.vx_layout.specs.Pages.{PlansAreNumbered, PlansHavePaper, PlansStandOnGrid};
-ghost use Rattle.vx_layout.specs.Plans.{PlansAreThose};
+ghost use Rattle.vx_layout.specs.Plans.{PlansAreThose, PlansShowEachOption};
 ghost use Rattle.vx_layout.specs.Printed.{PagesArePlanned, PrintedHaveCodes, PrintedHavePaper, PrintedKeepClear};
 
 use vx_code::tags_are_in_range;
@@ -24,6 +24,11 @@ pub fn plans_have_the_elections_paper()
 /// page's paper, each for an option that a contest of the election has.
 pub fn plans_stand_on_the_grid()
     ensures { PlansStandOnGrid }
+{}
+
+/// Such a plan shows every option of its card's contests once, each contest on one page.
+pub fn plans_show_each_option()
+    ensures { PlansShowEachOption }
 {}
 
 /// The plans of all cards as one list, `plans_of`, are those of which each is the plan of the card

@@ -29,7 +29,7 @@ pub use bubbles::{Bubble, Bubbles};
 pub use fault::{CardFault, LayoutFault};
 pub use laws::{
     planned_pages_can_be_printed, plans_are_numbered, plans_have_the_elections_paper,
-    plans_of_are_plans, plans_stand_on_the_grid, printed_pages_keep_clear,
+    plans_of_are_plans, plans_show_each_option, plans_stand_on_the_grid, printed_pages_keep_clear,
 };
 pub use lines::{TextLine, TextLines};
 pub use pages::{PagePlan, PagePlans};
