@@ -1,2 +1,4 @@
 pub mod Waits
 pub mod Zipped
+pub mod Numbered
+pub mod SheetActs

@@ -5,3 +5,4 @@ pub mod Outcome
 pub mod Reads
 pub mod Gathering
 pub mod Steps
+pub mod Devices

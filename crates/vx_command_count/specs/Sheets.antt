@@ -35,20 +35,21 @@ abbrev pub journal_if : Journal → Option Event → Journal
 journal_if journal None = journal
 journal_if journal (Some event) = journal_with journal event
 
--- what a sheet comes to by what is answered to its event: it is added, or no more may be, or it was there before
-abbrev pub came_by : SheetMarks → Reply → Came
-came_by sheet Done = came.Added sheet
-came_by sheet (Full count) = came.Full count
-came_by sheet reply = came.Repeated
+-- what a sheet comes to by what is answered to the event that adds it: it is added, or no more may be, or it was there
+-- before
+abbrev pub came_by : Event → Reply → Came
+came_by (Add key sheet) Done = came.Added sheet
+came_by event (Full count) = came.Full count
+came_by event reply = came.Repeated
 
--- what a sheet comes to that has an event
-abbrev pub came_kept : Journal → SheetMarks → Option Event → Came
-came_kept journal sheet None = came.Beyond
-came_kept journal sheet (Some event) = came_by sheet (reply_in journal event)
+-- what a sheet comes to that was read and paired, by its event, if it has one
+abbrev pub came_if : Journal → Option Event → Came
+came_if journal None = came.Beyond
+came_if journal (Some event) = came_by event (reply_in journal event)
 
 -- what the sheet with a number comes to, of whose images this was read
 abbrev pub came_of : Journal → List ℕ → ℕ → Result SheetMarks Came → Came
-came_of journal batch number (Ok sheet) = came_kept journal sheet (added_by batch number sheet)
+came_of journal batch number (Ok sheet) = came_if journal (added_by batch number sheet)
 came_of journal batch number (Err other) = other
 
 -- the record of the next sheet is appended where it is added, and then its lines are written

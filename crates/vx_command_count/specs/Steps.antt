@@ -10,14 +10,14 @@ use Rattle.vx_command.specs.Done.{Taken, Held, IsDone, ComesTo}
 use Rattle.vx_command_count.specs.declared.counting.Counting.{Counting}
 use Rattle.vx_command_count.specs.Outcome.{with_images, scan_outcome, scans_outcome}
 
--- sheets of images were counted, whatever follows; or the command halts
-abbrev pub CountsImages : Election → List ℕ → Counting → Counting → List Page → Taken → Taken → Held → Held → Result (Unit {0}) Halt → Type 0
-CountsImages election batch old new images taken taken_now held held_now (Ok done) =
-    (more : List Page) (rest : Counting → List Page → Outcome)
-    → ComesTo (with_images election batch old (images ++ more) rest) (with_images election batch new more rest) taken taken_now held held_now
-CountsImages election batch old new images taken taken_now held held_now (Err cause) =
-    (more : List Page) (rest : Counting → List Page → Outcome)
-    → IsDone (with_images election batch old (images ++ more) rest) taken taken_now held held_now (Err cause)
+-- a count of images has come to a count of others, whatever follows; or the command halts
+abbrev pub CountsTo : {A : Type 0} → Election → List ℕ → Counting → Counting → List Page → List Page → Taken → Taken → Held → Held → Result A Halt → Type 0
+CountsTo election batch old new images left taken taken_now held held_now (Ok done) =
+    (rest : Counting → List Page → Outcome)
+    → ComesTo (with_images election batch old images rest) (with_images election batch new left rest) taken taken_now held held_now
+CountsTo election batch old new images left taken taken_now held held_now (Err cause) =
+    (rest : Counting → List Page → Outcome)
+    → IsDone (with_images election batch old images rest) taken taken_now held held_now (Err cause)
 
 -- a scan was counted, and an image may be left; or the command halts
 abbrev pub CountsScan : Election → List ℕ → ℕ → Counting → Counting → List Page → Images → Taken → Taken → Held → Held → Result (List Page) Halt → Type 0

@@ -1,9 +1,9 @@
-ghost use Rattle.std.specs.Prelude.{◌≡◌, ◌<◌, ◌+◌, ◌^◌, IfOk, IsOk, Ok};
+ghost use Rattle.std.specs.Prelude.{◌≡◌, ◌<◌, ◌+◌, ◌^◌, IfErr, IfOk, IsOk, Ok};
 ghost use Rattle.vx_election_model.specs.Valid.{IsValid};
 ghost use Rattle.vx_layout.specs.Plan.{plan_of};
 ghost use Rattle.vx_layout.specs.Plans.{ArePlansOf};
 ghost use Rattle.vx_sheet.specs.Came.{sheet_read};
-ghost use Rattle.vx_sheet.specs.Shows.{CanBeAdded, IsOfPage, PlansShowOptions};
+ghost use Rattle.vx_sheet.specs.Shows.{CanBeAdded, IsOfPage, IsReadAll, PlansShowOptions};
 
 use crate::came::Came;
 use std::alloc::Global;
@@ -45,6 +45,7 @@ fn pair_readings(
     requires second { IsOfPage election.now second.now }
     ensures exact { IfOk result (λ read. read ≡ sheet_read election.now image (Ok first.now) (Ok second.now)) }
     ensures added { IfOk result (λ read. IfOk read (CanBeAdded election.now)) }
+    ensures told { IfOk result (λ read. IfErr read (IsReadAll election.now)) }
 {
     sheets_fit();
     named_pages_stand_on_the_grid();
@@ -76,6 +77,7 @@ pub fn read_sheet(
     requires room { image + 1 < 2 ^ 64 }
     ensures exact { IfOk result (λ read. read ≡ sheet_read election.now image first.now second.now) }
     ensures added { IfOk result (λ read. IfOk read (CanBeAdded election.now)) }
+    ensures told { IfOk result (λ read. IfErr read (IsReadAll election.now)) }
 {
     match (first, second) {
         (Err(fault), _) => Ok(Err(Came::Unread(image, *fault))),
