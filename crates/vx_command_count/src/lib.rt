@@ -8,6 +8,7 @@
 
 mod counting;
 mod gathering;
+mod pairs;
 mod reads;
 mod setting;
 mod sheets;

@@ -217,7 +217,7 @@ fn count_sheet<S: Sink, K: Keeper>(
 }
 
 /// Counts the next sheet by what its two images are read as.
-fn count_pair<S: Sink, K: Keeper>(
+pub(crate) fn count_pair<S: Sink, K: Keeper>(
     alloc: Global,
     setting: &Setting<'_>,
     counting: &mut Counting<'_>,
