@@ -1,11 +1,12 @@
 -- The image that waits is the first of its bitmap.
 use Rattle.std.proofs.Common.{◌≡◌, ℕ, Bool, true, false, List, [], ◌∷◌, take, refl, ap, ◌∙◌, sym}
-use Rattle.std.specs.Prelude.{MatchBool, MatchOption, Option, None, Some, Ok, Err}
+use Rattle.std.specs.Prelude.{MatchBool, Option, None, Some, Ok, Err}
 use Rattle.vx_plane.specs.Plane.{Page}
 use Rattle.vx_pbm.specs.declared.fault.PbmFault.{PbmFault}
 use Rattle.vx_pbm.specs.Faults.{is_no_memory}
 use Rattle.vx_pbm.specs.Images.{Unread, whole, next_of, Images, ended, with_page, images_left, images_of, Walks, IsWholePage, ReadsBack}
 use Rattle.vx_pbm.specs.Raw.{p4_of}
+use Rattle.vx_command_count.specs.Gathering.{waits}
 
 -- the first image of bytes
 abbrev pub first_of : List ℕ → List Page
@@ -20,7 +21,7 @@ abbrev first_in : Images → List Page
 first_in images = take 1 images.pages
 
 -- the first that a reader gives
-pub read-first : (bytes : List ℕ) (found : Option Page) (new : Unread) → Walks (whole bytes) (Ok found) new → MatchOption found (first_of bytes ≡ []) (λ image. first_of bytes ≡ image ∷ [])
+pub read-first : (bytes : List ℕ) (found : Option Page) (new : Unread) → Walks (whole bytes) (Ok found) new → first_of bytes ≡ waits found
 unfolding images_of
 read-first bytes None new walks = ap first_in walks
 read-first bytes (Some image) new walks = ap first_in walks

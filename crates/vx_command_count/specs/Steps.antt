@@ -1,13 +1,15 @@
 -- How far `count` has come behind some images, behind a scan.
-use Rattle.std.specs.Prelude.{◌≡◌, ℕ, ◌+◌, ◌++◌, ◌∷◌, List, Result, Ok, Err}
+use Rattle.std.specs.Prelude.{◌≡◌, ℕ, ◌+◌, ◌++◌, ◌∷◌, List, Option, Result, Ok, Err}
 use Rattle.vx_plane.specs.Plane.{Page}
 use Rattle.vx_election_model.specs.declared.election.Election.{Election}
 use Rattle.vx_io.specs.Outside.{Files}
-use Rattle.vx_pbm.specs.Images.{Images}
+use Rattle.vx_pbm.specs.Images.{Unread, Images, images_left}
 use Rattle.vx_command.specs.declared.halt.Halt.{Halt}
 use Rattle.vx_command.specs.Acts.{Outcome}
 use Rattle.vx_command.specs.Done.{Taken, Held, IsDone, ComesTo}
 use Rattle.vx_command_count.specs.declared.counting.Counting.{Counting}
+use Rattle.vx_command_count.specs.declared.pieces.Piece.{Piece}
+use Rattle.vx_command_count.specs.Gathering.{left_by, waits}
 use Rattle.vx_command_count.specs.Outcome.{with_images, scan_outcome, scans_outcome}
 
 -- a count of images has come to a count of others, whatever follows; or the command halts
@@ -18,6 +20,16 @@ CountsTo election batch old new images left taken taken_now held held_now (Ok do
 CountsTo election batch old new images left taken taken_now held held_now (Err cause) =
     (rest : Counting → List Page → Outcome)
     → IsDone (with_images election batch old images rest) taken taken_now held held_now (Err cause)
+
+-- a piece of a scan was counted, and an image may be left over; or the command halts
+abbrev pub CountsPiece : Election → List ℕ → Counting → Counting → Option Page → Unread → Unread → Taken → Taken → Held → Held → Result Piece Halt → Type 0
+CountsPiece election batch old new first unread unread_now taken taken_now held held_now (Ok piece) =
+    (rest : Counting → List Page → Outcome)
+    → ComesTo (with_images election batch old (waits first ++ (images_left unread).pages) rest)
+    (with_images election batch new (waits piece.last ++ (left_by piece.ended unread_now).pages) rest) taken taken_now held held_now
+CountsPiece election batch old new first unread unread_now taken taken_now held held_now (Err cause) =
+    (rest : Counting → List Page → Outcome)
+    → IsDone (with_images election batch old (waits first ++ (images_left unread).pages) rest) taken taken_now held held_now (Err cause)
 
 -- a scan was counted, and an image may be left; or the command halts
 abbrev pub CountsScan : Election → List ℕ → ℕ → Counting → Counting → List Page → Images → Taken → Taken → Held → Held → Result (List Page) Halt → Type 0

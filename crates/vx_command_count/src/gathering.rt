@@ -1,4 +1,4 @@
-ghost use Rattle.std.specs.Prelude.{◌≡◌, ◌<◌, ◌≤◌, length, IfOk};
+ghost use Rattle.std.specs.Prelude.{◌≡◌, ◌<◌, ◌≤◌, ◌+◌, length, IfOk};
 ghost use Rattle.vx_pbm.specs.Images.{images_left};
 ghost use Rattle.vx_command_count.specs.Gathering.{Gathers, IsFilled, left_by};
 
@@ -6,6 +6,7 @@ use vx_base::OutOfMemory;
 use vx_pbm::{Image, PbmFault, PbmReader};
 
 /// How a gathering of images ended.
+#[derive(Drop)]
 pub(crate) enum Ended {
     /// There may be more of them.
     NotYet,
@@ -28,6 +29,9 @@ pub(crate) fn gather<'b>(
         images.new.items (left_by ended reader.new)) }
     ensures filled { IfOk result (IsFilled 128 images.new.items reader.old reader.new) }
     ensures few { length images.new.items ≤ 128 }
+    // An image takes a byte at least.
+    ensures room { IfOk result (λ ended. length images.new.items + length reader.new.text
+        ≤ length images.old.items + length reader.old.text) }
 {
     while images.len() < MOST {
         match reader.next() {

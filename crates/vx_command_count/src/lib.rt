@@ -9,6 +9,7 @@
 mod counting;
 mod gathering;
 mod pairs;
+mod pieces;
 mod reads;
 mod setting;
 mod sheets;

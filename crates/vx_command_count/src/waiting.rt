@@ -1,6 +1,7 @@
-ghost use Rattle.std.specs.Prelude.{◌≡◌, ◌≤◌, ◌∷◌, [], All, IfOk, MatchOption, length};
+ghost use Rattle.std.specs.Prelude.{◌≡◌, ◌∷◌, [], All, IfOk};
 ghost use Rattle.vx_pbm.specs.Faults.{is_no_memory as is_want_of_memory};
 ghost use Rattle.vx_pbm.specs.Images.{IsWholePage};
+ghost use Rattle.vx_command_count.specs.Gathering.{waits};
 
 use std::alloc::Global;
 use std::marker::Model;
@@ -40,15 +41,14 @@ impl Waiting {
         }
     }
 
-    /// The first of some images, if there is one.
-    pub(crate) fn of(alloc: Global, images: &[Image<'_>]) -> Result<Waiting, OutOfMemory>
-        requires one { length images.now ≤ 1 }
-        requires whole { All IsWholePage images.now }
-        ensures { IfOk result (λ waiting. waiting ≡ images.now) }
+    /// An image, if there is one.
+    pub(crate) fn of(alloc: Global, image: Option<Image<'_>>) -> Result<Waiting, OutOfMemory>
+        requires { All IsWholePage (waits image.entry) }
+        ensures { IfOk result (λ waiting. waiting ≡ waits image.entry) }
     {
-        match images {
-            [image, ..] => Waiting::of_image(alloc, image),
-            [] => Ok(Waiting::none(alloc)),
+        match image {
+            Some(image) => Waiting::of_image(alloc, &image),
+            None => Ok(Waiting::none(alloc)),
         }
     }
 
@@ -64,7 +64,7 @@ impl Waiting {
 
     /// The image that waits.
     pub(crate) fn image(&self, alloc: Global) -> Result<Option<Image<'_>>, OutOfMemory>
-        ensures { IfOk result (λ found. MatchOption found (self.now ≡ []) (λ image. self.now ≡ image ∷ [])) }
+        ensures { IfOk result (λ found. self.now ≡ waits found) }
     {
         let mut reader = PbmReader::new(alloc, self.bitmap.as_slice());
         match reader.next() {
