@@ -3,3 +3,4 @@ pub mod Zipped
 pub mod Numbered
 pub mod SheetActs
 pub mod ImageActs
+pub mod PieceActs

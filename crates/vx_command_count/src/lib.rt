@@ -11,6 +11,7 @@ mod gathering;
 mod pairs;
 mod pieces;
 mod reads;
+mod scans;
 mod setting;
 mod sheets;
 

@@ -43,7 +43,7 @@ impl Waiting {
 
     /// An image, if there is one.
     pub(crate) fn of(alloc: Global, image: Option<Image<'_>>) -> Result<Waiting, OutOfMemory>
-        requires { All IsWholePage (waits image.entry) }
+        requires { All IsWholePage (waits image) }
         ensures { IfOk result (λ waiting. waiting ≡ waits image.entry) }
     {
         match image {

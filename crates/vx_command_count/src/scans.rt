@@ -1,0 +1,77 @@
+ghost use Rattle.std.specs.Prelude.{◌≡◌, ◌≤◌, ◌<◌, ◌+◌, ◌*◌, ◌^◌, false, length, map, IfOk, OnOk};
+ghost use Rattle.std.specs.Option.{ForSome};
+ghost use Rattle.vx_pbm.specs.Images.{images_of};
+ghost use Rattle.vx_command.specs.Devices.{LeavesInputs, LeavesKeeper, LeavesSink, writes_nothing};
+ghost use Rattle.vx_command.specs.Done.{IsDone};
+ghost use Rattle.vx_command_count.specs.Devices.{TouchesBoth};
+ghost use Rattle.vx_command_count.specs.Outcome.{end_outcome, scans_outcome};
+ghost use Rattle.vx_command_count.specs.Setting.{IsSet};
+ghost use Rattle.vx_command_count.specs.Steps.{CountsFirst, CountsScan};
+ghost use Rattle.vx_command_count.specs.Tally.{sheets_in};
+
+use crate::counting::Counting;
+use crate::gathering::Ended;
+use crate::pieces::{Piece, count_piece};
+use crate::setting::Setting;
+use crate::waiting::Waiting;
+use std::alloc::Global;
+use std::mem::replace;
+use std::thread::Threads;
+use vx_base::Bytes;
+use vx_command::{
+    Halt, INPUT_LIMIT, acts_in_order, halt_of_bitmap, steps_in_order, take_input, write_text,
+};
+use vx_io::{Inputs, Keeper, Sink};
+use vx_json::Text;
+use vx_pbm::{PbmReader, images_are_whole};
+use vx_workers::Gate;
+
+/// Counts the scan of a word, behind an image that may wait. Answers the image that is left over.
+fn count_scan<'b, R: Threads + Sync, S: Sink, K: Keeper, G: Gate>(
+    rt: &R,
+    alloc: Global,
+    setting: &Setting<'_>,
+    counting: &mut Counting<'_>,
+    word: u32,
+    waiting: &'b Waiting,
+    bytes: &'b [u8],
+    gate: &G,
+    keeper: &mut K,
+    out: &mut S,
+) -> Result<Waiting, Halt>
+    requires set { IsSet setting.now }
+    requires election { counting.old.journal.center.election ≡ setting.now.election.now }
+    requires few { 2 * sheets_in counting.old.tally + length waiting.now + length bytes.now < 2 ^ 61 }
+    ensures counts { CountsScan setting.now.election.now setting.now.batch.now word counting.old counting.new
+        waiting.now (images_of bytes.now)
+        (S.taken out.old) (S.taken out.new) (K.held keeper.old) (K.held keeper.new) result }
+    ensures election { OnOk result (counting.new.journal.center.election ≡ setting.now.election.now) }
+    ensures room { IfOk result (λ left. 2 * sheets_in counting.new.tally + length left
+        ≤ 2 * sheets_in counting.old.tally + length waiting.now + length bytes.now) }
+    ensures devices { TouchesBoth (S.faults out.old) (S.faults out.new)
+        (K.faults keeper.old) (K.faults keeper.new) result }
+{
+    acts_in_order();
+    images_are_whole();
+    let mut reader = PbmReader::new(alloc, bytes);
+    let mut first = waiting.image(alloc)?;
+    'pieces: loop {
+        let piece = count_piece(
+            rt,
+            alloc,
+            setting,
+            counting,
+            first,
+            &mut reader,
+            gate,
+            keeper,
+            out,
+        )?;
+        let Piece { ended, last } = piece;
+        match ended {
+            Ended::NotYet => first = last,
+            Ended::AtEnd => return Ok(Waiting::of(alloc, last)?),
+            Ended::AtFault(fault) => return Err(halt_of_bitmap(word, fault)),
+        }
+    }
+}
