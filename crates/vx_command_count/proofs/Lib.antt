@@ -4,3 +4,4 @@ pub mod Numbered
 pub mod SheetActs
 pub mod ImageActs
 pub mod PieceActs
+pub mod ScanActs

@@ -6,7 +6,9 @@ ghost use Rattle.vx_command_count.specs.Gathering.{waits};
 use std::alloc::Global;
 use std::marker::Model;
 use vx_base::{Bytes, OutOfMemory};
-use vx_pbm::{Image, PbmFault, PbmReader, what_is_written_reads_back, write_p4};
+use vx_pbm::{
+    Image, PbmFault, PbmReader, images_are_whole, what_is_written_reads_back, write_p4,
+};
 
 fn is_no_memory(fault: PbmFault) -> bool
     ensures { result ≡ is_want_of_memory fault }
@@ -64,8 +66,10 @@ impl Waiting {
 
     /// The image that waits.
     pub(crate) fn image(&self, alloc: Global) -> Result<Option<Image<'_>>, OutOfMemory>
-        ensures { IfOk result (λ found. self.now ≡ waits found) }
+        ensures found { IfOk result (λ found. self.now ≡ waits found) }
+        ensures whole { IfOk result (λ found. All IsWholePage (waits found)) }
     {
+        images_are_whole();
         let mut reader = PbmReader::new(alloc, self.bitmap.as_slice());
         match reader.next() {
             Ok(found) => Ok(found),
