@@ -5,3 +5,4 @@ pub mod SheetActs
 pub mod ImageActs
 pub mod PieceActs
 pub mod ScanActs
+pub mod InputActs

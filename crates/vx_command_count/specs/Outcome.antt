@@ -61,14 +61,13 @@ abbrev pub counted_text : Tally → List ℕ
 counted_text tally = counted_line tally.added tally.repeated tally.unread
 
 -- the end of a count
-abbrev pub end_outcome : Election → List ℕ → Counting → List Page → Outcome
-end_outcome election batch counting waiting =
-    work (last_acts election batch counting.tally waiting
-    ++ Write (counted_text (last_tally counting.tally waiting)) ∷ [])
+abbrev pub end_outcome : Election → List ℕ → Tally → List Page → Outcome
+end_outcome election batch tally waiting =
+    work (last_acts election batch tally waiting ++ Write (counted_text (last_tally tally waiting)) ∷ [])
 
 -- the scans that the words from one on name, where an image may wait
 abbrev pub scans_outcome : Election → List ℕ → Files → ℕ → Counting → List Page → List (List ℕ) → Outcome
-scans_outcome election batch files word counting waiting [] = end_outcome election batch counting waiting
+scans_outcome election batch files word counting waiting [] = end_outcome election batch counting.tally waiting
 scans_outcome election batch files word counting waiting (name ∷ names) =
     once_taken word input_limit (files name) (λ bytes. scan_outcome election batch word counting waiting (images_of bytes)
     (λ now left. scans_outcome election batch files (word + 1) now left names))

@@ -6,7 +6,9 @@
 //! 128 at a time, and appended and written in order by the caller, so that nothing hangs on their number.
 #![tactic(auto)]
 
+mod command;
 mod counting;
+mod ending;
 mod gathering;
 mod pairs;
 mod pieces;
@@ -14,7 +16,7 @@ mod reads;
 mod scans;
 mod setting;
 mod sheets;
-
 mod tally;
 mod waiting;
 
+pub use command::count;

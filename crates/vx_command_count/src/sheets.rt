@@ -164,7 +164,7 @@ fn settle<K: Keeper>(
 }
 
 /// Writes the lines of the sheet with a number.
-fn tell<S: Sink>(
+pub(crate) fn tell<S: Sink>(
     alloc: Global,
     setting: &Setting<'_>,
     number: u64,

@@ -91,7 +91,7 @@ unfoldable pub lines_of : Election → List ℕ → ℕ → Came → List ℕ
 lines_of election batch number came = sheet_line batch number came ++ reasons_told election batch number came
 
 -- the last line: `counted A added R repeated U unread`
-abbrev pub counted_line : ℕ → ℕ → ℕ → List ℕ
+unfoldable pub counted_line : ℕ → ℕ → ℕ → List ℕ
 counted_line added repeated unread =
     line_of (codes "counted") (decimal added ∷ codes "added" ∷ decimal repeated ∷ codes "repeated" ∷ decimal unread
     ∷ codes "unread" ∷ [])

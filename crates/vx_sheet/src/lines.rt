@@ -220,6 +220,7 @@ pub fn push_lines(
 }
 
 /// Adds the last line of a count: how many sheets were added, were there before, and all others.
+#[tactic(auto, unfolding(crate::specs::Lines::counted_line))]
 pub fn push_counted(
     text: &mut String,
     added: u64,
