@@ -6,3 +6,4 @@ pub mod ImageActs
 pub mod PieceActs
 pub mod ScanActs
 pub mod InputActs
+pub mod Sets

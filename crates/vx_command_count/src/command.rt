@@ -2,6 +2,7 @@ ghost use Rattle.std.specs.Prelude.{◌≡◌, ◌≤◌, ◌<◌, true, false, 
 ghost use Rattle.std.specs.Option.{ForSome};
 ghost use Rattle.vx_election_model.specs.Valid.{IsValid};
 ghost use Rattle.vx_events.specs.Fits.{is_batch};
+ghost use Rattle.vx_layout.specs.Plans.{ArePlansOf};
 ghost use Rattle.vx_command.specs.Devices.{LeavesInputs, LeavesKeeper, LeavesSink, writes_nothing};
 ghost use Rattle.vx_command.specs.Done.{IsDone};
 ghost use Rattle.vx_command.specs.Elections.{once_planned};
@@ -39,7 +40,7 @@ fn count_into<R: Threads + Sync, I: Inputs, S: Sink, K: Keeper, G: Gate>(
     requires election { journal.center.election ≡ setting.now.election.now }
     requires few { length scans.now ≤ 64 }
     ensures done { ForSome (I.held inputs.old) (λ files. IsDone
-        (journal_outcome setting.now.election.now setting.now.batch.now scans.now files journal)
+        (journal_outcome setting.now.election.now setting.now.batch.now scans.now files journal.entry)
         (S.taken out.old) (S.taken out.new) (K.held keeper.old) (K.held keeper.new) result) }
     ensures inputs { LeavesInputs (I.held inputs.old) (I.held inputs.new)
         (I.faults inputs.old) (I.faults inputs.new) result }
@@ -97,6 +98,31 @@ fn count_set<R: Threads + Sync, I: Inputs, S: Sink, K: Keeper, G: Gate>(
     )
 }
 
+/// What stays the same over a count of planned cards.
+fn set_up<'a>(
+    election: &'a Election,
+    plans: &'a CardPlans,
+    batch: &'a str,
+    workers: u32,
+) -> Setting<'a>
+    requires election { IsValid election.now }
+    requires plans { ArePlansOf election.now plans.now }
+    requires batch { is_batch batch.now ≡ true }
+    requires some_worker { 0 < workers }
+    requires few_workers { workers ≤ 64 }
+    ensures set { IsSet result }
+    ensures election { result.election.now ≡ election.now }
+    ensures batch { result.batch.now ≡ batch.now }
+{
+    plans_show_each_option();
+    Setting {
+        election,
+        plans,
+        batch,
+        workers,
+    }
+}
+
 /// Plans all cards of the election and counts the scans.
 fn count_planned<R: Threads + Sync, I: Inputs, S: Sink, K: Keeper, G: Gate>(
     rt: &R,
@@ -127,14 +153,8 @@ fn count_planned<R: Threads + Sync, I: Inputs, S: Sink, K: Keeper, G: Gate>(
     ensures keeper { LeavesKeeper (K.faults keeper.old) (K.faults keeper.new) result }
 {
     steps_in_order::<CardPlans>();
-    plans_show_each_option();
     let plans = plan_all(alloc, election)?;
-    let setting = Setting {
-        election,
-        plans: &plans,
-        batch,
-        workers,
-    };
+    let setting = set_up(election, &plans, batch, workers);
     count_set(rt, alloc, &setting, scans, gate, inputs, keeper, out)
 }
 
