@@ -1,0 +1,6 @@
+use Rattle.vx_command_count.proofs.Sets.{set-is}
+use Rattle.vx_command_count.proofs.command.set_up.Goals as goal
+
+pub returns-clause-set : goal.returns-clause-set
+returns-clause-set c =
+    set-is c.plans_show_each_option.ensures _ c.requires.election c.requires.plans c.requires.batch c.requires.some_worker c.requires.few_workers

@@ -1,0 +1,12 @@
+use Rattle.std.proofs.Common.{ℕ, List, subst}
+use Rattle.vx_pbm.specs.Images.{images_of}
+use Rattle.vx_command_count.specs.Steps.{CountsScan}
+use Rattle.vx_command_count.proofs.InputActs.{input_taken}
+use Rattle.vx_command_count.proofs.scans.count_input.Goals as goal
+
+pub returns-clause-done : goal.returns-clause-done
+returns-clause-done g c files told =
+    let Counts : List ℕ → Type 0 = λ bytes. CountsScan c.args.setting.now.election.now c.args.setting.now.batch.now c.args.word c.args.counting.now c.count_scan-left.new.counting c.args.waiting.now (images_of bytes) (g.S.Sink.taken c.args.out.now) (g.S.Sink.taken c.count_scan-left.new.out) (g.K.Keeper.held c.args.keeper.now) (g.K.Keeper.held c.count_scan-left.new.keeper) c.count_scan-left.result in
+    input_taken c.steps_in_order.ensures c.args.setting.now.election.now c.args.setting.now.batch.now files c.args.word c.args.counting.now c.count_scan-left.new.counting c.args.waiting.now c.args.name.now
+    (g.S.Sink.taken c.args.out.now) (g.S.Sink.taken c.count_scan-left.new.out) (g.K.Keeper.held c.args.keeper.now) (g.K.Keeper.held c.count_scan-left.new.keeper)
+    c.in_ok-bytes.bytes (c.in_ok-bytes.ensures.told files told) c.count_scan-left.result (subst Counts c.as_slice-scan.ensures c.count_scan-left.ensures.counts)

@@ -1,0 +1,249 @@
+ghost use Rattle.std.specs.Prelude.{◌≡◌, ◌<◌, ◌≤◌, ◌+◌, ◌^◌, Some, IfErr, IfOk, OnOk, false};
+ghost use Rattle.vx_events.specs.Fits.{Fits};
+ghost use Rattle.vx_journal.specs.Keeping.{keep_acts, reply_in, journal_with};
+ghost use Rattle.vx_command.specs.Acts.{work, writing};
+ghost use Rattle.vx_command.specs.Devices.{TouchesSink, writes_nothing};
+ghost use Rattle.vx_command.specs.Done.{IsDone, IsWritten};
+ghost use Rattle.vx_journal.specs.Steps.{IsRecorded, TouchesKeeper, answer_of};
+ghost use Rattle.vx_sheet.specs.Lines.{lines_of};
+ghost use Rattle.vx_sheet.specs.Came.{sheet_read};
+ghost use Rattle.vx_sheet.specs.Shows.{CanBeAdded, IsOfPage, IsReadAll};
+ghost use Rattle.vx_command_count.specs.Devices.{TouchesBoth};
+ghost use Rattle.vx_command_count.specs.Setting.{IsSet};
+ghost use Rattle.vx_command_count.specs.Sheets as spec;
+ghost use Rattle.vx_command_count.specs.Tally.{next_image as next_image_of, sheets_in};
+
+use crate::counting::Counting;
+use crate::setting::Setting;
+use crate::tally::{next_image, next_number, tally_with};
+use std::alloc::Global;
+use vx_base::OutOfMemory;
+use vx_command::{Halt, acts_in_order, write_text};
+use vx_events::{Event, Key, Reply};
+use vx_io::{Keeper, Sink};
+use vx_journal::{Journal, keep_event};
+use vx_json::Text;
+use vx_rules::SheetMarks;
+use vx_sheet::{Came, PageRead, push_lines, read_sheet};
+
+/// What the sheet of an Add that is done comes to.
+fn came_done(event: Event) -> Came
+    ensures { result ≡ spec.came_by event Reply.Done }
+{
+    match event {
+        Event::Add { sheet, .. } => Came::Added(sheet),
+        _ => Came::Repeated,
+    }
+}
+
+/// What a sheet comes to by what is answered to its event.
+fn came_by(event: Event, reply: Reply) -> Came
+    ensures { result ≡ spec.came_by event reply }
+{
+    match reply {
+        Reply::Done => came_done(event),
+        Reply::Full(count) => Came::Full(count),
+        _ => Came::Repeated,
+    }
+}
+
+/// Keeps the event that adds a sheet, and answers what the sheet came to.
+fn keep_sheet<K: Keeper>(
+    alloc: Global,
+    journal: &mut Journal<'_>,
+    keeper: &mut K,
+    event: Event,
+) -> Result<Came, Halt>
+    requires { Fits journal.old.center.election event }
+    ensures came { IfOk result (λ came. came ≡ spec.came_by event (reply_in journal.old event)) }
+    ensures next { OnOk result (journal.new ≡ journal_with journal.old event) }
+    ensures done { IsRecorded (keep_acts journal.old event)
+        (K.held keeper.old) (K.held keeper.new) (answer_of result) }
+    ensures keeper { TouchesKeeper (K.faults keeper.old) (K.faults keeper.new) result }
+{
+    let reply = keep_event(alloc, journal, keeper, &event)?;
+    Ok(came_by(event, reply))
+}
+
+/// The event that adds a sheet.
+fn add_event(
+    alloc: Global,
+    batch: &str,
+    number: u32,
+    sheet: SheetMarks,
+) -> Result<Event, OutOfMemory>
+    ensures { IfOk result (λ event. event ≡ Event.Add (record { batch = batch.now; number = number }) sheet) }
+{
+    let key = Key {
+        batch: Text::from_str(alloc, batch)?,
+        number,
+    };
+    Ok(Event::Add { key, sheet })
+}
+
+/// Adds the sheet with a number that may be, and answers what it came to.
+fn add_numbered<K: Keeper>(
+    alloc: Global,
+    setting: &Setting<'_>,
+    number: u32,
+    journal: &mut Journal<'_>,
+    keeper: &mut K,
+    sheet: SheetMarks,
+) -> Result<Came, Halt>
+    requires set { IsSet setting.now }
+    requires election { journal.old.center.election ≡ setting.now.election.now }
+    requires some { 0 < number }
+    requires most { number ≤ 999999 }
+    requires added { CanBeAdded setting.now.election.now sheet }
+    ensures came { IfOk result (λ came. came
+        ≡ spec.came_if journal.old (Some (Event.Add (record { batch = setting.now.batch.now; number = number }) sheet))) }
+    ensures next { OnOk result (journal.new
+        ≡ spec.journal_if journal.old (Some (Event.Add (record { batch = setting.now.batch.now; number = number }) sheet))) }
+    ensures done { IsRecorded (spec.keep_if journal.old
+        (Some (Event.Add (record { batch = setting.now.batch.now; number = number }) sheet)))
+        (K.held keeper.old) (K.held keeper.new) (answer_of result) }
+    ensures keeper { TouchesKeeper (K.faults keeper.old) (K.faults keeper.new) result }
+{
+    acts_in_order();
+    let event = add_event(alloc, setting.batch, number, sheet)?;
+    keep_sheet(alloc, journal, keeper, event)
+}
+
+/// Adds the sheet with a number to the journal, unless its number is above 999,999, and answers what it
+/// came to.
+fn add_sheet<K: Keeper>(
+    alloc: Global,
+    setting: &Setting<'_>,
+    number: u64,
+    journal: &mut Journal<'_>,
+    keeper: &mut K,
+    sheet: SheetMarks,
+) -> Result<Came, Halt>
+    requires set { IsSet setting.now }
+    requires election { journal.old.center.election ≡ setting.now.election.now }
+    requires some { 0 < number }
+    requires added { CanBeAdded setting.now.election.now sheet }
+    ensures came { IfOk result (λ came. came ≡ spec.came_if journal.old (spec.added_by setting.now.batch.now number sheet)) }
+    ensures next { OnOk result (journal.new ≡ spec.journal_if journal.old (spec.added_by setting.now.batch.now number sheet)) }
+    ensures done { IsRecorded (spec.keep_if journal.old (spec.added_by setting.now.batch.now number sheet))
+        (K.held keeper.old) (K.held keeper.new) (answer_of result) }
+    ensures keeper { TouchesKeeper (K.faults keeper.old) (K.faults keeper.new) result }
+{
+    acts_in_order();
+    if number > 999_999 {
+        return Ok(Came::Beyond);
+    }
+    add_numbered(alloc, setting, number as u32, journal, keeper, sheet)
+}
+
+/// Settles the sheet with a number, of whose images this was read: adds it to the journal where it reads
+/// and pairs, and answers what it came to.
+fn settle<K: Keeper>(
+    alloc: Global,
+    setting: &Setting<'_>,
+    number: u64,
+    journal: &mut Journal<'_>,
+    keeper: &mut K,
+    read: Result<SheetMarks, Came>,
+) -> Result<Came, Halt>
+    requires set { IsSet setting.now }
+    requires election { journal.old.center.election ≡ setting.now.election.now }
+    requires some { 0 < number }
+    requires added { IfOk read (CanBeAdded setting.now.election.now) }
+    ensures came { IfOk result (λ came. came ≡ spec.came_of journal.old setting.now.batch.now number read) }
+    ensures next { OnOk result (journal.new ≡ spec.journal_if journal.old (spec.event_of setting.now.batch.now number read)) }
+    ensures done { IsRecorded (spec.keep_if journal.old (spec.event_of setting.now.batch.now number read))
+        (K.held keeper.old) (K.held keeper.new) (answer_of result) }
+    ensures keeper { TouchesKeeper (K.faults keeper.old) (K.faults keeper.new) result }
+{
+    acts_in_order();
+    match read {
+        Ok(sheet) => add_sheet(alloc, setting, number, journal, keeper, sheet),
+        Err(came) => Ok(came),
+    }
+}
+
+/// Writes the lines of the sheet with a number.
+pub(crate) fn tell<S: Sink>(
+    alloc: Global,
+    setting: &Setting<'_>,
+    number: u64,
+    came: &Came,
+    out: &mut S,
+) -> Result<(), Halt>
+    requires { IsReadAll setting.now.election.now came.now }
+    ensures done { IsWritten (writing (lines_of setting.now.election.now setting.now.batch.now number came.now))
+        (S.taken out.old) (S.taken out.new) result }
+    ensures sink { TouchesSink (S.faults out.old) (S.faults out.new) result }
+    ensures late { writes_nothing false result ≡ false }
+{
+    acts_in_order();
+    let mut text = String::new(alloc);
+    push_lines(&mut text, setting.election, setting.batch, number, came)?;
+    write_text(out, text.as_bytes())
+}
+
+/// Counts the next sheet, of whose images this was read: its record is appended where it is added, and
+/// its lines are written then.
+fn count_sheet<S: Sink, K: Keeper>(
+    alloc: Global,
+    setting: &Setting<'_>,
+    counting: &mut Counting<'_>,
+    read: Result<SheetMarks, Came>,
+    keeper: &mut K,
+    out: &mut S,
+) -> Result<(), Halt>
+    requires set { IsSet setting.now }
+    requires election { counting.old.journal.center.election ≡ setting.now.election.now }
+    requires few { sheets_in counting.old.tally < 2 ^ 62 }
+    requires added { IfOk read (CanBeAdded setting.now.election.now) }
+    requires told { IfErr read (IsReadAll setting.now.election.now) }
+    ensures done { IsDone (work (spec.sheet_acts setting.now.election.now setting.now.batch.now counting.old read))
+        (S.taken out.old) (S.taken out.new) (K.held keeper.old) (K.held keeper.new) result }
+    ensures next { OnOk result (counting.new ≡ spec.counted_with setting.now.batch.now counting.old read) }
+    ensures election { OnOk result (counting.new.journal.center.election ≡ setting.now.election.now) }
+    ensures more { OnOk result (sheets_in counting.new.tally ≡ sheets_in counting.old.tally + 1) }
+    ensures devices { TouchesBoth (S.faults out.old) (S.faults out.new)
+        (K.faults keeper.old) (K.faults keeper.new) result }
+{
+    acts_in_order();
+    let tally = counting.tally;
+    let number = next_number(tally);
+    let journal = &mut counting.journal;
+    let came = settle(alloc, setting, number, journal, keeper, read)?;
+    tell(alloc, setting, number, &came, out)?;
+    counting.tally = tally_with(tally, &came);
+    Ok(())
+}
+
+/// Counts the next sheet by what its two images are read as.
+pub(crate) fn count_pair<S: Sink, K: Keeper>(
+    alloc: Global,
+    setting: &Setting<'_>,
+    counting: &mut Counting<'_>,
+    first: &PageRead,
+    second: &PageRead,
+    keeper: &mut K,
+    out: &mut S,
+) -> Result<(), Halt>
+    requires set { IsSet setting.now }
+    requires election { counting.old.journal.center.election ≡ setting.now.election.now }
+    requires few { sheets_in counting.old.tally < 2 ^ 62 }
+    requires first { IfOk first.now (IsOfPage setting.now.election.now) }
+    requires second { IfOk second.now (IsOfPage setting.now.election.now) }
+    ensures done { IsDone (work (spec.sheet_acts setting.now.election.now setting.now.batch.now counting.old
+        (sheet_read setting.now.election.now (next_image_of counting.old.tally) first.now second.now)))
+        (S.taken out.old) (S.taken out.new) (K.held keeper.old) (K.held keeper.new) result }
+    ensures next { OnOk result (counting.new ≡ spec.counted_with setting.now.batch.now counting.old
+        (sheet_read setting.now.election.now (next_image_of counting.old.tally) first.now second.now)) }
+    ensures election { OnOk result (counting.new.journal.center.election ≡ setting.now.election.now) }
+    ensures more { OnOk result (sheets_in counting.new.tally ≡ sheets_in counting.old.tally + 1) }
+    ensures devices { TouchesBoth (S.faults out.old) (S.faults out.new)
+        (K.faults keeper.old) (K.faults keeper.new) result }
+{
+    acts_in_order();
+    let image = next_image(counting.tally);
+    let (election, plans) = (setting.election, setting.plans);
+    let read = read_sheet(alloc, election, plans, image, first, second)?;
+    count_sheet(alloc, setting, counting, read, keeper, out)
+}
