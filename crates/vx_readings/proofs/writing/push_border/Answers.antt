@@ -1,11 +1,11 @@
 use Rattle.std.proofs.Common.{◌≡◌, ◌<◌, ◌≤◌, ◌++◌, ◌∷◌, [], ℕ, List, length, take, string_bytes, sym, ap, ◌∙◌, append_assoc, arith}
 use Rattle.std.proofs.lemmas.List.{take_all}
 use Rattle.vx_grid.specs.Marks.{marks}
-use Rattle.vx_command_read.specs.ReadingText.{place_word, border_line}
+use Rattle.vx_readings.specs.ReadingText.{place_word, border_line}
 use Rattle.vx_base.proofs.Lists.{flat_map-take_more}
 use Rattle.vx_base.proofs.Results.{OnOk-pushed}
-use Rattle.vx_command_read.proofs.ReadingTexts.{laid_places, border_line-laid}
-use Rattle.vx_command_read.proofs.reading_text.push_border.Goals as goal
+use Rattle.vx_readings.proofs.ReadingTexts.{laid_places, border_line-laid}
+use Rattle.vx_readings.proofs.writing.push_border.Goals as goal
 
 pub at-place-requires : goal.at-place-requires
 at-place-requires c =

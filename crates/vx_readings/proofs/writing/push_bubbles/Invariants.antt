@@ -1,7 +1,7 @@
 use Rattle.std.proofs.Common.{◌≡◌, ◌++◌, string_bytes}
 use Rattle.std.specs.List.{flat_map, range_with_len}
-use Rattle.vx_command_read.specs.ReadingText.{line_at}
-use Rattle.vx_command_read.proofs.reading_text.push_bubbles.Given as goal
+use Rattle.vx_readings.specs.ReadingText.{line_at}
+use Rattle.vx_readings.proofs.writing.push_bubbles.Given as goal
 
 -- the lines of the bubbles so far
 abbrev pub invariant-loop-number : goal.invariant-loop-number

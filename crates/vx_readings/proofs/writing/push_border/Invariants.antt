@@ -1,8 +1,8 @@
 use Rattle.std.proofs.Common.{◌≡◌, ◌<◌, ◌++◌, ◌∷◌, length, take, string_bytes}
 use Rattle.std.specs.List.{flat_map}
 use Rattle.vx_grid.specs.Marks.{marks}
-use Rattle.vx_command_read.specs.ReadingText.{place_word}
-use Rattle.vx_command_read.proofs.reading_text.push_border.Given as goal
+use Rattle.vx_readings.specs.ReadingText.{place_word}
+use Rattle.vx_readings.proofs.writing.push_border.Given as goal
 
 -- the places so far stand behind the first word
 abbrev pub invariant-loop-k : goal.invariant-loop-k

@@ -1,19 +1,9 @@
 -- Texts that are written piece by piece.
-use Rattle.std.proofs.Common.{◌≡◌, ℕ, false, List, [], ◌∷◌, ◌++◌, map, take, codes, refl, sym, ap, ap₂, ◌∙◌, append_assoc}
-use Rattle.std.specs.Prelude.{Result, Ok, Err}
+use Rattle.std.proofs.Common.{◌≡◌, ℕ, List, [], ◌∷◌, ◌++◌, map, take, codes, refl, sym, ap, ap₂, ◌∙◌, append_assoc}
 use Rattle.std.specs.List.{flat_map}
 use Rattle.std.proofs.lemmas.List.Folds.{flat_map-map}
-use Rattle.vx_base.specs.Refusals.{Unless}
-use Rattle.vx_base.proofs.Results.{Unless-no}
-use Rattle.vx_plane.specs.Plane.{Page}
 use Rattle.vx_grid.specs.declared.places.Point.{Point}
-use Rattle.vx_election_model.specs.declared.election.Election.{Election}
-use Rattle.vx_layout.specs.declared.pages.PagePlan.{PagePlan}
-use Rattle.vx_scan_model.specs.declared.reading.PageReading.{PageReading}
-use Rattle.vx_scan_model.specs.declared.fault.PageFault.{PageFault}
-use Rattle.vx_scan_model.specs.Faults.{is_no_memory}
-use Rattle.vx_scan_model.specs.Reading.{reading_of, named_plan}
-use Rattle.vx_command_read.specs.ReadingText.{line_of, place_word, border_line, block_text, fault_line, bubbles_on, reading_text, image_text}
+use Rattle.vx_readings.specs.ReadingText.{line_of, place_word, border_line}
 
 -- a line is its first word, the others each behind a blank, and the line end
 line_of-words : (word : List ℕ) (words : List (List ℕ)) → line_of (word ∷ words) ≡ word ++ (flat_map (λ other. 32 ∷ other) words ++ 10 ∷ [])
@@ -38,14 +28,3 @@ border_line-laid old begun now border k begins laid all =
     ∙ append_assoc (old ++ codes "border") (laid_places border) (10 ∷ [])
     ∙ append_assoc old (codes "border") (laid_places border ++ 10 ∷ [])
     ∙ ap (λ (line : List ℕ). old ++ line) (sym (line_of-map (codes "border") place_word border))
-
--- what a reading's block says is what `read` writes
-pub image_text-read : (election : Election) (number : ℕ) (page : Page) (reading : PageReading) (plan : PagePlan) → reading_of election page ≡ Ok reading → named_plan election reading.code ≡ Ok plan → block_text number plan.bubbles reading ≡ image_text election number page
-unfolding image_text
-image_text-read election number page reading plan is named =
-    ap (λ (on : Result PagePlan PageFault). block_text number (bubbles_on on) reading) (sym named) ∙ ap (reading_text election number) (sym is)
-
--- what a fault's line says is what `read` writes
-pub image_text-fault : (election : Election) (number : ℕ) (page : Page) (fault : PageFault) → Unless (is_no_memory fault) (reading_of election page ≡ Err fault) → is_no_memory fault ≡ false → fault_line number fault ≡ image_text election number page
-unfolding image_text
-image_text-fault election number page fault is known = ap (reading_text election number) (sym (Unless-no (is_no_memory fault) known is))

@@ -4,8 +4,8 @@ use Rattle.std.proofs.lemmas.List.{get_or_default}
 use Rattle.vx_grid.specs.declared.state.State.{State}
 use Rattle.vx_grid.specs.declared.state.State.TheVariants.{Marked, Clear}
 use Rattle.vx_base.proofs.Ranges.{flat_map-laid}
-use Rattle.vx_command_read.specs.ReadingText.{no_bubble, bubble_line, line_at, bubble_lines}
-use Rattle.vx_command_read.proofs.reading_text.push_bubbles.Goals as goal
+use Rattle.vx_readings.specs.ReadingText.{no_bubble, bubble_line, line_at, bubble_lines}
+use Rattle.vx_readings.proofs.writing.push_bubbles.Goals as goal
 
 pub loop-number-preserved : goal.loop-number-preserved
 loop-number-preserved c =
