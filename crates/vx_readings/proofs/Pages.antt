@@ -1,5 +1,5 @@
 -- Pages that are read one after another.
-use Rattle.std.proofs.Common.{◌≡◌, ◌<◌, ◌≤◌, ◌+◌, ◌-◌, ℕ, zero, suc, List, [], ◌∷◌, ◌++◌, length, Option, Some, None, Result, Ok, Err, arith, refl, sym, ap, subst, ◌∙◌, add-one}
+use Rattle.std.proofs.Common.{◌≡◌, ◌<◌, ◌≤◌, ◌+◌, ◌-◌, ◌^◌, ℕ, zero, suc, List, [], ◌∷◌, ◌++◌, length, Option, Some, None, Result, Ok, Err, arith, refl, sym, ap, subst, ◌∙◌, add-one}
 use Rattle.vx_base.specs.Refusals.{Unless}
 use Rattle.vx_base.specs.Results.{◌>>=◌}
 use Rattle.vx_base.proofs.Results.{bind_ok}
@@ -13,10 +13,11 @@ use Rattle.vx_readings.specs.declared.head.Head.{Head}
 use Rattle.vx_readings.specs.declared.head.FirstLine.{FirstLine}
 use Rattle.vx_readings.specs.declared.head.FirstLine.TheVariants as first
 use Rattle.vx_readings.specs.declared.said.SaidPage.{SaidPage}
+use Rattle.vx_readings.specs.declared.said.SaidPage.TheVariants as said
 use Rattle.vx_readings.specs.Faults.{is_no_memory}
 use Rattle.vx_readings.specs.Left.{LinesLeft}
 use Rattle.vx_readings.specs.Lines.{first_in, border_in, bubble_or_end}
-use Rattle.vx_readings.specs.Readings.{next_line, no_bubbles, with_bubble, bubble_and, bubbles_in, block_in, page_behind, page_by, Unread, behind_page, step_over, next_by, next_of, Readings, with_page, ended, onwards, readings_within, readings_left, Steps, Walks}
+use Rattle.vx_readings.specs.Readings.{next_line, no_bubbles, with_bubble, bubble_and, bubbles_in, block_in, page_behind, page_by, Unread, behind_page, step_over, next_by, next_of, Readings, with_page, ended, onwards, readings_within, readings_left, Steps, Walks, LinesFit}
 use Rattle.vx_readings.proofs.ReadBubbles.{ReadLine, read-line}
 
 -- fewer lines are left, and their numbers are higher
@@ -92,6 +93,57 @@ page-less paper tag page left found is =
     let line = bind_ok (next_line (first_in paper tag page) left.number left.lines) _ found is in
     behind-less paper line.0.0 left.number left.lines line.0.1 found
     (line-less (first_in paper tag page) left.number left.lines line.0.0 line.0.1 line.1) line.2
+
+-- the lines of a page's bubbles precede the lines that are left
+abbrev pub Placed : SaidPage → LinesLeft → Type 0
+Placed said.NoReading left = Unit {0}
+Placed (said.Reading told) left = told.first_bubble + length told.names < left.number
+
+and-placed : (number : ℕ) (lines : List (List ℕ)) (told : Option (Option SaidBubble)) (others : Result (SaidBubbles × LinesLeft) ReadingsFault)
+    → ((found : SaidBubbles × LinesLeft) → others ≡ Ok found → number + 1 + length found.0.names < found.1.number)
+    → (found : SaidBubbles × LinesLeft) → bubble_and number lines told others ≡ Ok found → number + length found.0.names < found.1.number
+and-placed number lines None others placed found is = absurd cc
+and-placed number lines (Some None) others placed found is =
+    let So : SaidBubbles × LinesLeft → Type 0 = λ all. number + length all.0.names < all.1.number in
+    subst So (ok-same _ (no_bubbles, record { number = number + 1; lines = lines }) found refl is) (omega arith)
+and-placed number lines (Some (Some bubble)) (Err fault) placed found is = absurd cc
+and-placed number lines (Some (Some bubble)) (Ok more) placed found is =
+    let before : number + 1 + length more.0.names < more.1.number = placed more refl in
+    let So : SaidBubbles × LinesLeft → Type 0 = λ all. number + length all.0.names < all.1.number in
+    subst So (ok-same _ (with_bubble bubble more.0, more.1) found refl is) (omega (arith, before))
+
+bubbles-placed : (bubble number : ℕ) (lines : List (List ℕ)) (found : SaidBubbles × LinesLeft) → bubbles_in bubble number lines ≡ Ok found
+    → number + length found.0.names < found.1.number
+unfolding bubbles_in
+bubbles-placed bubble number [] found is = absurd cc
+bubbles-placed bubble number (line ∷ lines) found is =
+    and-placed number lines (bubble_or_end bubble line) (bubbles_in (bubble + 1) (number + 1) lines)
+    (λ found is. bubbles-placed (bubble + 1) (number + 1) lines found is) found is
+
+block-placed : (paper : Paper) (head : Head) (left : LinesLeft) (found : SaidPage × LinesLeft) → block_in paper head left ≡ Ok found → Placed found.0 found.1
+unfolding block_in
+block-placed paper head left found is =
+    let border = bind_ok (next_line (border_in paper) left.number left.lines) _ found is in
+    let bubbles = bind_ok (bubbles_in 0 border.0.1.number border.0.1.lines) _ found border.2 in
+    let So : SaidPage × LinesLeft → Type 0 = λ all. Placed all.0 all.1 in
+    subst So (ok-same _ _ found refl bubbles.2) (bubbles-placed 0 border.0.1.number border.0.1.lines bubbles.0 bubbles.1)
+
+behind-placed : (paper : Paper) (line : FirstLine) (left : LinesLeft) (found : SaidPage × LinesLeft) → page_behind paper line left ≡ Ok found → Placed found.0 found.1
+behind-placed paper first.Fault left found is =
+    let So : SaidPage × LinesLeft → Type 0 = λ all. Placed all.0 all.1 in
+    subst So (ok-same _ _ found refl is) tt
+behind-placed paper (first.Block head) left found is = block-placed paper head left found is
+
+pub page-placed : (paper : Paper) (tag page : ℕ) (left : LinesLeft) (found : SaidPage × LinesLeft) → page_by paper tag page left ≡ Ok found → Placed found.0 found.1
+unfolding page_by
+page-placed paper tag page left found is =
+    let line = bind_ok (next_line (first_in paper tag page) left.number left.lines) _ found is in
+    behind-placed paper line.0.0 line.0.1 found line.2
+
+-- so they fit where the next one does
+pub placed-fit : (page : SaidPage) (left : LinesLeft) → Placed page left → left.number < 2 ^ 32 → LinesFit page
+placed-fit said.NoReading left placed small = tt
+placed-fit (said.Reading told) left placed small = omega (arith, placed)
 
 -- the next page, where lines are left
 module _ (unread : Unread) where

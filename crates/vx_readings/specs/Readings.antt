@@ -1,6 +1,6 @@
 -- The readings that a text says: pages in order from 1, each a block or a fault, up to the first line that leaves the
 -- grammar. This project's own format.
-use Rattle.std.specs.Prelude.{◌≡◌, ℕ, zero, suc, ◌+◌, List, [], ◌∷◌, ◌++◌, length, MatchBool, Option, Some, None, Result, Ok, Err}
+use Rattle.std.specs.Prelude.{◌≡◌, ◌<◌, ℕ, zero, suc, ◌+◌, ◌^◌, List, [], ◌∷◌, ◌++◌, length, MatchBool, Option, Some, None, Result, Ok, Err}
 use Rattle.vx_base.specs.Results.{◌>>=◌}
 use Rattle.vx_grid.specs.declared.paper.Paper.{Paper}
 use Rattle.vx_readings.specs.declared.head.Head.{Head}
@@ -165,3 +165,8 @@ Walks old (Ok (Some page)) new = readings_left old ≡ with_page page (readings_
 Walks old (Ok None) new = readings_left old ≡ ended None
 Walks old (Err fault) new =
     MatchBool (is_no_memory fault) (readings_left new ≡ readings_left old) (readings_left old ≡ ended (Some fault))
+
+-- the lines of a page's bubbles have numbers of 32 bits
+abbrev pub LinesFit : SaidPage → Type 0
+LinesFit NoReading = Unit {0}
+LinesFit (Reading said) = said.first_bubble + length said.names < 2 ^ 32

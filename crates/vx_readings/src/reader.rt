@@ -1,5 +1,5 @@
-ghost use Rattle.std.specs.Prelude.{◌≡◌, ◌<◌, ◌^◌, IfOk, OnSome, length};
-ghost use Rattle.vx_readings.specs.Readings.{whole, Steps, Walks};
+ghost use Rattle.std.specs.Prelude.{◌≡◌, ◌<◌, ◌+◌, ◌^◌, IfOk, IfSome, OnSome, length};
+ghost use Rattle.vx_readings.specs.Readings.{whole, Steps, Walks, LinesFit};
 
 use crate::block::read_page;
 use crate::fault::ReadingsFault;
@@ -45,20 +45,30 @@ impl<'b> ReadingsReader<'b> {
         }
     }
 
+    /// How many pages were read so far.
+    pub fn pages(&self) -> u32
+        ensures { result ≡ self.now.pages }
+    {
+        self.pages
+    }
+
     /// The next page, or none at the end of the text. Behind a page fewer lines are unread. After a fault
     /// each further call answers the same; after want of memory the reader stands before that page.
     pub fn next(&mut self) -> Result<Option<SaidPage>, ReadingsFault>
         ensures exact { Steps self.old result self.new }
         ensures readings { Walks self.old result self.new }
+        ensures counted { IfOk result (λ page. OnSome page (self.new.pages ≡ self.old.pages + 1)) }
+        ensures lines_fit { IfOk result (λ page. IfSome page LinesFit) }
         ensures less { IfOk result (λ page. OnSome page (length self.new.left.lines < length self.old.left.lines)) }
     {
         if self.left.is_empty() {
             return Ok(None);
         }
-        // For the proof alone: a line's number fits 32 bits.
+        // For the proof alone: the numbers of lines fit 32 bits.
         let _line = self.left.number();
         let number = self.pages + 1;
         let (page, left) = read_page(self.alloc, self.paper, self.tag, number, &self.left)?;
+        let _next = left.number();
         self.left = left;
         self.pages = number;
         Ok(Some(page))

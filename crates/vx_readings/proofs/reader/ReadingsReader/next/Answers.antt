@@ -4,7 +4,7 @@ use Rattle.vx_readings.specs.declared.fault.ReadingsFault.{ReadingsFault}
 use Rattle.vx_readings.specs.declared.said.SaidPage.{SaidPage}
 use Rattle.vx_readings.specs.Left.{LinesLeft}
 use Rattle.vx_readings.specs.Readings.{Unread, behind_page, next_of, readings_left, with_page, ended, Steps, Walks}
-use Rattle.vx_readings.proofs.Pages.{Fewer, page-less, next-none, next-page, steps-fault, left-fault, walks-page, walks-end}
+use Rattle.vx_readings.proofs.Pages.{Fewer, page-less, page-placed, placed-fit, next-none, next-page, steps-fault, left-fault, walks-page, walks-end}
 use Rattle.vx_readings.proofs.reader.ReadingsReader.next.Goals as goal
 
 pub returns-then-is_empty-clause-exact : goal.returns-then-is_empty-clause-exact
@@ -65,3 +65,13 @@ returns-clause-less c =
     let more : Fewer c.self.inside.left.number c.self.inside.left.lines c.in_ok-page.left =
     page-less c.self.inside.paper c.self.inside.tag (c.self.inside.pages + 1) c.self.inside.left (c.in_ok-page.page, c.in_ok-page.left) c.in_ok-page.ensures in
     subst (λ (old : Unread). length c.in_ok-page.left.lines < length old.left.lines) c.self.view_is more.lines_less
+
+pub returns-clause-lines_fit : goal.returns-clause-lines_fit
+returns-clause-lines_fit c =
+    placed-fit c.in_ok-page.page c.in_ok-page.left
+    (page-placed c.self.inside.paper c.self.inside.tag (c.self.inside.pages + 1) c.self.inside.left (c.in_ok-page.page, c.in_ok-page.left) c.in_ok-page.ensures)
+    (omega (arith, c.number-next.ensures))
+
+pub returns-clause-counted : goal.returns-clause-counted
+returns-clause-counted c =
+    subst (λ (old : Unread). c.self.inside.pages + 1 ≡ old.pages + 1) c.self.view_is refl
