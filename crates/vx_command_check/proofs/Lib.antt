@@ -1,0 +1,3 @@
+pub mod NamedBubbles
+pub mod Counted
+pub mod PageActs
