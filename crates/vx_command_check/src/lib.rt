@@ -7,6 +7,7 @@
 #![tactic(auto)]
 
 mod checking;
+mod laws;
 mod lines;
 mod names;
 mod page;
@@ -14,3 +15,4 @@ mod pages;
 mod walking;
 
 pub use checking::check;
+pub use laws::certified_pages_say_what_fits;
