@@ -4,3 +4,6 @@ pub mod Spelled
 pub mod FilledPlaces
 pub mod ReadBubbles
 pub mod Pages
+pub mod Lacking
+pub mod WrittenLines
+pub mod WrittenRead

@@ -6,3 +6,4 @@ pub mod Left
 pub mod Faults
 pub mod Lines
 pub mod Readings
+pub mod Laws

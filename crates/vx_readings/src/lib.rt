@@ -13,6 +13,7 @@ mod border;
 mod bubbles;
 mod fault;
 mod head;
+mod laws;
 mod lines;
 mod numbers;
 mod reader;
@@ -21,6 +22,7 @@ mod words;
 mod writing;
 
 pub use fault::ReadingsFault;
+pub use laws::written_readings_are_read_back;
 pub use reader::ReadingsReader;
 pub use said::{BubbleName, SaidPage, SaidReading};
 pub use writing::{push_block, push_fault};
