@@ -105,7 +105,7 @@ accepted-first : (election : Election) (number : ℕ) (image : Bitmap) (page : S
     → (said : SaidReading) × (page ≡ Reading said) × (reading_checked election number image said ≡ Ok tt)
 accepted-first election number image NoReading lines is = absurd (lines-differ number (let same : no_reading_line number ≡ certified_line number = cc in same))
 accepted-first election number image (Reading said) lines is = accepted-so (reading_checked election number image said) refl is
-    where
+  where
     accepted-so : (checked : Answer) → reading_checked election number image said ≡ checked
         → slice_get (line_and (checked >>= (λ _. Ok (certified_line number))) lines) 0 ≡ Some (certified_line number)
         → (other : SaidReading) × (Reading said ≡ Reading other) × (reading_checked election number image other ≡ Ok tt)
@@ -129,14 +129,16 @@ accepted-at election done (first ∷ images) (page ∷ more) zero image there at
     let number : done + 1 ≡ done + 0 + 1 = omega arith in
     let same : first ≡ image = cc in
     let found = accepted-first election (done + 1) first page (lines_checked election (done + 1) images more)
-        (at ∙ ap (λ (n : ℕ). Some (certified_line n)) (sym number)) in
-    (found.0, ap Some found.1,
-    subst (λ (n : ℕ). reading_checked election n image found.0 ≡ Ok tt) number (subst (λ (page : Bitmap). reading_checked election (done + 1) page found.0 ≡ Ok tt) same found.2))
+    (at ∙ ap (λ (n : ℕ). Some (certified_line n)) (sym number)) in (
+      found.0,
+      ap Some found.1,
+      subst (λ (n : ℕ). reading_checked election n image found.0 ≡ Ok tt) number (subst (λ (page : Bitmap). reading_checked election (done + 1) page found.0 ≡ Ok tt) same found.2),
+    )
 accepted-at election done (first ∷ images) (page ∷ more) (suc place) image there at =
     let number : done + suc place + 1 ≡ done + 1 + place + 1 = omega arith in
     let found = accepted-at election (done + 1) images more place image there
-        (behind-first (page_answer election (done + 1) first page) (lines_checked election (done + 1) images more) place (certified_line (done + 1 + place + 1))
-        (at ∙ ap (λ (n : ℕ). Some (certified_line n)) number)) in
+    (behind-first (page_answer election (done + 1) first page) (lines_checked election (done + 1) images more) place (certified_line (done + 1 + place + 1))
+    (at ∙ ap (λ (n : ℕ). Some (certified_line n)) number)) in
     (found.0, found.1, subst (λ (n : ℕ). reading_checked election n image found.0 ≡ Ok tt) (sym number) found.2)
 
 halt-accepted : (number : ℕ) (answer : Tested) → reading_halt number answer ≡ Ok tt → answer ≡ Ok tt

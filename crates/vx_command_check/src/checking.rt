@@ -97,7 +97,15 @@ fn check_scans<I: Inputs, S: Sink>(
 {
     steps_in_order::<Bytes>();
     let bytes = take_input(Bytes::new(alloc), inputs, scans, 2, INPUT_LIMIT)?;
-    check_bytes(alloc, election, plans, bytes.as_slice(), readings, inputs, out)
+    check_bytes(
+        alloc,
+        election,
+        plans,
+        bytes.as_slice(),
+        readings,
+        inputs,
+        out,
+    )
 }
 
 /// Plans all cards of the election and tests the scans.

@@ -34,7 +34,11 @@ fn check_rest(said: &mut ReadingsReader<'_>, held: u32) -> Result<(), Halt>
     ensures { RestAnswers held (readings_left said.old) result }
 {
     let pages = count_pages(said)?;
-    if pages == held { Ok(()) } else { Err(halt_of_pages(pages, held)) }
+    if pages == held {
+        Ok(())
+    } else {
+        Err(halt_of_pages(pages, held))
+    }
 }
 
 /// Tests page after page of scans, which have so many images, against what a text of readings says.
@@ -72,7 +76,16 @@ pub(crate) fn check_pages<S: Sink>(
             Ok(None) => return Err(halt_of_pages(said.pages(), held)),
             Ok(Some(page)) => {
                 let number = said.pages();
-                check_page(alloc, &mut memory, election, plans, number, image, page, out)?;
+                check_page(
+                    alloc,
+                    &mut memory,
+                    election,
+                    plans,
+                    number,
+                    image,
+                    page,
+                    out,
+                )?;
             }
         }
     }

@@ -45,8 +45,8 @@ pub(crate) fn next_image<'b>(reader: &mut PbmReader<'b>) -> Result<Option<Image<
     requires { (images_left reader.old).fault ≡ None }
     ensures walks { MatchResult result
         (λ found. MatchOption found
-            (((images_left reader.old).pages ≡ []) × (reader.new ≡ reader.old))
-            (λ page. images_left reader.old ≡ with_page page (images_left reader.new)))
+        (((images_left reader.old).pages ≡ []) × (reader.new ≡ reader.old))
+        (λ page. images_left reader.old ≡ with_page page (images_left reader.new)))
         (λ cause. cause ≡ halts.NoMemory) }
     ensures less { IfOk result (λ image. OnSome image (length reader.new.text < length reader.old.text)) }
     ensures sized { IfOk result (λ image. IfSome image (λ page. IsSized page.width page.height)) }

@@ -19,7 +19,7 @@ pub lacks-both : (at : ℕ) (a b : List ℕ) → lacks at a ≡ true → lacks a
 lacks-both at [] b la lb = lb
 lacks-both at (byte ∷ a) b la lb = more (byte == at) la
     (λ la. lacks-both at a b la lb)
-    where
+  where
     more : (is : Bool) → cond is false (lacks at a) ≡ true → (lacks at a ≡ true → lacks at (a ++ b) ≡ true) → cond is false (lacks at (a ++ b)) ≡ true
     more true la then = absurd cc
     more false la then = then la
@@ -29,7 +29,7 @@ pub parts-last : (at : ℕ) (text : List ℕ) → lacks at text ≡ true → par
 unfolding parts_of
 parts-last at [] lacking = refl
 parts-last at (byte ∷ text) lacking = last (byte == at) lacking (λ lacking. parts-last at text lacking)
-    where
+  where
     last : (is : Bool) → cond is false (lacks at text) ≡ true → (lacks at text ≡ true → parts_of at text ≡ text ∷ [])
         → cond is ([] ∷ parts_of at text) (begun_with byte (parts_of at text)) ≡ (byte ∷ text) ∷ []
     last true lacking then = absurd cc
@@ -40,7 +40,7 @@ pub parts-first : (at : ℕ) (text rest : List ℕ) → lacks at text ≡ true �
 unfolding parts_of
 parts-first at [] rest lacking = rw (equal-yes at at refl) refl
 parts-first at (byte ∷ text) rest lacking = first (byte == at) lacking (λ lacking. parts-first at text rest lacking)
-    where
+  where
     first : (is : Bool) → cond is false (lacks at text) ≡ true → (lacks at text ≡ true → parts_of at (text ++ at ∷ rest) ≡ text ∷ parts_of at rest)
         → cond is ([] ∷ parts_of at (text ++ at ∷ rest)) (begun_with byte (parts_of at (text ++ at ∷ rest))) ≡ (byte ∷ text) ∷ parts_of at rest
     first true lacking then = absurd cc
@@ -51,7 +51,7 @@ pub line-first : (text rest : List ℕ) → lacks 10 text ≡ true → lines_of 
 unfolding lines_of
 line-first [] rest lacking = refl
 line-first (byte ∷ text) rest lacking = first (byte == 10) lacking (λ lacking. line-first text rest lacking)
-    where
+  where
     first : (is : Bool) → cond is false (lacks 10 text) ≡ true → (lacks 10 text ≡ true → lines_of (text ++ 10 ∷ rest) ≡ text ∷ lines_of rest)
         → cond is ([] ∷ lines_of (text ++ 10 ∷ rest)) (begun_with byte (lines_of (text ++ 10 ∷ rest))) ≡ (byte ∷ text) ∷ lines_of rest
     first true lacking then = absurd cc

@@ -180,7 +180,7 @@ by-less (line ∷ lines) unread page new are is =
     let left : found.0.1 ≡ new.left = ap (λ (p : SaidPage × Unread). p.1.left) pair in
     let few : length found.0.1.lines ≡ length new.left.lines = ap (λ (rest : LinesLeft). length rest.lines) left in
     omega (arith, less.lines_less, few)
-    where
+  where
     some-same : (r : Result (Option (SaidPage × Unread)) ReadingsFault) (a b : SaidPage × Unread) → r ≡ Ok (Some a) → r ≡ Ok (Some b) → a ≡ b
     some-same r a b is_a is_b = cc
 
@@ -194,7 +194,7 @@ enough zero more unread a b = absurd (omega arith)
 enough (suc steps) zero unread a b = absurd (omega arith)
 enough (suc steps) (suc more) unread a b =
     enough-by (next_of unread) (λ page new is. enough steps more new (omega (arith, next-less unread page new is)) (omega (arith, next-less unread page new is)))
-    where
+  where
     enough-by : (found : Result (Option (SaidPage × Unread)) ReadingsFault) → ((page : SaidPage) (new : Unread) → found ≡ Ok (Some (page, new)) → readings_within steps new ≡ readings_within more new)
         → onwards (readings_within steps) found ≡ onwards (readings_within more) found
     enough-by (Ok (Some found)) same = ap (with_page found.0) (same found.0 found.1 refl)

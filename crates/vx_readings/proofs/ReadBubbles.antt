@@ -69,7 +69,7 @@ next-fault : (bubble number : ℕ) (lines : List (List ℕ)) (fault : ReadingsFa
 unfolding bubbles_in
 next-fault bubble number [] fault is = let same : Line number ≡ fault = cc in ap Err same
 next-fault bubble number (line ∷ rest) fault is = told-fault (bubble_or_end bubble line) is
-    where
+  where
     told-fault : (told : Option (Option SaidBubble)) → told_by number rest told ≡ Err fault → bubble_and number rest told (bubbles_in (bubble + 1) (number + 1) rest) ≡ Err fault
     told-fault None is = let same : Line number ≡ fault = cc in ap Err same
     told-fault (Some value) is = absurd cc

@@ -72,10 +72,11 @@ module _ (j score : ℕ) (bubble : Bubble) (state : State) (small : j < 2 ^ 32) 
       let parts : codes "bubble" ∷ decimal j ∷ decimal bubble.contest ∷ decimal bubble.option ∷ decimal score ∷ state_word state ∷ [] ≡ codes "end" ∷ [] =
       sym has ∙ ap (parts_of 32) same ∙ parts-last 32 (codes "end") refl in
       absurd (letters (ap first-letter parts))
-      where
+    where
       first-letter : List (List ℕ) → ℕ
       first-letter [] = 0
       first-letter (word ∷ words) = get_or word 0 0
+
       letters : ◌≡◌ {A = ℕ} 98 101 → ⊥
       letters same = omega arith
   no-end line has false is = refl
@@ -263,10 +264,11 @@ parts-some : (at : ℕ) (text : List ℕ) → 0 < length (parts_of at text)
 unfolding parts_of
 parts-some at [] = omega arith
 parts-some at (byte ∷ text) = some (byte == at)
-    where
+  where
     begun : (parts : List (List ℕ)) → 0 < length (begun_with byte parts)
     begun [] = omega arith
     begun (part ∷ parts) = omega arith
+
     some : (is : Bool) → 0 < length (cond is ([] ∷ parts_of at text) (begun_with byte (parts_of at text)))
     some true = omega arith
     some false = begun (parts_of at text)
@@ -275,7 +277,7 @@ goes-on : (text : List ℕ) → 0 < length text → goes_on (parts_of 32 text) �
 unfolding parts_of
 goes-on [] some = absurd (omega arith)
 goes-on (byte ∷ text) some = goes (byte == 32)
-    where
+  where
     goes : (is : Bool) → goes_on (cond is ([] ∷ parts_of 32 text) (begun_with byte (parts_of 32 text))) ≡ true
     goes true = goes-more (parts_of 32 text) (parts-some 32 text)
     goes false = begun-goes byte (parts_of 32 text)

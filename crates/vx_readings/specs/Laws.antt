@@ -42,7 +42,10 @@ name_of bubble = record { contest = bubble.contest; option = bubble.option }
 -- what is unread of a text of which some pages were read, where this text begins with the line of a number
 abbrev pub text_left : Paper → ℕ → ℕ → ℕ → List ℕ → Unread
 text_left paper tag pages number text = record {
-  paper = paper; tag = tag; pages = pages; left = record { number = number; lines = lines_of text };
+  paper = paper;
+  tag = tag;
+  pages = pages;
+  left = record { number = number; lines = lines_of text };
 }
 
 -- a text on one line, with at least a byte
@@ -61,8 +64,10 @@ pub record WrittenIsReadBack : Type 0 where
       (paper : Paper) (tag pages number : ℕ) (bubbles : List Bubble) (reading : PageReading) (rest : List ℕ)
       → pages + 1 < 2 ^ 32 → IsSayable paper tag bubbles reading
       → next_of (text_left paper tag pages number (block_text (pages + 1) bubbles reading ++ rest))
-      ≡ Ok (Some (Reading (record { first_bubble = number + 2; names = map name_of bubbles; reading = reading }),
-      text_left paper tag (pages + 1) (number + 3 + length bubbles) rest))
+      ≡ Ok (Some (
+        Reading (record { first_bubble = number + 2; names = map name_of bubbles; reading = reading }),
+        text_left paper tag (pages + 1) (number + 3 + length bubbles) rest,
+      ))
   pub fault :
       (paper : Paper) (tag pages number : ℕ) (text rest : List ℕ) → pages + 1 < 2 ^ 32 → IsOneLine text
       → next_of (text_left paper tag pages number (told_line (pages + 1) text ++ rest))

@@ -62,7 +62,12 @@ head_in paper tag words = do
   turned ← turned_in kind.1
   Some (record {
     code = record {
-      version = version_of paper; test = kind.0.1; kind = kind.0.0; card = card.0; page = side.0; tag = tag;
+      version = version_of paper;
+      test = kind.0.1;
+      kind = kind.0.0;
+      card = card.0;
+      page = side.0;
+      tag = tag;
     };
     turned = turned;
   })

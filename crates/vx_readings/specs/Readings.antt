@@ -68,17 +68,20 @@ unfoldable pub block_in : Paper → Head → LinesLeft → Result (SaidPage × L
 block_in paper head left = do
   border ← next_line (border_in paper) left.number left.lines
   bubbles ← bubbles_in 0 border.1.number border.1.lines
-  Ok (Reading (record {
-    first_bubble = border.1.number;
-    names = bubbles.0.names;
-    reading = record {
-      code = head.code;
-      border = border.0;
-      scores = bubbles.0.scores;
-      states = bubbles.0.states;
-      turned = head.turned;
-    };
-  }), bubbles.1)
+  Ok (
+    Reading (record {
+      first_bubble = border.1.number;
+      names = bubbles.0.names;
+      reading = record {
+        code = head.code;
+        border = border.0;
+        scores = bubbles.0.scores;
+        states = bubbles.0.states;
+        turned = head.turned;
+      };
+    }),
+    bubbles.1,
+  )
 
 -- a page whose first line was read
 abbrev pub page_behind : Paper → FirstLine → LinesLeft → Result (SaidPage × LinesLeft) ReadingsFault

@@ -32,10 +32,7 @@ fn next_first<'b>(
 }
 
 /// The border that the next line says.
-fn next_border<'b>(
-    paper: Paper,
-    left: &Lines<'b>,
-) -> Result<(Border, Lines<'b>), ReadingsFault>
+fn next_border<'b>(paper: Paper, left: &Lines<'b>) -> Result<(Border, Lines<'b>), ReadingsFault>
     ensures { result ≡ readings.next_line (lines.border_in paper) left.now.number left.now.lines }
 {
     let at = left.number();

@@ -42,7 +42,7 @@ fn place_in(word: &[u8]) -> Option<Point>
 fn places_in(paper: Paper, words: Parts<'_>) -> Option<[Point; 168]>
     ensures { MatchOption result (lines.border_by paper words.entry ≡ None)
         (λ places. lines.border_by paper words.entry
-            ≡ Some (record { paper = paper; places = take (marks_of paper) places })) }
+        ≡ Some (record { paper = paper; places = take (marks_of paper) places })) }
 {
     let mut places = [Point { u: 0, v: 0 }; 168];
     let mut rest = words;

@@ -82,7 +82,11 @@ fn turned_in(words: Parts<'_>) -> Option<bool>
             if rest.split().is_some() {
                 return None;
             }
-            if word == b"turned".as_slice() { Some(true) } else { None }
+            if word == b"turned".as_slice() {
+                Some(true)
+            } else {
+                None
+            }
         }
     }
 }
@@ -125,7 +129,11 @@ fn first_behind(paper: Paper, tag: u32, words: Parts<'_>) -> Option<FirstLine>
 {
     let (word, rest) = words.split()?;
     if word == b"fault".as_slice() {
-        return if goes_on(rest) { Some(FirstLine::Fault) } else { None };
+        return if goes_on(rest) {
+            Some(FirstLine::Fault)
+        } else {
+            None
+        };
     }
     if word == b"card".as_slice() {
         let head = head_in(paper, tag, rest)?;
@@ -140,5 +148,9 @@ pub(crate) fn first_in(paper: Paper, tag: u32, number: u32, line: &[u8]) -> Opti
     ensures { result ≡ lines.first_in paper tag number line.now }
 {
     let (page, words) = named_number(Parts::of(b' ', line), b"page")?;
-    if page == number { first_behind(paper, tag, words) } else { None }
+    if page == number {
+        first_behind(paper, tag, words)
+    } else {
+        None
+    }
 }

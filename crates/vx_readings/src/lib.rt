@@ -20,6 +20,8 @@ mod reader;
 mod said;
 mod words;
 mod writing;
+#[cfg(test)]
+mod tests;
 
 pub use fault::ReadingsFault;
 pub use laws::written_readings_are_read_back;

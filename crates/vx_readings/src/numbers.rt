@@ -26,7 +26,11 @@ fn negative_of(number: Option<u32>) -> Option<i32>
         Some(0) => None,
         Some(most) => {
             let less = most - 1;
-            if less < 1 << 31 { Some(-(less as i32) - 1) } else { None }
+            if less < 1 << 31 {
+                Some(-(less as i32) - 1)
+            } else {
+                None
+            }
         }
     }
 }
@@ -38,7 +42,11 @@ fn positive_of(number: Option<u32>) -> Option<i32>
     match number {
         None => None,
         Some(value) => {
-            if value < 1 << 31 { Some(value as i32) } else { None }
+            if value < 1 << 31 {
+                Some(value as i32)
+            } else {
+                None
+            }
         }
     }
 }
