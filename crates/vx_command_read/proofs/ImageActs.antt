@@ -11,7 +11,7 @@ use Rattle.vx_command.specs.Acts.{Write, Outcome, writing}
 use Rattle.vx_command.specs.Done.{Taken, IsDone, IsWritten, WritesTo}
 use Rattle.vx_command.specs.Halts.{bitmap_halt}
 use Rattle.vx_command.specs.Laws.{ActLaws}
-use Rattle.vx_command_read.specs.ReadingText.{image_text}
+use Rattle.vx_readings.specs.ReadingText.{image_text}
 use Rattle.vx_command_read.specs.Outcome.{scan_outcome}
 use Rattle.vx_command_read.specs.Scans.{ReadsScan}
 

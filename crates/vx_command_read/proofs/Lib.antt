@@ -1,4 +1,4 @@
-pub mod ReadingTexts
+pub mod ImageTexts
 pub mod ImageActs
 pub mod ScanActs
 pub mod Told

@@ -29,7 +29,7 @@ use Rattle.vx_command.specs.declared.halt.Halt.{Halt}
 use Rattle.vx_command.specs.Acts.{Outcome, text_of, goes_on, taking, input_of, input_limit}
 use Rattle.vx_command.specs.Elections.{election_read, election_in, plans_in, once_planned}
 use Rattle.vx_command.specs.Texts.{Wrote, texts_of, TextsInOrder}
-use Rattle.vx_command_read.specs.ReadingText.{line_of, page_line, border_line, bubble_lines, block_text, bubbles_on, reading_text, image_text}
+use Rattle.vx_readings.specs.ReadingText.{line_of, page_line, border_line, bubble_lines, block_text, bubbles_on, reading_text, image_text}
 use Rattle.vx_command_read.specs.Outcome.{image_acts, unless_faulty, scan_outcome, scans_outcome, read_outcome}
 use Rattle.vx_command_read.specs.Margin.{IsBlockOf, unless_faulty_before, images_and, images_in, texts_of_images, texts_round, FittingScansAreTold}
 

@@ -1,4 +1,3 @@
-pub mod ReadingText
 pub mod Outcome
 pub mod Scans
 pub mod Margin

@@ -16,7 +16,7 @@ use Rattle.vx_command.specs.Acts.{Answer, input_of, input_limit}
 use Rattle.vx_command.specs.Done.{Taken, Held, IsDone}
 use Rattle.vx_command.specs.Elections.{election_in, plans_in}
 use Rattle.vx_command.specs.Texts.{Wrote}
-use Rattle.vx_command_read.specs.ReadingText.{line_of, page_line, border_line, bubble_lines, image_text}
+use Rattle.vx_readings.specs.ReadingText.{line_of, page_line, border_line, bubble_lines, image_text}
 use Rattle.vx_command_read.specs.Outcome.{read_outcome}
 
 -- the text of the image with a number is the block of a printed page: its card, its side, its kind, turned or not, the

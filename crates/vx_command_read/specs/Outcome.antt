@@ -8,7 +8,7 @@ use Rattle.vx_pbm.specs.Images.{Images, images_of}
 use Rattle.vx_command.specs.declared.halt.Halt.TheVariants.{Pbm}
 use Rattle.vx_command.specs.Acts.{Act, Write, Outcome, finished, halted, after, once_taken, input_limit}
 use Rattle.vx_command.specs.Elections.{once_election, once_planned}
-use Rattle.vx_command_read.specs.ReadingText.{image_text}
+use Rattle.vx_readings.specs.ReadingText.{image_text}
 
 -- the texts of images are written, the first of which has a number
 abbrev pub image_acts : Election → ℕ → List Page → List Act

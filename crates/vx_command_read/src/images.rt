@@ -5,7 +5,7 @@ ghost use Rattle.vx_pbm.specs.Images.{images_of};
 ghost use Rattle.vx_command.specs.Acts.{writing};
 ghost use Rattle.vx_command.specs.Devices.{TouchesSink, writes_nothing};
 ghost use Rattle.vx_command.specs.Done.{IsWritten};
-ghost use Rattle.vx_command_read.specs.ReadingText.{image_text as image_text_of};
+ghost use Rattle.vx_readings.specs.ReadingText.{image_text as image_text_of};
 ghost use Rattle.vx_command_read.specs.Scans.{ReadsScan};
 
 use crate::reading_text::image_text;

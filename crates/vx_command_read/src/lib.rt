@@ -2,7 +2,7 @@
 //! scans is read as, or its fault.
 //!
 //! What it does is `read_outcome` in `specs/Outcome.antt`; the text of an image stands in
-//! `specs/ReadingText.antt`. What a reading is stands in `vx_scan_model`, what all commands share in
+//! `specs/ReadingText.antt` of `vx_readings`. What a reading is stands in `vx_scan_model`, what all commands share in
 //! `vx_command`. That scans within the margin are told as they were printed and marked is the law
 //! `fitting_scans_are_told`, its statement `specs/Margin.antt`.
 #![tactic(auto)]

@@ -1,7 +1,7 @@
 use Rattle.std.proofs.Common.{Ok, rules}
 use Rattle.std.proofs.lemmas.Result.{err_from_is_err_and}
 use Rattle.vx_command.specs.Acts.{writing}
-use Rattle.vx_command_read.specs.ReadingText.{image_text}
+use Rattle.vx_readings.specs.ReadingText.{image_text}
 use Rattle.vx_command_read.proofs.images.read_image.Goals as goal
 
 pub returns-in_err-text-clause-done : goal.returns-in_err-text-clause-done

@@ -1,6 +1,6 @@
 use Rattle.std.proofs.Common.{◌++◌, List, ℕ, string_bytes, ap, ◌∙◌}
 use Rattle.vx_base.proofs.Results.{OnOk-both}
-use Rattle.vx_command_read.proofs.ReadingTexts.{image_text-read, image_text-fault}
+use Rattle.vx_command_read.proofs.ImageTexts.{image_text-read, image_text-fault}
 use Rattle.vx_command_read.proofs.reading_text.push_image.Goals as goal
 
 pub returns-in-Ok : goal.returns-in-Ok

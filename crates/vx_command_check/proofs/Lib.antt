@@ -1,0 +1,4 @@
+pub mod NamedBubbles
+pub mod Counted
+pub mod PageActs
+pub mod Certified

@@ -1,0 +1,9 @@
+pub mod ReadingTexts
+pub mod Parts
+pub mod Spelled
+pub mod FilledPlaces
+pub mod ReadBubbles
+pub mod Pages
+pub mod Lacking
+pub mod WrittenLines
+pub mod WrittenRead
