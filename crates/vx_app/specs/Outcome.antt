@@ -4,20 +4,40 @@ use Rattle.vx_io.specs.Outside.{Files}
 use Rattle.vx_command.specs.Acts.{Outcome}
 use Rattle.vx_command_print.specs.Outcome.{print_outcome}
 use Rattle.vx_command_read.specs.Outcome.{read_outcome}
-use Rattle.vx_app.specs.declared.command.Command.{Command}
-use Rattle.vx_app.specs.declared.command.Command.TheVariants.{Print, Read}
+use Rattle.vx_command_check.specs.Outcome.{check_outcome}
+use Rattle.vx_command_count.specs.Outcome.{count_outcome}
+use Rattle.vx_command_decide.specs.Outcome.{decide_outcome}
+use Rattle.vx_command_queue.specs.Outcome.{queue_outcome}
+use Rattle.vx_command_export.specs.Outcome.{export_outcome}
+use Rattle.vx_words.specs.declared.command.Command.{Command}
+use Rattle.vx_words.specs.declared.command.Command.TheVariants.{Print, Read, Check, Count, Decide, Queue, Export}
 
 -- what a command does, by the files and the records of the journal
 abbrev pub outcome_of : Command → Files → List (List ℕ) → Outcome
-outcome_of (Print election ballot) files records = print_outcome election ballot files
+outcome_of (Print election card kind test) files records =
+    print_outcome election (record { card = card; kind = kind; test = test }) files
 outcome_of (Read election scans) files records = read_outcome election scans files
+outcome_of (Check election scans readings) files records = check_outcome election scans readings files
+outcome_of (Count election batch workers scans) files records = count_outcome election batch scans files records
+outcome_of (Decide election script) files records = decide_outcome election script files records
+outcome_of (Queue election) files records = queue_outcome election files records
+outcome_of (Export election moment device) files records = export_outcome election moment device files records
 
 -- a command that has an act of the keeper
 abbrev pub uses_keeper : Command → Bool
-uses_keeper (Print election ballot) = false
+uses_keeper (Print election card kind test) = false
 uses_keeper (Read election scans) = false
+uses_keeper (Check election scans readings) = false
+uses_keeper command = true
+
+-- a command that appends to the journal
+abbrev pub appends : Command → Bool
+appends (Count election batch workers scans) = true
+appends (Decide election script) = true
+appends command = false
 
 -- a command that takes all its inputs before it writes
 abbrev pub takes_first : Command → Bool
-takes_first (Print election ballot) = true
-takes_first (Read election scans) = false
+takes_first (Print election card kind test) = true
+takes_first (Check election scans readings) = true
+takes_first command = false

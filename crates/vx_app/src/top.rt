@@ -1,51 +1,120 @@
-ghost use Rattle.std.specs.Prelude.{◌≡◌, ◌↔◌, true, List, ℕ, Some};
+ghost use Rattle.std.specs.Prelude.{◌≡◌, ◌↔◌, true, false, List, ℕ, Some};
 ghost use Rattle.vx_io.specs.Outside.{Files};
 ghost use Rattle.vx_command.specs.Devices.{LeavesInputs, LeavesKeeper, LeavesSink, writes_nothing};
 ghost use Rattle.vx_command.specs.Done.{IsDone};
 ghost use Rattle.vx_command.specs.Status.{answer_of};
 ghost use Rattle.vx_command_read.specs.Margin.{ReadTellsWhatFits};
-ghost use Rattle.vx_app.specs.declared.command.Command.{Command as CommandOf};
-ghost use Rattle.vx_app.specs.Words.{IsSound, NoCommand, Spells};
-ghost use Rattle.vx_app.specs.Outcome.{outcome_of, takes_first, uses_keeper};
+ghost use Rattle.vx_words.specs.declared.command.Command.{Command as CommandOf};
+ghost use Rattle.vx_words.specs.Words.{IsSound, NoCommand, Spells};
+ghost use Rattle.vx_app.specs.Outcome.{appends, outcome_of, takes_first, uses_keeper};
 
-use crate::command::Command;
-use crate::parsing::parse;
 use std::alloc::Global;
 use std::thread::Threads;
 use vx_command::{Halt, Status, acts_in_order, status_of};
-use vx_command_print::print;
+use vx_command_check::check;
+use vx_command_count::count;
+use vx_command_decide::decide;
+use vx_command_export::export;
+use vx_command_print::{Ballot, print};
+use vx_command_queue::queue;
 use vx_command_read::{fitting_scans_are_told, read};
 use vx_io::{Inputs, Keeper, Sink, Words};
+use vx_words::{Command, UsageFault, parse, words_spell_one_command};
+use vx_workers::OpenGate;
 
 /// Does a command.
-fn obey<I: Inputs, S: Sink, K: Keeper>(
+fn obey<R: Threads + Sync, I: Inputs, S: Sink, K: Keeper>(
+    rt: &R,
     alloc: Global,
     command: Command,
     inputs: &mut I,
     out: &mut S,
-    _keeper: &mut K,
+    keeper: &mut K,
 ) -> Result<(), Halt>
-    requires { IsSound command }
+    requires { (device : List ℕ) × IsSound device command }
     ensures done { (files : Files) → I.held inputs.old ≡ Some files →
-        (records : List (List ℕ)) → (uses_keeper command ≡ true → K.held _keeper.old ≡ Some records) →
+        (records : List (List ℕ)) → (uses_keeper command ≡ true → K.held keeper.old ≡ Some records) →
         IsDone (outcome_of command files records)
-        (S.taken out.old) (S.taken out.new) (K.held _keeper.old) (K.held _keeper.new) result }
+        (S.taken out.old) (S.taken out.new) (K.held keeper.old) (K.held keeper.new) result }
     ensures nothing_written { writes_nothing (takes_first command) result ≡ true →
         S.taken out.new ≡ S.taken out.old }
     ensures inputs { LeavesInputs (I.held inputs.old) (I.held inputs.new)
         (I.faults inputs.old) (I.faults inputs.new) result }
     ensures sink { LeavesSink (S.faults out.old) (S.faults out.new) result }
-    ensures keeper { LeavesKeeper (K.faults _keeper.old) (K.faults _keeper.new) result }
-    ensures keeper_held { K.held _keeper.new ≡ K.held _keeper.old }
+    ensures keeper { LeavesKeeper (K.faults keeper.old) (K.faults keeper.new) result }
+    ensures keeper_held { appends command ≡ false → K.held keeper.new ≡ K.held keeper.old }
 {
     match command {
-        Command::Print { election, ballot } => print(alloc, election.as_str(), ballot, inputs, out),
+        Command::Print {
+            election,
+            card,
+            kind,
+            test,
+        } => print(
+            alloc,
+            election.as_str(),
+            Ballot { card, kind, test },
+            inputs,
+            out,
+        ),
         Command::Read { election, scans } => read(alloc, election.as_str(), &scans, inputs, out),
+        Command::Check {
+            election,
+            scans,
+            readings,
+        } => check(
+            alloc,
+            election.as_str(),
+            scans.as_str(),
+            readings.as_str(),
+            inputs,
+            out,
+        ),
+        Command::Count {
+            election,
+            batch,
+            workers,
+            scans,
+        } => count(
+            rt,
+            alloc,
+            election.as_str(),
+            batch.as_str(),
+            workers,
+            &scans,
+            inputs,
+            out,
+            keeper,
+            &OpenGate,
+        ),
+        Command::Decide { election, script } => decide(
+            alloc,
+            election.as_str(),
+            script.as_str(),
+            inputs,
+            out,
+            keeper,
+        ),
+        Command::Queue { election } => queue(alloc, election.as_str(), inputs, out, keeper),
+        Command::Export {
+            election,
+            moment,
+            device,
+        } => export(
+            alloc,
+            election.as_str(),
+            moment.as_str(),
+            device.as_str(),
+            inputs,
+            out,
+            keeper,
+        ),
     }
 }
 
 /// Does the command that the words spell.
-fn run_words<I: Inputs, S: Sink, K: Keeper>(
+fn run_words<R: Threads + Sync, I: Inputs, S: Sink, K: Keeper>(
+    rt: &R,
     alloc: Global,
     words: &Words,
     inputs: &mut I,
@@ -63,17 +132,20 @@ fn run_words<I: Inputs, S: Sink, K: Keeper>(
         writes_nothing (takes_first command) (answer_of result) ≡ true →
         S.taken out.new ≡ S.taken out.old }
     ensures usage_writes_nothing { result ≡ Status.Usage → S.taken out.new ≡ S.taken out.old }
+    ensures usage_keeps_all { result ≡ Status.Usage → K.held keeper.new ≡ K.held keeper.old }
     ensures inputs { LeavesInputs (I.held inputs.old) (I.held inputs.new)
         (I.faults inputs.old) (I.faults inputs.new) (answer_of result) }
     ensures sink { LeavesSink (S.faults out.old) (S.faults out.new) (answer_of result) }
     ensures keeper { LeavesKeeper (K.faults keeper.old) (K.faults keeper.new) (answer_of result) }
-    ensures keeper_held { K.held keeper.new ≡ K.held keeper.old }
+    ensures keeper_held { (command : CommandOf) → Spells words.now command →
+        appends command ≡ false → K.held keeper.new ≡ K.held keeper.old }
 {
     acts_in_order();
+    words_spell_one_command();
     match parse(alloc, words) {
-        Err(_refused) => Status::NoMemory,
-        Ok(None) => Status::Usage,
-        Ok(Some(command)) => status_of(obey(alloc, command, inputs, out, keeper)),
+        Err(UsageFault::OutOfMemory) => Status::NoMemory,
+        Err(UsageFault::Usage) => Status::Usage,
+        Ok(command) => status_of(obey(rt, alloc, command, inputs, out, keeper)),
     }
 }
 
@@ -86,7 +158,7 @@ fn run_words<I: Inputs, S: Sink, K: Keeper>(
 /// device's count of faults rises where the status is its fault, and stands still otherwise. What `read`
 /// writes tells each image that fits a printed page with some marks as that page with those marks.
 pub fn run<R: Threads + Sync, I: Inputs, S: Sink, K: Keeper>(
-    _rt: &R,
+    rt: &R,
     alloc: Global,
     words: &Words,
     inputs: &mut I,
@@ -104,11 +176,14 @@ pub fn run<R: Threads + Sync, I: Inputs, S: Sink, K: Keeper>(
         writes_nothing (takes_first command) (answer_of result) ≡ true →
         S.taken out.new ≡ S.taken out.old }
     ensures usage_writes_nothing { result ≡ Status.Usage → S.taken out.new ≡ S.taken out.old }
+    ensures usage_keeps_all { result ≡ Status.Usage → K.held keeper.new ≡ K.held keeper.old }
     ensures inputs { LeavesInputs (I.held inputs.old) (I.held inputs.new)
         (I.faults inputs.old) (I.faults inputs.new) (answer_of result) }
     ensures sink { LeavesSink (S.faults out.old) (S.faults out.new) (answer_of result) }
     ensures keeper { LeavesKeeper (K.faults keeper.old) (K.faults keeper.new) (answer_of result) }
-    ensures keeper_held { K.held keeper.new ≡ K.held keeper.old }
+    // A command that appends nothing leaves what the keeper holds.
+    ensures keeper_held { (command : CommandOf) → Spells words.now command →
+        appends command ≡ false → K.held keeper.new ≡ K.held keeper.old }
     // Each image of the scans that fits a printed page of the election with some marks, as it lies or
     // turned, is told as that page with those marks.
     ensures margin { (files : Files) → I.held inputs.old ≡ Some files →
@@ -116,5 +191,5 @@ pub fn run<R: Threads + Sync, I: Inputs, S: Sink, K: Keeper>(
         ReadTellsWhatFits election scans files (S.taken out.old) (S.taken out.new) (answer_of result) }
 {
     fitting_scans_are_told();
-    run_words(alloc, words, inputs, out, keeper)
+    run_words(rt, alloc, words, inputs, out, keeper)
 }

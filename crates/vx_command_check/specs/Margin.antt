@@ -78,17 +78,16 @@ pub record CertifiesWhatFits (election : Election) (images : List Bitmap) (said 
       → slice_get (lines_checked election 0 images said) place ≡ Some (certified_line (place + 1))
       → SaysPage election said place printed marks
 
+-- the same of `check` of scans and readings under their names, for an election that can be read and laid out
+abbrev pub CheckSaysWhatFits : List ℕ → List ℕ → List ℕ → Files → Taken → Taken → Answer → Type 0
+CheckSaysWhatFits name scans readings files taken taken_now answer =
+    (election : Election) (plans : List CardPlan)
+    → election_in (files name) ≡ Ok election → plans_in election ≡ Ok plans
+    → CertifiesWhatFits election (images_in files scans) (said_in election files readings) taken taken_now answer
+
 -- whatever stands of the acts of `check`, it certifies what fits
 abbrev pub CertifiedPagesSayWhatFits : Type 0
 CertifiedPagesSayWhatFits =
     (name scans readings : List ℕ) (files : Files) (taken taken_now : Taken) (held held_now : Held) (answer : Answer)
     → IsDone (check_outcome name scans readings files) taken taken_now held held_now answer
-    → (election : Election) (plans : List CardPlan)
-    → election_in (files name) ≡ Ok election → plans_in election ≡ Ok plans
-    → CertifiesWhatFits election (images_in files scans) (said_in election files readings) taken taken_now answer
-
--- what passes the tests of a certificate is one
-abbrev pub AcceptedAreCertificates : Type 0
-AcceptedAreCertificates =
-    (election : Election) (page : Bitmap) (reading : PageReading) → IsValid election
-    → tested election page reading ≡ Ok tt → Certifies election page reading
+    → CheckSaysWhatFits name scans readings files taken taken_now answer

@@ -1,6 +1,6 @@
 use Rattle.std.proofs.Common.{[]}
 use Rattle.std.proofs.lemmas.Bool.{false≢true}
-use Rattle.vx_app.specs.declared.command.Command.TheVariants.{Read}
+use Rattle.vx_words.specs.declared.command.Command.TheVariants.{Read}
 use Rattle.vx_app.proofs.top.run.Goals as goal
 
 pub returns-clause-margin : goal.returns-clause-margin
