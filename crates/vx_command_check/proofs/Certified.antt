@@ -31,7 +31,8 @@ use Rattle.vx_command.specs.Elections.{election_read, election_in, plans_in, onc
 use Rattle.vx_command.specs.Texts.{Wrote, texts_of, TextsInOrder}
 use Rattle.vx_command_check.specs.Answers.{certified_line, no_reading_line, reading_halt, names_checked, reading_checked, page_answer}
 use Rattle.vx_command_check.specs.Outcome.{counted_unless, images_counted, page_outcome, pages_outcome, readings_outcome, readings_for, text_outcome, bytes_outcome, scans_outcome, check_outcome}
-use Rattle.vx_command_check.specs.Margin.{line_and, lines_checked, unless_faulty, images_taken, images_in, said_taken, said_in, SaysPage, CertifiesWhatFits, CertifiedPagesSayWhatFits, AcceptedAreCertificates}
+use Rattle.vx_check.specs.Accepted.{AcceptedAreCertificates}
+use Rattle.vx_command_check.specs.Margin.{line_and, lines_checked, unless_faulty, images_taken, images_in, said_taken, said_in, SaysPage, CertifiesWhatFits, CertifiedPagesSayWhatFits}
 
 -- lines, one after another
 abbrev all_lines : List (List ℕ) → List ℕ
