@@ -3,6 +3,7 @@ ghost use Rattle.vx_io.specs.Outside.{Files};
 ghost use Rattle.vx_command.specs.Devices.{LeavesInputs, LeavesKeeper, LeavesSink, writes_nothing};
 ghost use Rattle.vx_command.specs.Done.{IsDone};
 ghost use Rattle.vx_command.specs.Status.{answer_of};
+ghost use Rattle.vx_command_check.specs.Margin.{CheckSaysWhatFits};
 ghost use Rattle.vx_command_read.specs.Margin.{ReadTellsWhatFits};
 ghost use Rattle.vx_words.specs.declared.command.Command.{Command as CommandOf};
 ghost use Rattle.vx_words.specs.Words.{IsSound, NoCommand, Spells};
@@ -11,7 +12,7 @@ ghost use Rattle.vx_app.specs.Outcome.{appends, outcome_of, takes_first, uses_ke
 use std::alloc::Global;
 use std::thread::Threads;
 use vx_command::{Halt, Status, acts_in_order, status_of};
-use vx_command_check::check;
+use vx_command_check::{certified_pages_say_what_fits, check};
 use vx_command_count::count;
 use vx_command_decide::decide;
 use vx_command_export::export;
@@ -156,7 +157,8 @@ fn run_words<R: Threads + Sync, I: Inputs, S: Sink, K: Keeper>(
 /// command's outcome are done in order: all of them, and the status is the outcome's; or up to one at
 /// which a device failed, with that device's fault as the status, or before which memory ran out. A
 /// device's count of faults rises where the status is its fault, and stands still otherwise. What `read`
-/// writes tells each image that fits a printed page with some marks as that page with those marks.
+/// writes tells each image that fits a printed page with some marks as that page with those marks, and
+/// readings that `check` certifies of such an image say so.
 pub fn run<R: Threads + Sync, I: Inputs, S: Sink, K: Keeper>(
     rt: &R,
     alloc: Global,
@@ -189,7 +191,14 @@ pub fn run<R: Threads + Sync, I: Inputs, S: Sink, K: Keeper>(
     ensures margin { (files : Files) → I.held inputs.old ≡ Some files →
         (election : List ℕ) (scans : List (List ℕ)) → Spells words.now (Command.Read election scans) →
         ReadTellsWhatFits election scans files (S.taken out.old) (S.taken out.new) (answer_of result) }
+    // Where `check` writes `certified` for an image that fits a printed page with some marks, as it lies
+    // or turned, the readings say that page of it, with those marks.
+    ensures certified { (files : Files) → I.held inputs.old ≡ Some files →
+        (election scans readings : List ℕ) → Spells words.now (Command.Check election scans readings) →
+        CheckSaysWhatFits election scans readings files
+        (S.taken out.old) (S.taken out.new) (answer_of result) }
 {
     fitting_scans_are_told();
+    certified_pages_say_what_fits();
     run_words(rt, alloc, words, inputs, out, keeper)
 }
