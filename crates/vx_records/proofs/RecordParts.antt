@@ -30,7 +30,7 @@ use Rattle.vx_records.specs.Records.{record_of, spaced, decision_name, decision_
 use Rattle.vx_records.specs.Held.{IsHeld, is_in_range, is_held_sheet, is_marked, HasWords, DecidesWords}
 use Rattle.vx_records.specs.Numbers.{takes}
 use Rattle.vx_records.specs.Parts.{Found, Read, found, choice_in}
-use Rattle.vx_records.specs.Reading.{acts, act_word, act_in, record_in, claim_in}
+use Rattle.vx_records.specs.Reading.{acts, act_word, act_in, record_in, claim_in, made_add}
 use Rattle.vx_records.proofs.Grammar.{Part, Both, Some_text, StopsAt, StopsAt-any, any, none, then_in, then_part}
 use Rattle.vx_records.proofs.Steps.{Spelled, Mapped, map_in, map_part, same_texts}
 use Rattle.vx_records.proofs.Choice.{Among, Chosen, choice_part}
@@ -40,7 +40,7 @@ use Rattle.vx_records.proofs.WordsPart.{AreWords}
 use Rattle.vx_records.proofs.KeyParts.{Claims, claim_text, claim_part, some_claim, some_mapped, key_text}
 use Rattle.vx_records.proofs.ContestParts.{marks_text, Listed}
 use Rattle.vx_records.proofs.DecisionParts.{Named, by_words, by_number, name_text, Ruled, selects, overvotes, accepts, names, decision_text, Deciding, deciding_part, some_deciding}
-use Rattle.vx_records.proofs.SheetParts.{IsHead, head_text, made_add, Adding, adding_part, some_adding, key_short, head_short}
+use Rattle.vx_records.proofs.SheetParts.{IsHead, head_text, Adding, adding_part, some_adding, key_short, head_short}
 
 abbrev made_claim : ℕ × Key → Event
 made_claim x = Claim x.0 x.1

@@ -21,7 +21,7 @@ use Rattle.vx_records.specs.declared.sheets.Head.{Head}
 use Rattle.vx_records.specs.declared.sheets.Room.{Room}
 use Rattle.vx_records.specs.Parts.{Found, Read, found, stop, choice_in, followed_by, each_in}
 use Rattle.vx_records.specs.Numbers.{takes, number_in}
-use Rattle.vx_records.specs.Reading.{key_in, kinds, kind_text, head_in, contest_in, next_room, add_in}
+use Rattle.vx_records.specs.Reading.{key_in, kinds, kind_text, head_in, contest_in, next_room, made_head, room_of, made_add, add_in}
 use Rattle.vx_records.proofs.Grammar.{Part, Both, Some_text, StopsAt, StopsAt-any, any, none, then_in, then_part}
 use Rattle.vx_records.proofs.Steps.{Spelled, Mapped, map_in, map_part, same_texts, followed_part}
 use Rattle.vx_records.proofs.Choice.{Among, Chosen, choice_part}
@@ -65,9 +65,6 @@ pub record IsHead (head : Head) : Type 0 where
 
 abbrev pub head_text : Head → List ℕ
 head_text head = (key_text head.key ++ 32 ∷ []) ++ ((decimal head.card ++ 32 ∷ []) ++ ((decimal head.front ++ 32 ∷ []) ++ kind_word head.kind head.test))
-
-abbrev made_head : Key → ℕ → ℕ → Kind × Bool → Head
-made_head key card front kind = record { key = key; card = card; front = front; kind = kind.0; test = kind.1 }
 
 abbrev Kinded : Key → ℕ → ℕ → ℕ → Head → List ℕ → Type 0
 Kinded key card front n = Mapped (made_head key card front) (Chosen kind_text kinds)
@@ -146,12 +143,6 @@ head_part : Part (Spelled IsHead head_text) any head_in
 head_part = same_texts head_both (λ head u h. head_to head u h) (λ head u h. head_back head u h)
 
 -- a sheet with its contests
-abbrev pub made_add : Head → List ContestMarks → Event
-made_add head contests = Add head.key (record { card = head.card; front = head.front; kind = head.kind; test = head.test; contests = contests })
-
-abbrev room_of : ℕ → Room
-room_of n = record { least = 0; room = 16378 - n }
-
 abbrev Contested : Head → ℕ → Event → List ℕ → Type 0
 Contested head n = Mapped (made_add head) (Spelled (Listed (room_of n)) marks_text)
 

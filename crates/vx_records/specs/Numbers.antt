@@ -33,7 +33,9 @@ unfoldable pub digits_in : Numbers → ℕ → List ℕ → Read ℕ
 digits_in numbers n [] = taken numbers n []
 digits_in numbers n (b ∷ text) =
     if is_digit b then
-    (if nat_lt 0 n && begins numbers (10 * n + (b - 48)) then digits_in numbers (10 * n + (b - 48)) text else stop (b ∷ text))
+    (if nat_lt 0 n && begins numbers (10 * n + (b - 48))
+     then digits_in numbers (10 * n + (b - 48)) text
+     else stop (b ∷ text))
     else taken numbers n (b ∷ text)
 
 unfoldable pub number_in : Numbers → List ℕ → Read ℕ

@@ -35,7 +35,8 @@ pick value (Err left) otherwise = otherwise left
 
 unfoldable pub choice_from : {A : Type 0} → ℕ → (A → List ℕ) → List A → List ℕ → Read A
 choice_from left word [] text = Err left
-choice_from left word (value ∷ more) text = pick value (word_in (word value) text) (λ other. choice_from (min left other) word more text)
+choice_from left word (value ∷ more) text =
+    pick value (word_in (word value) text) (λ other. choice_from (min left other) word more text)
 
 abbrev pub choice_in : {A : Type 0} → (A → List ℕ) → List A → List ℕ → Read A
 choice_in word values text = choice_from (length text) word values text

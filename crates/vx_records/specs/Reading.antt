@@ -68,7 +68,9 @@ claim_in text = do
 -- an option from `least` on, behind a comma
 unfoldable pub option_in : ℕ → List ℕ → Read ℕ
 option_in least text =
-    if nat_lt least 1000 then (word_in (44 ∷ []) text >>= λ comma. number_in (Between least 999) comma.rest) else stop text
+    if nat_lt least 1000
+    then (word_in (44 ∷ []) text >>= λ comma. number_in (Between least 999) comma.rest)
+    else stop text
 
 abbrev pub next_option : ℕ → ℕ → ℕ → ℕ
 next_option least option spent = option + 1
@@ -141,6 +143,9 @@ kinds =
 abbrev pub kind_text : Kind × Bool → List ℕ
 kind_text kind = kind_word kind.0 kind.1
 
+abbrev pub made_head : Key → ℕ → ℕ → Kind × Bool → Head
+made_head key card front kind = record { key = key; card = card; front = front; kind = kind.0; test = kind.1 }
+
 -- B, N, CARD, FRONT and KIND
 unfoldable pub head_in : List ℕ → Read Head
 head_in text = do
@@ -148,7 +153,7 @@ head_in text = do
   card ← followed_by 32 (number_in (Between 0 1023) key.rest)
   front ← followed_by 32 (number_in Fronts card.rest)
   kind ← choice_in kind_text kinds front.rest
-  found (record { key = key.value; card = card.value; front = front.value; kind = kind.value.0; test = kind.value.1 }) kind.rest
+  found (made_head key.value card.value front.value kind.value) kind.rest
 
 -- what a letter says
 abbrev pub state_of : ℕ → State
@@ -160,7 +165,9 @@ most_contest room = if room == 4 then 9 else if room == 5 then 99 else 499
 
 -- the letters of a contest's states in at most `room` bytes
 unfoldable pub states_in : ℕ → List ℕ → Read (List State)
-states_in room text = letters_in is_state_letter 1 (min room 150) text >>= λ letters. found (map state_of letters.value) letters.rest
+states_in room text =
+    letters_in is_state_letter 1 (min room 150) text >>= λ letters.
+    found (map state_of letters.value) letters.rest
 
 -- a contest from `least` on, behind a blank, in at most `room` bytes
 unfoldable pub contest_in : Room → List ℕ → Read ContestMarks
@@ -175,12 +182,21 @@ contest_in place text =
 abbrev pub next_room : Room → ContestMarks → ℕ → Room
 next_room place marks spent = record { least = marks.contest + 1; room = place.room - spent }
 
--- an added sheet; of the 16,384 bytes of a record its first word has taken 6
+-- the room for contests where a sheet's front part took so many bytes: of the 16,384 bytes of a
+-- record its first word has taken 6
+abbrev pub room_of : ℕ → Room
+room_of spent = record { least = 0; room = 16378 - spent }
+
+abbrev pub made_add : Head → List ContestMarks → Event
+made_add head contests =
+    Add head.key (record { card = head.card; front = head.front; kind = head.kind; test = head.test; contests = contests })
+
+-- an added sheet
 unfoldable pub add_in : List ℕ → Read Event
 add_in text = do
   head ← head_in text
-  contests ← each_in contest_in next_room 500 (record { least = 0; room = 16378 - (length text - length head.rest) }) head.rest
-  found (Add head.value.key (record { card = head.value.card; front = head.value.front; kind = head.value.kind; test = head.value.test; contests = contests.value })) contests.rest
+  contests ← each_in contest_in next_room 500 (room_of (length text - length head.rest)) head.rest
+  found (made_add head.value contests.value) contests.rest
 
 -- what stands behind a record's first word
 abbrev pub act_in : Act → List ℕ → Read Event

@@ -57,7 +57,8 @@ pub(crate) fn key(alloc: Global, text: &[u8]) -> Result<(Key, &[u8]), Stop>
 /// A key with a blank behind it.
 pub(crate) fn key_before(alloc: Global, text: &[u8]) -> Result<(Key, &[u8]), Stop>
     ensures { MatchResult result
-        (λ x. followed_by 32 (key_in text.now) ≡ found x.0 x.1.now) (λ stop. Stops stop (followed_by 32 (key_in text.now))) }
+        (λ x. followed_by 32 (key_in text.now) ≡ found x.0 x.1.now)
+        (λ stop. Stops stop (followed_by 32 (key_in text.now))) }
 {
     let (key, rest) = key(alloc, text)?;
     let rest = byte(rest, b' ')?;

@@ -55,7 +55,8 @@ pub(crate) fn is_first(text: &[u8], byte: u8) -> bool
 /// One byte.
 pub(crate) fn byte(text: &[u8], wanted: u8) -> Result<&[u8], Stop>
     ensures { MatchResult result
-        (λ rest. next_is wanted done text.now ≡ found done rest.now) (λ stop. Stops stop (next_is wanted done text.now)) }
+        (λ rest. next_is wanted done text.now ≡ found done rest.now)
+        (λ stop. Stops stop (next_is wanted done text.now)) }
 {
     match text {
         [first, rest @ ..] => {
