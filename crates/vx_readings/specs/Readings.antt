@@ -9,7 +9,7 @@ use Rattle.vx_readings.specs.declared.head.FirstLine.TheVariants as first
 use Rattle.vx_readings.specs.declared.bubbles.SaidBubble.{SaidBubble}
 use Rattle.vx_readings.specs.declared.bubbles.SaidBubbles.{SaidBubbles}
 use Rattle.vx_readings.specs.declared.fault.ReadingsFault.{ReadingsFault}
-use Rattle.vx_readings.specs.declared.fault.ReadingsFault.TheVariants.{Line, OutOfMemory}
+use Rattle.vx_readings.specs.declared.fault.ReadingsFault.TheVariants.{Line}
 use Rattle.vx_readings.specs.declared.said.SaidPage.{SaidPage}
 use Rattle.vx_readings.specs.declared.said.SaidPage.TheVariants.{NoReading, Reading}
 use Rattle.vx_readings.specs.Faults.{is_no_memory}
