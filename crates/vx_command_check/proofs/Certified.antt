@@ -1,6 +1,6 @@
 -- Pages that are certified, and what is said of them.
-use Rattle.std.proofs.Common.{◌≡◌, ◌<◌, ◌+◌, ℕ, zero, suc, List, [], ◌∷◌, ◌++◌, length, drop, codes, get_or, Option, Some, None, Result, Ok, Err, arith, refl, sym, ap, subst, ◌∙◌, append_assoc}
-use Rattle.std.specs.Prelude.{All, slice_get, Bool}
+use Rattle.std.proofs.Common.{◌≡◌, ◌+◌, ℕ, zero, suc, List, [], ◌∷◌, ◌++◌, length, drop, codes, get_or, Option, Some, None, Result, Ok, Err, arith, refl, sym, ap, subst, ◌∙◌}
+use Rattle.std.specs.Prelude.{All, slice_get}
 use Rattle.std.specs.List.{flat_map}
 use Rattle.std.specs.Fmt.{decimal}
 use Rattle.std.proofs.lemmas.List.Elements.{All-nil}
@@ -30,9 +30,9 @@ use Rattle.vx_command.specs.Acts.{Answer, Outcome, Write, after, goes_on, taking
 use Rattle.vx_command.specs.Elections.{election_read, election_in, plans_in, once_planned}
 use Rattle.vx_command.specs.Texts.{Wrote, texts_of, TextsInOrder}
 use Rattle.vx_command_check.specs.Answers.{certified_line, no_reading_line, reading_halt, names_checked, reading_checked, page_answer}
-use Rattle.vx_command_check.specs.Outcome.{counted_unless, images_counted, page_outcome, pages_outcome, readings_outcome, readings_for, text_outcome, bytes_outcome, scans_outcome, check_outcome}
+use Rattle.vx_command_check.specs.Outcome.{counted_unless, pages_outcome, readings_outcome, readings_for, text_outcome, bytes_outcome, scans_outcome, check_outcome}
 use Rattle.vx_check.specs.Accepted.{AcceptedAreCertificates}
-use Rattle.vx_command_check.specs.Margin.{line_and, lines_checked, unless_faulty, images_taken, images_in, said_taken, said_in, SaysPage, CertifiesWhatFits, CertifiedPagesSayWhatFits}
+use Rattle.vx_command_check.specs.Margin.{line_and, lines_checked, unless_faulty, images_taken, images_in, said_taken, said_in, CertifiedPagesSayWhatFits}
 
 -- lines, one after another
 abbrev all_lines : List (List ℕ) → List ℕ

@@ -1,7 +1,6 @@
 -- Images and pages that are counted.
-use Rattle.std.proofs.Common.{◌≡◌, ◌<◌, ◌≤◌, ◌+◌, ℕ, true, false, List, [], ◌∷◌, length, Option, Some, None, Result, Ok, Err, arith, refl, sym, ap, ap₂, subst, ◌∙◌}
-use Rattle.vx_base.specs.Refusals.{Gives, Unless}
-use Rattle.vx_base.proofs.Results.{Unless-always}
+use Rattle.std.proofs.Common.{◌≡◌, ◌<◌, ◌≤◌, ◌+◌, ℕ, List, [], ◌∷◌, length, Option, Some, None, Result, Ok, Err, arith, refl, sym, ap, ◌∙◌}
+use Rattle.vx_base.specs.Refusals.{Gives}
 use Rattle.vx_plane.specs.Plane.{Page as Bitmap}
 use Rattle.vx_pbm.specs.declared.fault.PbmFault.{PbmFault}
 use Rattle.vx_pbm.specs.declared.fault.PbmFault.TheVariants as bitmap
@@ -13,7 +12,6 @@ use Rattle.vx_readings.specs.Readings as said
 use Rattle.vx_readings.specs.Readings.{Unread, Readings, readings_left}
 use Rattle.vx_command.specs.declared.halt.Halt.{Halt}
 use Rattle.vx_command.specs.declared.halt.Halt.TheVariants.{NoMemory}
-use Rattle.vx_command.specs.Acts.{Answer}
 use Rattle.vx_command.specs.Halts.{bitmap_halt}
 use Rattle.vx_command.specs.Steps.{is_no_memory}
 use Rattle.vx_command_check.specs.Answers.{readings_halt}

@@ -1,6 +1,6 @@
 -- Names of bubbles that are compared one after another.
-use Rattle.std.proofs.Common.{◌≡◌, ◌<◌, ◌≤◌, ◌+◌, ℕ, true, false, List, [], ◌∷◌, length, drop, get_or, Option, Some, None, arith, refl, sym, ap, ◌∙◌}
-use Rattle.std.proofs.lemmas.List.{drop_more, drop_all, drop-drop}
+use Rattle.std.proofs.Common.{◌≡◌, ◌≤◌, ◌+◌, ℕ, true, false, List, ◌∷◌, length, drop, Some, None, arith, refl, ap, ◌∙◌}
+use Rattle.std.proofs.lemmas.List.{drop_all, drop-drop}
 use Rattle.vx_layout.specs.declared.bubbles.Bubble.{Bubble}
 use Rattle.vx_readings.specs.declared.said.BubbleName.{BubbleName}
 use Rattle.vx_command_check.specs.Answers.{is_named, other_name}

@@ -1,5 +1,5 @@
 -- Pages that are tested one after another.
-use Rattle.std.proofs.Common.{◌≡◌, ◌<◌, ◌≤◌, ◌+◌, ℕ, List, [], ◌∷◌, length, Option, Some, None, Result, Ok, Err, true, false, arith, rules, refl, sym, ap, subst, ◌∙◌}
+use Rattle.std.proofs.Common.{◌≡◌, ◌+◌, ℕ, List, [], ◌∷◌, length, Option, Some, None, Ok, Err, true, false, arith, rules, refl, sym, ap, subst, ◌∙◌}
 use Rattle.vx_base.specs.Refusals.{Gives}
 use Rattle.vx_base.specs.Results.{◌>>=◌}
 use Rattle.vx_plane.specs.Plane.{Page as Bitmap}

@@ -69,8 +69,8 @@ pub record SaysPage (election : Election) (said : List SaidPage) (place : ℕ) (
 
 -- what was written is lines of pages; and where the line of an image that fits a printed page with some marks is
 -- `certified`, that page with those marks is said of it
-pub record CertifiesWhatFits (election : Election) (images : List Bitmap) (said : List SaidPage) (taken taken_now : Taken)
-    (answer : Answer) : Type 0 where
+pub record CertifiesWhatFits (election : Election) (images : List Bitmap) (said : List SaidPage)
+    (taken taken_now : Taken) (answer : Answer) : Type 0 where
   pub wrote : Wrote (flat_map (λ (line : List ℕ). line) (lines_checked election 0 images said)) taken taken_now answer
   pub says :
       (place : ℕ) (image : Bitmap) (printed : PrintedPage) (plan : PagePlan) (marks : List Bool)

@@ -1,5 +1,5 @@
--- What `check` does: it takes its election, then the scans, whose images it walks whole, and then the readings; and then
--- it tests page after page.
+-- What `check` does: it takes its election, then the scans, whose images it walks whole, and then the readings; and
+-- then it tests page after page.
 use Rattle.std.specs.Prelude.{ℕ, ◌+◌, List, [], ◌∷◌, length, Option, Some, None, Result, Ok, Err}
 use Rattle.vx_plane.specs.Plane.{Page as Bitmap}
 use Rattle.vx_code.specs.Code.{tag_of}

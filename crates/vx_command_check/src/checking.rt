@@ -132,10 +132,11 @@ fn check_planned<I: Inputs, S: Sink>(
     check_scans(alloc, election, &plans, scans, readings, inputs, out)
 }
 
-/// Does the command `check`: takes the election under its name and plans all its cards, takes the scans under their
-/// name and walks their images whole, takes the readings under theirs, and then tests page after page whether
-/// what the readings say is a certificate of the image, and whether its lines name the bubbles of the page that it says.
-/// Writes a line for each page. The election is word 1, the scans are word 2, the readings word 3.
+/// Does the command `check`: takes the election under its name and plans all its cards, takes the scans under
+/// their name and walks their images whole, takes the readings under theirs, and then tests page after page
+/// whether what the readings say is a certificate of the image, and whether its lines name the bubbles of the
+/// page that it says. Writes a line for each page. The election is word 1, the scans are word 2, the readings
+/// word 3.
 pub fn check<I: Inputs, S: Sink>(
     alloc: Global,
     election: &str,

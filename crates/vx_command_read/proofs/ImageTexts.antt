@@ -1,5 +1,5 @@
 -- What is written of an image is its text.
-use Rattle.std.proofs.Common.{◌≡◌, ℕ, false, List, sym, ap, ◌∙◌}
+use Rattle.std.proofs.Common.{◌≡◌, ℕ, false, sym, ap, ◌∙◌}
 use Rattle.std.specs.Prelude.{Result, Ok, Err}
 use Rattle.vx_base.specs.Refusals.{Unless}
 use Rattle.vx_base.proofs.Results.{Unless-no}

@@ -1,10 +1,9 @@
 -- Pages that are read one after another.
-use Rattle.std.proofs.Common.{◌≡◌, ◌<◌, ◌≤◌, ◌+◌, ◌-◌, ◌^◌, ℕ, zero, suc, List, [], ◌∷◌, ◌++◌, length, Option, Some, None, Result, Ok, Err, arith, refl, sym, ap, subst, ◌∙◌, add-one}
+use Rattle.std.proofs.Common.{◌≡◌, ◌<◌, ◌+◌, ◌^◌, ℕ, zero, suc, List, [], ◌∷◌, length, Option, Some, None, Result, Ok, Err, arith, refl, ap, subst, ◌∙◌, add-one}
 use Rattle.vx_base.specs.Refusals.{Unless}
 use Rattle.vx_base.specs.Results.{◌>>=◌}
 use Rattle.vx_base.proofs.Results.{bind_ok}
 use Rattle.vx_grid.specs.declared.paper.Paper.{Paper}
-use Rattle.vx_grid.specs.Borders.{MarkPlaces}
 use Rattle.vx_readings.specs.declared.bubbles.SaidBubble.{SaidBubble}
 use Rattle.vx_readings.specs.declared.bubbles.SaidBubbles.{SaidBubbles}
 use Rattle.vx_readings.specs.declared.fault.ReadingsFault.{ReadingsFault}
@@ -17,7 +16,7 @@ use Rattle.vx_readings.specs.declared.said.SaidPage.TheVariants as said
 use Rattle.vx_readings.specs.Faults.{is_no_memory}
 use Rattle.vx_readings.specs.Left.{LinesLeft}
 use Rattle.vx_readings.specs.Lines.{first_in, border_in, bubble_or_end}
-use Rattle.vx_readings.specs.Readings.{next_line, no_bubbles, with_bubble, bubble_and, bubbles_in, block_in, page_behind, page_by, Unread, behind_page, step_over, next_by, next_of, Readings, with_page, ended, onwards, readings_within, readings_left, Steps, Walks, LinesFit}
+use Rattle.vx_readings.specs.Readings.{next_line, no_bubbles, with_bubble, bubble_and, bubbles_in, block_in, page_behind, page_by, Unread, behind_page, step_over, next_by, next_of, with_page, ended, onwards, readings_within, readings_left, Steps, Walks, LinesFit}
 use Rattle.vx_readings.proofs.ReadBubbles.{ReadLine, read-line}
 
 -- fewer lines are left, and their numbers are higher

@@ -1,5 +1,5 @@
 -- A text in parts, by the first place of a byte.
-use Rattle.std.proofs.Common.{◌≡◌, ◌<◌, ℕ, zero, suc, Bool, true, false, List, [], ◌∷◌, length, take, drop, get_or, cond, arith, refl, sym, ap, ◌∙◌}
+use Rattle.std.proofs.Common.{◌≡◌, ◌<◌, ℕ, zero, suc, Bool, true, false, List, [], ◌∷◌, length, take, drop, get_or, cond, arith, refl, sym, ap}
 use Rattle.std.specs.Prelude.{◌==◌, MatchBool}
 use Rattle.vx_base.proofs.Numbers.{equal-yes, equal-from_yes}
 use Rattle.vx_readings.specs.Parts.{begun_with, parts_of, lines_of}

@@ -1,8 +1,7 @@
 -- Lines that were written, read back.
-use Rattle.std.proofs.Common.{◌≡◌, ◌<◌, ◌≤◌, ◌+◌, ◌^◌, ℕ, zero, suc, Bool, true, false, List, [], ◌∷◌, ◌++◌, length, map, codes, cond, get_or, Option, Some, None, Result, Ok, Err, arith, rules, refl, sym, ap, subst, ◌∙◌, append_assoc}
-use Rattle.std.specs.Prelude.{◌==◌, ℤ, pos, negsuc, ◌≤ℤ◌, ◌+ℤ◌, slice_get, option_map, nat_lt}
+use Rattle.std.proofs.Common.{◌≡◌, ◌<◌, ◌^◌, ℕ, suc, Bool, true, false, List, [], ◌∷◌, length, map, codes, cond, Option, Some, None, arith, refl, sym, ap, ◌∙◌}
+use Rattle.std.specs.Prelude.{◌==◌, ℤ, pos, negsuc, option_map}
 use Rattle.std.specs.Fmt.{decimal, signed_decimal}
-use Rattle.std.specs.Str.{bytes_eq}
 use Rattle.std.proofs.lemmas.List.{length-map}
 use Rattle.std.proofs.lemmas.Int.{ints}
 use Rattle.std.proofs.lemmas.Slice.Eq.{bytes_eq-Decides}
@@ -21,19 +20,12 @@ use Rattle.vx_grid.specs.Marks.{marks}
 use Rattle.vx_grid.specs.Places.{IsWithin, IsPointWithin, AreWithin}
 use Rattle.vx_code.specs.Code.{version_of}
 use Rattle.vx_code.specs.declared.code.PageCode.{PageCode}
-use Rattle.vx_layout.specs.declared.bubbles.Bubble.{Bubble}
-use Rattle.vx_readings.specs.declared.head.Head.{Head}
-use Rattle.vx_readings.specs.declared.head.FirstLine.{FirstLine}
-use Rattle.vx_readings.specs.declared.head.FirstLine.TheVariants as first
-use Rattle.vx_readings.specs.declared.bubbles.SaidBubble.{SaidBubble}
-use Rattle.vx_readings.specs.Laws.{IsNameable, name_of}
-use Rattle.vx_readings.specs.Lines.{kind_in, state_in, turned_in, goes_on, head_in, first_behind, first_in, place_of_parts, place_in, all_as, border_by, border_in, bubble_in, bubble_or_end}
-use Rattle.vx_readings.specs.Numbers.{number_in, negative_of, positive_of, signed_in}
-use Rattle.vx_readings.specs.Parts.{parts_of}
+use Rattle.vx_readings.specs.Lines.{kind_in, state_in, turned_in, head_in, place_of_parts, place_in, all_as, border_by}
+use Rattle.vx_readings.specs.Numbers.{negative_of, positive_of, signed_in}
 use Rattle.vx_readings.specs.ReadingText.{place_word, state_word, turned_words}
-use Rattle.vx_readings.specs.Words.{◌>>=◌, behind, first_as, last_as, number_first, named_number}
+use Rattle.vx_readings.specs.Words.{◌>>=◌, number_first, named_number}
 use Rattle.vx_readings.proofs.Spelled.{number_in-decimal, signed_in-plain}
-use Rattle.vx_readings.proofs.Lacking.{lacks, lacks-both, decimal-lacks, IsWord, number-word, AreWords, parts-first, parts-last}
+use Rattle.vx_readings.proofs.Lacking.{lacks, lacks-both, decimal-lacks, IsWord, AreWords, parts-first, parts-last}
 
 -- a number behind its name
 pub named-read : (name : List ℕ) (n : ℕ) (words : List (List ℕ)) → n < 2 ^ 32 → named_number name (name ∷ decimal n ∷ words) ≡ Some (n, words)

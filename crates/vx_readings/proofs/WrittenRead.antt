@@ -1,5 +1,5 @@
 -- Blocks and lines that were written, read back.
-use Rattle.std.proofs.Common.{◌≡◌, ◌<◌, ◌≤◌, ◌+◌, ◌^◌, ℕ, zero, suc, Bool, true, false, List, [], ◌∷◌, ◌++◌, length, map, codes, cond, get_or, Option, Some, None, Result, Ok, Err, arith, rules, refl, sym, ap, subst, ◌∙◌, append_assoc}
+use Rattle.std.proofs.Common.{◌≡◌, ◌<◌, ◌≤◌, ◌+◌, ◌^◌, ℕ, zero, suc, Bool, true, false, List, [], ◌∷◌, ◌++◌, length, map, codes, cond, get_or, Option, Some, Result, Ok, arith, refl, sym, ap, ◌∙◌, append_assoc}
 use Rattle.std.specs.Prelude.{◌==◌, ◌≢◌, slice_index, slice_index_or}
 use Rattle.std.specs.List.{flat_map, range_with_len}
 use Rattle.std.specs.Fmt.{decimal}
@@ -8,7 +8,6 @@ use Rattle.std.proofs.lemmas.Slice.Eq.{bytes_eq-Decides}
 use Rattle.vx_base.specs.Results.{◌>>=◌}
 use Rattle.vx_base.proofs.Numbers.{equal-yes, equal-no}
 use Rattle.vx_grid.specs.declared.paper.Paper.{Paper}
-use Rattle.vx_grid.specs.declared.places.Point.{Point}
 use Rattle.vx_grid.specs.declared.state.State.{State}
 use Rattle.vx_grid.specs.declared.state.State.TheVariants.{Clear}
 use Rattle.vx_grid.specs.Borders.{MarkPlaces}
@@ -35,7 +34,7 @@ use Rattle.vx_readings.specs.Readings.{told_by, next_line, with_bubble, bubble_a
 use Rattle.vx_readings.proofs.Lacking.{lacks, lacks-both, decimal-lacks, parts-first, parts-last, line-first, IsWord, number-word, AreWords, IsFirstLine, first-line}
 use Rattle.vx_readings.proofs.Spelled.{number_in-decimal}
 use Rattle.vx_readings.proofs.Pages.{next-page}
-use Rattle.vx_readings.proofs.WrittenLines.{named-read, number-read, kind-read, kind-is_word, state-read, state-is_word, turned-read, turned-are_words, head-read, places-are_words, border-read}
+use Rattle.vx_readings.proofs.WrittenLines.{named-read, kind-is_word, state-read, state-is_word, turned-are_words, head-read, places-are_words, border-read}
 
 -- a literal word
 literal : (word : List ℕ) → lacks 10 word ≡ true → lacks 32 word ≡ true → IsWord word

@@ -1,5 +1,5 @@
 -- What is written of a page is read back.
-use Rattle.std.specs.Prelude.{◌≡◌, ◌≢◌, ◌<◌, ℕ, ◌+◌, ◌^◌, List, [], ◌∷◌, ◌++◌, length, map, codes, slice_index, slice_index_or, Option, Some, None, Result, Ok}
+use Rattle.std.specs.Prelude.{◌≡◌, ◌≢◌, ◌<◌, ℕ, ◌+◌, ◌^◌, List, [], ◌∷◌, ◌++◌, length, map, codes, slice_index, slice_index_or, Some, Ok}
 use Rattle.std.specs.Fmt.{decimal}
 use Rattle.vx_grid.specs.declared.paper.Paper.{Paper}
 use Rattle.vx_grid.specs.Marks.{marks}
@@ -9,10 +9,9 @@ use Rattle.vx_layout.specs.declared.bubbles.Bubble.{Bubble}
 use Rattle.vx_scan_model.specs.declared.reading.PageReading.{PageReading}
 use Rattle.vx_readings.specs.declared.said.BubbleName.{BubbleName}
 use Rattle.vx_readings.specs.declared.said.SaidPage.TheVariants.{NoReading, Reading}
-use Rattle.vx_readings.specs.Left.{LinesLeft}
 use Rattle.vx_readings.specs.Parts.{lines_of}
 use Rattle.vx_readings.specs.ReadingText.{line_of, no_bubble, block_text}
-use Rattle.vx_readings.specs.Readings.{Unread, behind_page, next_of}
+use Rattle.vx_readings.specs.Readings.{Unread, next_of}
 
 -- a bubble has a contest and an option of 32 bits
 pub record IsNameable (bubble : Bubble) : Type 0 where

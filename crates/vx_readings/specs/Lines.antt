@@ -15,7 +15,7 @@ use Rattle.vx_readings.specs.declared.head.Head.{Head}
 use Rattle.vx_readings.specs.declared.head.FirstLine.{FirstLine}
 use Rattle.vx_readings.specs.declared.head.FirstLine.TheVariants as first
 use Rattle.vx_readings.specs.declared.bubbles.SaidBubble.{SaidBubble}
-use Rattle.vx_readings.specs.Numbers.{number_in, signed_in}
+use Rattle.vx_readings.specs.Numbers.{signed_in}
 use Rattle.vx_readings.specs.Parts.{parts_of, words_of}
 use Rattle.vx_readings.specs.ReadingText.{state_word}
 use Rattle.vx_readings.specs.Words.{◌>>=◌, behind, first_as, last_as, number_first, named_number}

@@ -9,7 +9,7 @@ use Rattle.vx_readings.specs.declared.head.FirstLine.TheVariants as first
 use Rattle.vx_readings.specs.declared.bubbles.SaidBubble.{SaidBubble}
 use Rattle.vx_readings.specs.declared.bubbles.SaidBubbles.{SaidBubbles}
 use Rattle.vx_readings.specs.declared.fault.ReadingsFault.{ReadingsFault}
-use Rattle.vx_readings.specs.declared.fault.ReadingsFault.TheVariants.{Line, OutOfMemory}
+use Rattle.vx_readings.specs.declared.fault.ReadingsFault.TheVariants.{Line}
 use Rattle.vx_readings.specs.declared.said.SaidPage.{SaidPage}
 use Rattle.vx_readings.specs.declared.said.SaidPage.TheVariants.{NoReading, Reading}
 use Rattle.vx_readings.specs.Faults.{is_no_memory}
@@ -98,7 +98,9 @@ pub record Unread : Type 0 where
 
 -- a text of which nothing was read
 abbrev pub whole : Paper → ℕ → List ℕ → Unread
-whole paper tag text = record { paper = paper; tag = tag; pages = 0; left = record { number = 1; lines = lines_of text } }
+whole paper tag text = record {
+  paper = paper; tag = tag; pages = 0; left = record { number = 1; lines = lines_of text };
+}
 
 -- the same with one page read more, and these lines left
 abbrev pub behind_page : Unread → LinesLeft → Unread

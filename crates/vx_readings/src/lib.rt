@@ -18,10 +18,10 @@ mod lines;
 mod numbers;
 mod reader;
 mod said;
-mod words;
-mod writing;
 #[cfg(test)]
 mod tests;
+mod words;
+mod writing;
 
 pub use fault::ReadingsFault;
 pub use laws::written_readings_are_read_back;

@@ -9,12 +9,7 @@ use vx_grid::Paper;
 const FIRST: &str = "page 1 card 7 side 3 kind test-absentee\nborder";
 
 /// Some lines, so many places in the last of them, and more lines.
-fn text_of(
-    alloc: Global,
-    front: &str,
-    places: usize,
-    back: &str,
-) -> Result<String, OutOfMemory> {
+fn text_of(alloc: Global, front: &str, places: usize, back: &str) -> Result<String, OutOfMemory> {
     let mut text = String::new(alloc);
     text.push_str(front)?;
     for _ in 0..places {
@@ -48,7 +43,11 @@ fn walk_parts(
 ) -> Result<(u32, u32), OutOfMemory> {
     let text = text_of(alloc, front, places, back)?;
     let bytes = text.as_bytes();
-    if bytes.len() < 1 << 31 { walk(alloc, bytes) } else { Err(OutOfMemory) }
+    if bytes.len() < 1 << 31 {
+        walk(alloc, bytes)
+    } else {
+        Err(OutOfMemory)
+    }
 }
 
 #[test]
@@ -65,7 +64,14 @@ fn a_block_says_its_reading(rt: HostRuntime) -> Result<(), Fail> {
     assert_eq!(rt; (reading.code.card, reading.code.page), (7, 3));
     assert!(rt; reading.code.test && !reading.turned);
     assert_eq!(rt; reading.scores.as_slice(), [19].as_slice());
-    assert_eq!(rt; said.names.as_slice(), [BubbleName { contest: 4, option: 1 }].as_slice());
+    assert_eq!(rt;
+        said.names.as_slice(),
+        [BubbleName {
+            contest: 4,
+            option: 1
+        }]
+        .as_slice()
+    );
     assert_eq!(rt; said.first_bubble, 3);
     Ok(())
 }
@@ -75,19 +81,74 @@ fn texts_leave_the_grammar_at_a_line(rt: HostRuntime) -> Result<(), Fail> {
     let alloc = rt.alloc();
     let cases = [
         (FIRST, 146, "\nend", (1, 0)),
-        (FIRST, 146, "\nbubble 0 0 0 5 clear\nbubble 1 0 1 0 marked\nend\n", (1, 0)),
-        ("page 1 card 7 side 3 kind other turned\nborder", 146, "\nend\npage 2 fault ?\n", (2, 0)),
-        ("page 1 card 7 side 3 kind precinct\r\nborder", 146, "\nend\n", (0, 1)),
-        ("page 1 card 4294967296 side 3 kind precinct\nborder", 146, "\nend\n", (0, 1)),
-        ("page 1 card 4294967295 side 3 kind precinct\nborder", 146, "\nend\n", (1, 0)),
-        ("page 1 card 07 side 3 kind precinct\nborder", 146, "\nend\n", (0, 1)),
-        ("page 2 card 7 side 3 kind precinct\nborder", 146, "\nend\n", (0, 1)),
-        ("page 1 fault x\npage 1 card 7 side 3 kind other\nborder", 146, "\nend\n", (1, 2)),
+        (
+            FIRST,
+            146,
+            "\nbubble 0 0 0 5 clear\nbubble 1 0 1 0 marked\nend\n",
+            (1, 0),
+        ),
+        (
+            "page 1 card 7 side 3 kind other turned\nborder",
+            146,
+            "\nend\npage 2 fault ?\n",
+            (2, 0),
+        ),
+        (
+            "page 1 card 7 side 3 kind precinct\r\nborder",
+            146,
+            "\nend\n",
+            (0, 1),
+        ),
+        (
+            "page 1 card 4294967296 side 3 kind precinct\nborder",
+            146,
+            "\nend\n",
+            (0, 1),
+        ),
+        (
+            "page 1 card 4294967295 side 3 kind precinct\nborder",
+            146,
+            "\nend\n",
+            (1, 0),
+        ),
+        (
+            "page 1 card 07 side 3 kind precinct\nborder",
+            146,
+            "\nend\n",
+            (0, 1),
+        ),
+        (
+            "page 2 card 7 side 3 kind precinct\nborder",
+            146,
+            "\nend\n",
+            (0, 1),
+        ),
+        (
+            "page 1 fault x\npage 1 card 7 side 3 kind other\nborder",
+            146,
+            "\nend\n",
+            (1, 2),
+        ),
         (FIRST, 145, "\nend\n", (0, 2)),
         (FIRST, 147, "\nend\n", (0, 2)),
-        ("page 1 card 7 side 3 kind other\nborder -0,5", 145, "\nend\n", (0, 2)),
-        ("page 1 card 7 side 3 kind other\nborder 2147483648,5", 145, "\nend\n", (0, 2)),
-        ("page 1 card 7 side 3 kind other\nborder -2147483648,5", 145, "\nend\n", (1, 0)),
+        (
+            "page 1 card 7 side 3 kind other\nborder -0,5",
+            145,
+            "\nend\n",
+            (0, 2),
+        ),
+        (
+            "page 1 card 7 side 3 kind other\nborder 2147483648,5",
+            145,
+            "\nend\n",
+            (0, 2),
+        ),
+        (
+            "page 1 card 7 side 3 kind other\nborder -2147483648,5",
+            145,
+            "\nend\n",
+            (1, 0),
+        ),
         ("page 1 card 7 side 3 kind other", 0, "", (0, 2)),
         (FIRST, 146, "", (0, 3)),
         (FIRST, 146, "\n", (0, 3)),
@@ -103,7 +164,11 @@ fn texts_leave_the_grammar_at_a_line(rt: HostRuntime) -> Result<(), Fail> {
         ("", 0, "\n", (0, 1)),
     ];
     for (front, places, back, expected) in cases {
-        assert_eq!(rt; walk_parts(alloc, front, places, back)?, expected, "{front}, {places}, {back}");
+        assert_eq!(rt;
+            walk_parts(alloc, front, places, back)?,
+            expected,
+            "{front}, {places}, {back}"
+        );
     }
     assert_eq!(rt; walk(alloc, b"page 1 fault \xff\xfe\n".as_slice())?, (1, 0));
     Ok(())

@@ -1,4 +1,4 @@
-use Rattle.std.proofs.Common.{◌∙◌, ◌≡◌, List, ℕ, subst}
+use Rattle.std.proofs.Common.{List, ℕ, subst}
 use Rattle.vx_pbm.specs.Images.{images_of}
 use Rattle.vx_command.specs.Acts.{input_of, input_limit}
 use Rattle.vx_command.specs.Done.{IsWritten}

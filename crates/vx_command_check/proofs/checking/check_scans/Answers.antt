@@ -1,4 +1,4 @@
-use Rattle.std.proofs.Common.{◌∙◌, ◌≡◌, List, ℕ, subst}
+use Rattle.std.proofs.Common.{◌∙◌, List, ℕ, subst}
 use Rattle.vx_command.specs.Acts.{input_of, input_limit}
 use Rattle.vx_command.specs.Done.{IsWritten}
 use Rattle.vx_command_check.specs.Outcome.{bytes_outcome}

@@ -1,4 +1,4 @@
-use Rattle.std.proofs.Common.{◌≡◌, ◌∷◌, ◌+◌, drop, get_or, sym}
+use Rattle.std.proofs.Common.{sym}
 use Rattle.std.proofs.lemmas.List.{drop_more}
 use Rattle.vx_command_check.proofs.NamedBubbles.{names-more, names-other, names-all}
 use Rattle.vx_command_check.proofs.names.other_name.Goals as goal

@@ -1,5 +1,4 @@
-use Rattle.std.proofs.Common.{rules, ◌≡◌, Ok, Err, sym, ap, subst, ◌∙◌, true, false, List, ℕ}
-use Rattle.std.specs.Prelude.{Result}
+use Rattle.std.proofs.Common.{◌≡◌, Ok, Err, sym, ap, subst, ◌∙◌, true, false, List, ℕ}
 use Rattle.std.proofs.lemmas.Result.{err_from_is_err_and}
 use Rattle.vx_base.specs.Refusals.{Gives}
 use Rattle.vx_plane.specs.Plane.{Page as Bitmap}
@@ -9,7 +8,7 @@ use Rattle.vx_command.specs.Acts.{Answer, writing}
 use Rattle.vx_command.specs.Done.{IsWritten}
 use Rattle.vx_command.specs.Devices.{TouchesSink, writes_nothing}
 use Rattle.vx_command_check.specs.Walks.{ChecksPage}
-use Rattle.vx_command_check.proofs.PageActs.{IsVerdict, gives-verdict, verdict-sink, verdict-late, line-missing, line-written}
+use Rattle.vx_command_check.proofs.PageActs.{gives-verdict, verdict-sink, verdict-late, line-missing, line-written}
 use Rattle.vx_command_check.proofs.page.check_page.Goals as goal
 
 pub returns-in_err-line-clause-sink : goal.returns-in_err-line-clause-sink

@@ -1,14 +1,10 @@
-use Rattle.std.proofs.Common.{rules, arith, ◌≡◌, ℕ, [], length, Option, Some, None, Err, Ok, refl, sym, ap, subst, ◌∙◌}
-use Rattle.std.specs.Prelude.{MatchOption}
+use Rattle.std.proofs.Common.{arith, ◌≡◌, ℕ, length, Option, None, Err, Ok, refl, sym, ap, subst, ◌∙◌}
 use Rattle.std.proofs.lemmas.Result.{err_from_is_err_and}
-use Rattle.vx_pbm.specs.Images.{Unread as UnreadImages, images_left, with_page, whole as all_of}
+use Rattle.vx_pbm.specs.Images.{Unread as UnreadImages, images_left, whole as all_of}
 use Rattle.vx_readings.specs.declared.said.SaidPage.{SaidPage}
 use Rattle.vx_readings.specs.Readings.{Unread, readings_left, whole, Steps, Walks}
 use Rattle.vx_readings.specs.Readings as said
-use Rattle.vx_command.specs.Acts.{Answer}
-use Rattle.vx_command.specs.Done.{IsWritten}
-use Rattle.vx_command_check.specs.Answers.{readings_halt}
-use Rattle.vx_command_check.specs.Outcome.{readings_outcome, readings_for, pages_halt}
+use Rattle.vx_command_check.specs.Outcome.{pages_halt}
 use Rattle.vx_command_check.specs.Walks.{RestAnswers, ChecksPage}
 use Rattle.vx_command_check.proofs.PageActs.{CheckedTo, checked-none, rest-checked, line-halts, said-ended, page-halts, page-done}
 use Rattle.vx_command_check.proofs.pages.check_pages.Goals as goal

@@ -1,4 +1,4 @@
-use Rattle.std.proofs.Common.{◌≡◌, sym, subst}
+use Rattle.std.proofs.Common.{sym, subst}
 use Rattle.vx_pbm.specs.Images.{Unread}
 use Rattle.vx_command_check.proofs.Counted.{CountedTo, count-none}
 use Rattle.vx_command_check.proofs.walking.count_images.Goals as goal

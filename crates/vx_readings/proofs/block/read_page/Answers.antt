@@ -1,4 +1,4 @@
-use Rattle.std.proofs.Common.{◌≡◌, ◌<◌, ◌≤◌, ℕ, List, [], ◌∷◌, length, take, arith, rules, sym, ap, subst, ◌∙◌, None, Some, Ok, Err}
+use Rattle.std.proofs.Common.{rules}
 use Rattle.vx_readings.specs.Readings.{page_by}
 use Rattle.vx_readings.proofs.block.read_page.Goals as goal
 

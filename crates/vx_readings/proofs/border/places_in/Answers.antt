@@ -1,8 +1,8 @@
-use Rattle.std.proofs.Common.{◌≡◌, ◌<◌, ◌≤◌, ℕ, List, [], ◌∷◌, length, take, arith, rules, sym, ap, subst, ◌∙◌, None, Some}
+use Rattle.std.proofs.Common.{◌<◌, length, arith, sym, ◌∙◌}
 use Rattle.std.proofs.Math.ListN.{length-set}
 use Rattle.std.proofs.lemmas.List.{take_more_set}
 use Rattle.vx_grid.specs.Marks.{marks}
-use Rattle.vx_readings.proofs.FilledPlaces.{FilledTo, filled-short, filled-long, filled-bad, filled-all, filled-more}
+use Rattle.vx_readings.proofs.FilledPlaces.{filled-short, filled-long, filled-bad, filled-all, filled-more}
 use Rattle.vx_readings.proofs.border.places_in.Goals as goal
 
 pub returns-in_err-word : goal.returns-in_err-word

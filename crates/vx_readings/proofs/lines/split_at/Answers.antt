@@ -1,4 +1,4 @@
-use Rattle.std.proofs.Common.{◌≡◌, ◌<◌, ◌+◌, ◌∷◌, ℕ, List, suc, length, drop, take, ap, ◌∙◌, arith, add-one, le_refl, sym}
+use Rattle.std.proofs.Common.{◌<◌, ◌+◌, ◌∷◌, ℕ, List, length, drop, take, ap, ◌∙◌, arith, add-one, le_refl, sym}
 use Rattle.std.proofs.lemmas.Slice.{between_to_end}
 use Rattle.vx_readings.specs.Parts.{parts_of}
 use Rattle.vx_readings.proofs.Parts.{parts_of-none, parts_of-first}

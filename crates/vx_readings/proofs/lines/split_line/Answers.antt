@@ -1,4 +1,4 @@
-use Rattle.std.proofs.Common.{◌≡◌, ◌<◌, ◌+◌, ◌-◌, ◌∷◌, [], ℕ, List, suc, length, drop, take, ap, ◌∙◌, arith, add-one, le_refl, sym, refl}
+use Rattle.std.proofs.Common.{◌≡◌, ◌<◌, ◌+◌, ◌-◌, ◌∷◌, [], ℕ, List, length, drop, take, ap, ◌∙◌, arith, add-one, le_refl, sym, refl}
 use Rattle.std.proofs.lemmas.Slice.{between_to_end}
 use Rattle.std.proofs.lemmas.List.{drop_all}
 use Rattle.vx_readings.specs.Parts.{lines_of}

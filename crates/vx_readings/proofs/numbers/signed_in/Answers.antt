@@ -1,4 +1,4 @@
-use Rattle.std.proofs.Common.{◌≡◌, ℕ, List, length, drop, sym, ap, ◌∙◌, arith, le_refl, rules}
+use Rattle.std.proofs.Common.{length, sym, ap, ◌∙◌, le_refl, rules}
 use Rattle.std.proofs.lemmas.Slice.{between_to_end}
 use Rattle.vx_readings.specs.Numbers.{number_in, negative_of, positive_of}
 use Rattle.vx_readings.proofs.Spelled.{signed_in-empty, signed_in-minus, signed_in-plain}

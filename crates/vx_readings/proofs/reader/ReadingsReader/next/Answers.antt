@@ -1,8 +1,7 @@
-use Rattle.std.proofs.Common.{rules, ◌≡◌, ◌<◌, ◌^◌, length, ℕ, ◌+◌, ◌≤◌, List, [], ◌∷◌, Result, Option, Some, None, Ok, Err, refl, sym, ap, subst, ◌∙◌, arith}
+use Rattle.std.proofs.Common.{rules, ◌≡◌, ◌<◌, ◌^◌, length, ◌+◌, Result, Option, Some, None, Ok, Err, refl, sym, ap, subst, ◌∙◌, arith}
 use Rattle.std.proofs.lemmas.Result.{err_from_is_err_and}
 use Rattle.vx_readings.specs.declared.fault.ReadingsFault.{ReadingsFault}
 use Rattle.vx_readings.specs.declared.said.SaidPage.{SaidPage}
-use Rattle.vx_readings.specs.Left.{LinesLeft}
 use Rattle.vx_readings.specs.Readings.{Unread, behind_page, next_of, readings_left, with_page, ended, Steps, Walks}
 use Rattle.vx_readings.proofs.Pages.{Fewer, page-less, page-placed, placed-fit, next-none, next-page, steps-fault, left-fault, walks-page, walks-end}
 use Rattle.vx_readings.proofs.reader.ReadingsReader.next.Goals as goal
