@@ -32,7 +32,9 @@ use Rattle.vx_sheet.specs.declared.fault.SheetFault.{SheetFault}
 use Rattle.vx_sheet.specs.declared.fault.SheetFault.TheVariants.{CardsDiffer}
 use Rattle.vx_sheet.specs.Laws.{SheetsFit, IsPlanned, IsOfCard}
 use Rattle.vx_sheet.specs.Sheet.{bubbles_of, facing_sheet, sheet_of, sheet_with}
-use Rattle.vx_sheet.specs.Shows.{CanBeAdded, IsOfPage, PlansShowOptions}
+use Rattle.vx_sheet.specs.declared.came.Came.{Came}
+use Rattle.vx_sheet.specs.Came.{if_paired, plan_there}
+use Rattle.vx_sheet.specs.Shows.{CanBeAdded, IsOfPage, PairedCanBeAdded, PlansShowOptions}
 use Rattle.vx_sheet.proofs.Planned.{given-is_ok}
 use Rattle.vx_sheet.proofs.Paired.{HasState, IsOf, contests-have, sheet-either}
 use Rattle.vx_sheet.proofs.Short.{contests-weigh, record-short, weight}
@@ -193,3 +195,17 @@ module _ (fit : SheetsFit) (grid : NamedStandOnGrid) (election : Election) (vali
       let shows = shown first.code.card card planned in
       let fits = fit election card first second sheet valid (record { planned = planned; options = shows.options; pages = shows.pages }) first-of.1 second-of.1 paired in
       from-either card first second sheet fits (sheet-either card first second sheet paired) first-of.0 second-of.0
+
+paired-so : (paired : Result SheetMarks SheetFault) (sheet : SheetMarks) → if_paired paired ≡ Ok sheet → paired ≡ Ok sheet
+paired-so (Ok made) sheet h = cc
+paired-so (Err fault) sheet h = absurd cc
+
+-- the sheet of two images that were read can be added
+pub paired-added : SheetsFit → NamedStandOnGrid → PairedCanBeAdded
+paired-added fit grid election image (Err fault) second sheet valid shown one other is = absurd cc
+paired-added fit grid election image (Ok first) (Err fault) sheet valid shown one other is = absurd cc
+paired-added fit grid election image (Ok first) (Ok second) sheet valid shown one other is =
+    let parts = parts-of_named election first.code one.plan one.named in
+    let At : Result CardPlan LayoutFault → Type 0 = λ planned. if_paired (sheet_of (plan_there first.code.card planned) first second) ≡ Ok sheet in
+    sheet-added fit grid election valid shown parts.card first second one other sheet parts.card_is
+    (paired-so (sheet_of parts.card first second) sheet (subst At parts.card_is is))

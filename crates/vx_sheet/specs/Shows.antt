@@ -1,7 +1,8 @@
 -- Which sheets lines are written of, and which readings make a sheet that a journal keeps.
-use Rattle.std.specs.Prelude.{◌≡◌, ℕ, true, length, Ok}
+use Rattle.std.specs.Prelude.{◌≡◌, ℕ, true, length, IfOk, Result, Ok}
 use Rattle.std.specs.List.{list_all}
 use Rattle.vx_election_model.specs.declared.election.Election.{Election}
+use Rattle.vx_election_model.specs.Valid.{IsValid}
 use Rattle.vx_events.specs.declared.event.Event.TheVariants.{Add}
 use Rattle.vx_events.specs.declared.key.Key.{Key}
 use Rattle.vx_events.specs.Fits.{is_key, is_read, is_sheet}
@@ -11,8 +12,10 @@ use Rattle.vx_layout.specs.Options.{ShowsEachOption, GivesEachContestAPage}
 use Rattle.vx_layout.specs.Plan.{plan_of}
 use Rattle.vx_records.specs.Held.{IsHeld}
 use Rattle.vx_rules.specs.declared.marks.SheetMarks.{SheetMarks}
+use Rattle.vx_scan_model.specs.declared.fault.PageFault.{PageFault}
 use Rattle.vx_scan_model.specs.declared.reading.PageReading.{PageReading}
 use Rattle.vx_scan_model.specs.Named.{named_plan}
+use Rattle.vx_sheet.specs.Came.{sheet_read}
 use Rattle.vx_sheet.specs.declared.came.Came.{Came}
 use Rattle.vx_sheet.specs.declared.came.Came.TheVariants.{Added}
 
@@ -41,3 +44,10 @@ PlansShowOptions election =
 pub record CanBeAdded (election : Election) (sheet : SheetMarks) : Type 0 where
   pub fits : is_sheet election sheet ≡ true
   pub held : (key : Key) → is_key key ≡ true → IsHeld (Add key sheet)
+
+-- the sheet of two images that were read can be added
+abbrev pub PairedCanBeAdded : Type 0
+PairedCanBeAdded =
+    (election : Election) (image : ℕ) (first second : Result PageReading PageFault) (sheet : SheetMarks)
+    → IsValid election → PlansShowOptions election → IfOk first (IsOfPage election) → IfOk second (IsOfPage election)
+    → sheet_read election image first second ≡ Ok sheet → CanBeAdded election sheet

@@ -1,8 +1,10 @@
 //! Laws of sheets. These functions do nothing; their contracts are the laws.
 
 ghost use Rattle.vx_sheet.specs.Laws.{EitherPageFirst, SheetsFit};
+ghost use Rattle.vx_sheet.specs.Shows.{PairedCanBeAdded};
 
 use vx_layout::{plans_are_numbered, plans_stand_on_the_grid};
+use vx_scan_model::named_pages_stand_on_the_grid;
 
 /// Two readings are the same sheet, whichever comes first.
 pub fn either_page_may_come_first()
@@ -16,4 +18,12 @@ pub fn sheets_fit()
 {
     plans_are_numbered();
     plans_stand_on_the_grid();
+}
+
+/// The sheet of two images that were read fits the election, and can be kept in a journal.
+pub fn paired_sheets_can_be_added()
+    ensures { PairedCanBeAdded }
+{
+    sheets_fit();
+    named_pages_stand_on_the_grid();
 }
