@@ -7,3 +7,4 @@ pub mod PieceActs
 pub mod ScanActs
 pub mod InputActs
 pub mod Sets
+pub mod Journals

@@ -6,3 +6,4 @@ pub mod Reads
 pub mod Gathering
 pub mod Steps
 pub mod Devices
+pub mod Laws

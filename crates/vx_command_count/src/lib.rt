@@ -10,6 +10,7 @@ mod command;
 mod counting;
 mod ending;
 mod gathering;
+mod laws;
 mod pairs;
 mod pieces;
 mod reads;
@@ -20,3 +21,4 @@ mod tally;
 mod waiting;
 
 pub use command::count;
+pub use laws::count_keeps_journals;

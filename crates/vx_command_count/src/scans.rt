@@ -19,9 +19,7 @@ use std::alloc::Global;
 use std::mem::replace;
 use std::thread::Threads;
 use vx_base::Bytes;
-use vx_command::{
-    Halt, INPUT_LIMIT, acts_in_order, halt_of_bitmap, steps_in_order, take_input,
-};
+use vx_command::{Halt, INPUT_LIMIT, acts_in_order, halt_of_bitmap, steps_in_order, take_input};
 use vx_io::{Inputs, Keeper, Sink};
 use vx_json::Text;
 use vx_pbm::{PbmReader, images_are_whole};

@@ -6,9 +6,7 @@ ghost use Rattle.vx_command_count.specs.Gathering.{waits};
 use std::alloc::Global;
 use std::marker::Model;
 use vx_base::{Bytes, OutOfMemory};
-use vx_pbm::{
-    Image, PbmFault, PbmReader, images_are_whole, what_is_written_reads_back, write_p4,
-};
+use vx_pbm::{Image, PbmFault, PbmReader, images_are_whole, what_is_written_reads_back, write_p4};
 
 fn is_no_memory(fault: PbmFault) -> bool
     ensures { result ≡ is_want_of_memory fault }

@@ -118,9 +118,10 @@ key-short : (key : Key) → is_key key ≡ true → (length key.batch ≤ 32) ×
 key-short key h =
     let batch = and-left (is_batch key.batch) (nat_le 1 key.number && nat_le key.number 999999) h in
     let number = and-right (is_batch key.batch) (nat_le 1 key.number && nat_le key.number 999999) h in
-    let size = and-left (nat_le 1 (length key.batch) && nat_le (length key.batch) 32) _ batch in
-    (at_most-from_yes (length key.batch) 32 (and-right (nat_le 1 (length key.batch)) (nat_le (length key.batch) 32) size),
-    at_most-from_yes key.number 999999 (and-right (nat_le 1 key.number) (nat_le key.number 999999) number))
+    let size = and-left (nat_le 1 (length key.batch) && nat_le (length key.batch) 32) _ batch in (
+      at_most-from_yes (length key.batch) 32 (and-right (nat_le 1 (length key.batch)) (nat_le (length key.batch) 32) size),
+      at_most-from_yes key.number 999999 (and-right (nat_le 1 key.number) (nat_le key.number 999999) number),
+    )
 
 -- a sheet that fits, whose contests have states, few enough together, can be added
 added-so : (election : Election) (sheet : SheetMarks) → IsValid election → is_sheet election sheet ≡ true → All HasState sheet.contests → sum_by weight sheet.contests ≤ 4500 → CanBeAdded election sheet
@@ -167,9 +168,10 @@ module _ (fit : SheetsFit) (grid : NamedStandOnGrid) (election : Election) (vali
   of-card : (card : CardPlan) (reading : PageReading) (is : IsOfPage election reading) → page_numbered card reading.code.page ≡ Some is.plan → IsOf card reading × IsOfCard card reading
   of-card card reading is numbered =
       let bubbles : bubbles_of (page_numbered card reading.code.page) ≡ is.plan.bubbles = ap bubbles_of numbered in
-      let few = (grid election reading.code is.plan valid is.named).few in
-      (record { states = is.states ∙ ap length (sym bubbles); few = omega (arith, few, ap length bubbles) },
-      record { page = is.plan; numbered = numbered; states = is.states })
+      let few = (grid election reading.code is.plan valid is.named).few in (
+        record { states = is.states ∙ ap length (sym bubbles); few = omega (arith, few, ap length bubbles) },
+        record { page = is.plan; numbered = numbered; states = is.states },
+      )
 
   from-front : (card : CardPlan) (front back : PageReading) (sheet : SheetMarks) → is_sheet election sheet ≡ true → sheet ≡ sheet_with card front back → IsOf card front → IsOf card back → CanBeAdded election sheet
   from-front card front back sheet fits is front-of back-of =

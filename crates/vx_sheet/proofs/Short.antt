@@ -59,10 +59,10 @@ module _ (plan : CardPlan) (front back : PageReading) where
   bound-low : IsOf plan front → IsOf plan back → sum_by bound (range_with_len 0 500) ≤ 4500
   bound-low front-is back-is =
       let parted : sum_by bound (range_with_len 0 500) ≡ sum_by (λ contest. 5) (range_with_len 0 500) + sum_by (λ contest. fronts contest + backs contest) (range_with_len 0 500)
-          = sums-both (λ (contest : ℕ). 5) (λ (contest : ℕ). fronts contest + backs contest) (range_with_len 0 500) in
+      = sums-both (λ (contest : ℕ). 5) (λ (contest : ℕ). fronts contest + backs contest) (range_with_len 0 500) in
       let fives : sum_by (λ contest. 5) (range_with_len 0 500) ≡ 5 * 500 = sums-fives 0 500 in
       let both : sum_by (λ contest. fronts contest + backs contest) (range_with_len 0 500) ≡ sum_by fronts (range_with_len 0 500) + sum_by backs (range_with_len 0 500)
-          = sums-both fronts backs (range_with_len 0 500) in
+      = sums-both fronts backs (range_with_len 0 500) in
       let some : sum_by fronts (range_with_len 0 500) ≤ length (bubbles_on plan front) = states-few (bubbles_on plan front) front.states 0 500 in
       let others : sum_by backs (range_with_len 0 500) ≤ length (bubbles_on plan back) = states-few (bubbles_on plan back) back.states 0 500 in
       low (sum_by bound (range_with_len 0 500)) (sum_by (λ contest. 5) (range_with_len 0 500)) (sum_by (λ contest. fronts contest + backs contest) (range_with_len 0 500))
@@ -102,10 +102,20 @@ record-short key sheet batch number card front contests =
     let c : length (decimal sheet.card) ≤ 4 = length-decimal-le 4 sheet.card (omega arith) (omega arith) (omega arith) in
     let f : length (decimal sheet.front) ≤ 2 = length-decimal-le 2 sheet.front (omega arith) (omega arith) (omega arith) in
     let add : length (codes "add") ≡ 3 = refl in
-    omega (arith, n, c, f, batch, contests, add, kind-short sheet.kind sheet.test, spaced-marks sheet.contests,
-    spaced-cons (codes "add") (key.batch ∷ decimal key.number ∷ decimal sheet.card ∷ decimal sheet.front ∷ kind ∷ marks),
-    spaced-cons key.batch (decimal key.number ∷ decimal sheet.card ∷ decimal sheet.front ∷ kind ∷ marks),
-    spaced-cons (decimal key.number) (decimal sheet.card ∷ decimal sheet.front ∷ kind ∷ marks),
-    spaced-cons (decimal sheet.card) (decimal sheet.front ∷ kind ∷ marks),
-    spaced-cons (decimal sheet.front) (kind ∷ marks),
-    spaced-cons kind marks)
+    omega (
+      arith,
+      n,
+      c,
+      f,
+      batch,
+      contests,
+      add,
+      kind-short sheet.kind sheet.test,
+      spaced-marks sheet.contests,
+      spaced-cons (codes "add") (key.batch ∷ decimal key.number ∷ decimal sheet.card ∷ decimal sheet.front ∷ kind ∷ marks),
+      spaced-cons key.batch (decimal key.number ∷ decimal sheet.card ∷ decimal sheet.front ∷ kind ∷ marks),
+      spaced-cons (decimal key.number) (decimal sheet.card ∷ decimal sheet.front ∷ kind ∷ marks),
+      spaced-cons (decimal sheet.card) (decimal sheet.front ∷ kind ∷ marks),
+      spaced-cons (decimal sheet.front) (kind ∷ marks),
+      spaced-cons kind marks,
+    )

@@ -1,6 +1,6 @@
+use crate::fault::SheetFault;
 use vx_rules::SheetMarks;
 use vx_scan_model::PageFault;
-use crate::fault::SheetFault;
 
 /// What a sheet of a count came to.
 #[derive(Debug, Drop)]

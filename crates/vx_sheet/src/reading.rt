@@ -6,15 +6,15 @@ ghost use Rattle.vx_sheet.specs.Came.{sheet_read};
 ghost use Rattle.vx_sheet.specs.Shows.{CanBeAdded, IsOfPage, IsReadAll, PlansShowOptions};
 
 use crate::came::Came;
+use crate::fault::SheetFault;
+use crate::laws::sheets_fit;
+use crate::pairing::pair;
 use std::alloc::Global;
 use vx_base::OutOfMemory;
 use vx_election_model::Election;
 use vx_layout::{CardPlan, CardPlans};
 use vx_rules::SheetMarks;
 use vx_scan_model::{PageFault, PageReading, named_pages_stand_on_the_grid};
-use crate::fault::SheetFault;
-use crate::laws::sheets_fit;
-use crate::pairing::pair;
 
 /// What an image is read as, or its first fault.
 pub type PageRead = Result<PageReading, PageFault>;

@@ -26,8 +26,8 @@ returns-in_err-begin_journal-clause-late g c =
 pub returns-clause-done : goal.returns-clause-done
 returns-clause-done g c files told =
     let Scans : List (List ℕ) → Type 0 = λ scans.
-        IsDone (scans_outcome c.args.setting.now.election.now c.args.setting.now.batch.now files 4 (record { journal = c.args.journal; tally = none_counted }) [] scans)
-        (g.S.Sink.taken c.args.out.now) (g.S.Sink.taken c.count_scans.new.out) (g.K.Keeper.held c.begin_journal.new.keeper) (g.K.Keeper.held c.count_scans.new.keeper) c.count_scans.result in
+    IsDone (scans_outcome c.args.setting.now.election.now c.args.setting.now.batch.now files 4 (record { journal = c.args.journal; tally = none_counted }) [] scans)
+    (g.S.Sink.taken c.args.out.now) (g.S.Sink.taken c.count_scans.new.out) (g.K.Keeper.held c.begin_journal.new.keeper) (g.K.Keeper.held c.count_scans.new.keeper) c.count_scans.result in
     c.acts_in_order.ensures.done (begin_acts c.args.journal)
     (scans_outcome c.args.setting.now.election.now c.args.setting.now.batch.now files 4 (record { journal = c.args.journal; tally = none_counted }) [] c.args.scans.now)
     (g.S.Sink.taken c.args.out.now) (g.S.Sink.taken c.args.out.now) (g.K.Keeper.held c.args.keeper.now) (g.K.Keeper.held c.begin_journal.new.keeper)

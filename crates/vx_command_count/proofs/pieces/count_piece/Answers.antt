@@ -14,18 +14,18 @@ returns-in_err-count_images-clause-counts g c =
     let last = waits c.take_odd-last.result in
     let left = left_by c.in_ok-ended.ended c.gather.new.reader in
     let pieces = pieces-are (waits c.args.first) (images_left c.args.reader.now) left c.in_ok-images.images.items c.gather.new.images.items c.as_slice.result.now last
-        c.in_ok-images.ensures c.in_ok-ended.ensures.gathers (ap (λ (images : List Page). images ++ last) c.as_slice.ensures.value ∙ c.take_odd-last.ensures.parts) in
+    c.in_ok-images.ensures c.in_ok-ended.ensures.gathers (ap (λ (images : List Page). images ++ last) c.as_slice.ensures.value ∙ c.take_odd-last.ensures.parts) in
     rw (err.1 ∙ ap Err err.2)
     (λ rest.
-        let From : List Page → Type 0 = λ images. IsDone (with_images c.args.setting.now.election.now c.args.setting.now.batch.now c.args.counting.now images rest) (g.S.Sink.taken c.args.out.now) (g.S.Sink.taken c.count_images.new.out) (g.K.Keeper.held c.args.keeper.now) (g.K.Keeper.held c.count_images.new.keeper) (Err c.in_err-count_images.field-0.0) in
-        subst From (sym pieces) (c.in_err-count_images.ensures.counts (last ++ left.pages) rest))
+    let From : List Page → Type 0 = λ images. IsDone (with_images c.args.setting.now.election.now c.args.setting.now.batch.now c.args.counting.now images rest) (g.S.Sink.taken c.args.out.now) (g.S.Sink.taken c.count_images.new.out) (g.K.Keeper.held c.args.keeper.now) (g.K.Keeper.held c.count_images.new.keeper) (Err c.in_err-count_images.field-0.0) in
+    subst From (sym pieces) (c.in_err-count_images.ensures.counts (last ++ left.pages) rest))
 
 pub returns-clause-counts : goal.returns-clause-counts
 returns-clause-counts g c rest =
     let last = waits c.take_odd-last.result in
     let left = left_by c.in_ok-ended.ended c.gather.new.reader in
     let pieces = pieces-are (waits c.args.first) (images_left c.args.reader.now) left c.in_ok-images.images.items c.gather.new.images.items c.as_slice.result.now last
-        c.in_ok-images.ensures c.in_ok-ended.ensures.gathers (ap (λ (images : List Page). images ++ last) c.as_slice.ensures.value ∙ c.take_odd-last.ensures.parts) in
+    c.in_ok-images.ensures c.in_ok-ended.ensures.gathers (ap (λ (images : List Page). images ++ last) c.as_slice.ensures.value ∙ c.take_odd-last.ensures.parts) in
     let From : List Page → Type 0 = λ images. ComesTo (with_images c.args.setting.now.election.now c.args.setting.now.batch.now c.args.counting.now images rest) (with_images c.args.setting.now.election.now c.args.setting.now.batch.now c.count_images.new.counting (last ++ left.pages) rest) (g.S.Sink.taken c.args.out.now) (g.S.Sink.taken c.count_images.new.out) (g.K.Keeper.held c.args.keeper.now) (g.K.Keeper.held c.count_images.new.keeper) in
     subst From (sym pieces) (c.in_ok-count_images.ensures.counts (last ++ left.pages) rest)
 

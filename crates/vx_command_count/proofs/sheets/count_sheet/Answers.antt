@@ -18,8 +18,8 @@ returns-in_err-came-clause-done g c =
     let journal = c.args.counting.now.journal in
     let read = c.args.read in
     let Whole : ℕ → Type 0 = λ n.
-        IsDone (work (keep_if journal (event_of batch n read) ++ Write (lines_of c.args.setting.now.election.now batch n (came_of journal batch n read)) ∷ []))
-        (g.S.Sink.taken c.args.out.now) (g.S.Sink.taken c.args.out.now) (g.K.Keeper.held c.args.keeper.now) (g.K.Keeper.held c.settle.new.keeper) (Err cause) in
+    IsDone (work (keep_if journal (event_of batch n read) ++ Write (lines_of c.args.setting.now.election.now batch n (came_of journal batch n read)) ∷ []))
+    (g.S.Sink.taken c.args.out.now) (g.S.Sink.taken c.args.out.now) (g.K.Keeper.held c.args.keeper.now) (g.K.Keeper.held c.settle.new.keeper) (Err cause) in
     let n = c.next_number-number.result in
     rw (err.1 ∙ ap Err err.2)
     (subst Whole c.next_number-number.ensures
@@ -50,8 +50,8 @@ returns-in_err-tell-clause-done g c =
     let journal = c.args.counting.now.journal in
     let read = c.args.read in
     let Whole : ℕ → Type 0 = λ n.
-        IsDone (work (keep_if journal (event_of batch n read) ++ Write (lines_of election batch n (came_of journal batch n read)) ∷ []))
-        (g.S.Sink.taken c.args.out.now) (g.S.Sink.taken c.tell.new.out) (g.K.Keeper.held c.args.keeper.now) (g.K.Keeper.held c.settle.new.keeper) (Err cause) in
+    IsDone (work (keep_if journal (event_of batch n read) ++ Write (lines_of election batch n (came_of journal batch n read)) ∷ []))
+    (g.S.Sink.taken c.args.out.now) (g.S.Sink.taken c.tell.new.out) (g.K.Keeper.held c.args.keeper.now) (g.K.Keeper.held c.settle.new.keeper) (Err cause) in
     let n = c.next_number-number.result in
     let Written : Came → Type 0 = λ came. IsWritten (writing (lines_of election batch n came)) (g.S.Sink.taken c.args.out.now) (g.S.Sink.taken c.tell.new.out) (Err cause) in
     rw (err.1 ∙ ap Err err.2)
@@ -67,8 +67,8 @@ returns-clause-done g c =
     let journal = c.args.counting.now.journal in
     let read = c.args.read in
     let Whole : ℕ → Type 0 = λ n.
-        IsDone (work (keep_if journal (event_of batch n read) ++ Write (lines_of election batch n (came_of journal batch n read)) ∷ []))
-        (g.S.Sink.taken c.args.out.now) (g.S.Sink.taken c.tell.new.out) (g.K.Keeper.held c.args.keeper.now) (g.K.Keeper.held c.settle.new.keeper) (Ok tt) in
+    IsDone (work (keep_if journal (event_of batch n read) ++ Write (lines_of election batch n (came_of journal batch n read)) ∷ []))
+    (g.S.Sink.taken c.args.out.now) (g.S.Sink.taken c.tell.new.out) (g.K.Keeper.held c.args.keeper.now) (g.K.Keeper.held c.settle.new.keeper) (Ok tt) in
     let n = c.next_number-number.result in
     let Written : Came → Type 0 = λ came. IsWritten (writing (lines_of election batch n came)) (g.S.Sink.taken c.args.out.now) (g.S.Sink.taken c.tell.new.out) (Ok tt) in
     subst Whole c.next_number-number.ensures
