@@ -70,10 +70,10 @@ module _ (grow : JournalsGrow) (election : Election) where
   lines_stay ((b ∷ line) ∷ lines) number kept records begun =
       goes_so (said election kept number (event_in election (b ∷ line))) number (λ event. lines_outcome election (kept ++ event ∷ []) (number + 1) lines) records (begun_is election records kept begun)
       (λ event is.
-          let found = said_is election kept number (event_in election (b ∷ line)) event is in
-          let held = said_held election (b ∷ line) event found.0 in
-          lines_stay lines (number + 1) (kept ++ event ∷ []) (records ++ record_of event ∷ [])
-          (grow election records kept event begun held.1 held.0 found.1))
+      let found = said_is election kept number (event_in election (b ∷ line)) event is in
+      let held = said_held election (b ∷ line) event found.0 in
+      lines_stay lines (number + 1) (kept ++ event ∷ []) (records ++ record_of event ∷ [])
+      (grow election records kept event begun held.1 held.0 found.1))
 
   script_stays : (file : Option (List ℕ)) (given : Result (List ℕ) Halt) (kept : List Event) (records : List (List ℕ)) → IsBegun election records kept → StaysJournal election records (goes_on given (λ script. lines_outcome election kept 1 (lines_of script))).acts
   script_stays file (Err cause) kept records begun = begun_is election records kept begun

@@ -40,6 +40,7 @@ some_pieces p (x ∷ xs) none = by (p x) none
     onto : (parts : List (List _)) → onto_first x parts ≡ [] → ⊥
     onto [] h = cc
     onto (part ∷ parts) h = cc
+
     by : (b : Bool) → cond b ([] ∷ slice_split p xs) (onto_first x (slice_split p xs)) ≡ [] → ⊥
     by true h = cc
     by false h = onto (slice_split p xs) h

@@ -44,7 +44,7 @@ abbrev pub TakesLine : Election → List Event → List Event → ℕ → List �
 TakesLine election kept kept_now number line taken taken_now held held_now (Ok done) =
     (lines : List (List ℕ))
     → ComesTo (lines_outcome election kept number (line ∷ lines)) (lines_outcome election kept_now (number + 1) lines)
-        taken taken_now held held_now
+    taken taken_now held held_now
 TakesLine election kept kept_now number line taken taken_now held held_now (Err cause) =
     (lines : List (List ℕ))
     → IsDone (lines_outcome election kept number (line ∷ lines)) taken taken_now held held_now (Err cause)

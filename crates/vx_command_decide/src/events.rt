@@ -46,10 +46,7 @@ fn name(
     ensures { IfOk result (λ found. found ≡ name_of form.now words.old) }
 {
     if form == "text" {
-        return Ok(Some(WriteInName::Words(Text::from_str(
-            alloc,
-            words.rest(),
-        )?)));
+        return Ok(Some(WriteInName::Words(Text::from_str(alloc, words.rest())?)));
     }
     if form == "candidate" {
         return match words.number(999) {
@@ -64,7 +61,11 @@ fn name(
 fn candidate(number: u32, words: &Words<'_>) -> Option<WriteInName>
     ensures { result ≡ ended words.now (WriteInName.Candidate number) }
 {
-    if words.are_read() { Some(WriteInName::Candidate(number)) } else { None }
+    if words.are_read() {
+        Some(WriteInName::Candidate(number))
+    } else {
+        None
+    }
 }
 
 /// A write-in slot and its name.
@@ -87,7 +88,11 @@ fn naming(alloc: Global, words: &mut Words<'_>) -> Result<Option<Decision>, OutO
 fn ruling(decision: Decision, words: &Words<'_>) -> Option<Decision>
     ensures { result ≡ ended words.now decision }
 {
-    if words.are_read() { Some(decision) } else { None }
+    if words.are_read() {
+        Some(decision)
+    } else {
+        None
+    }
 }
 
 /// What is decided of a contest.
@@ -209,6 +214,12 @@ pub(crate) fn event_of(
     };
     match said(alloc, election, &mut Words::of(text))? {
         None => Ok(None),
-        Some(event) => { if fits(election, &event) { Ok(Some(event)) } else { Ok(None) } }
+        Some(event) => {
+            if fits(election, &event) {
+                Ok(Some(event))
+            } else {
+                Ok(None)
+            }
+        }
     }
 }

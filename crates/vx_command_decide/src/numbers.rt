@@ -8,7 +8,11 @@ use vx_base::{ListOf, OutOfMemory};
 use vx_events::Options;
 
 /// All numbers of at most `most` that words spell, none where one spells none.
-fn numbers(alloc: Global, words: &mut Words<'_>, most: u32) -> Result<Option<ListOf<u32>>, OutOfMemory>
+fn numbers(
+    alloc: Global,
+    words: &mut Words<'_>,
+    most: u32,
+) -> Result<Option<ListOf<u32>>, OutOfMemory>
     ensures { IfOk result (λ found. found ≡ numbers_in most words.old) }
 {
     let mut list = ListOf::new(alloc);
@@ -42,7 +46,10 @@ fn options_of(alloc: Global, numbers: &[u32]) -> Result<Options, OutOfMemory>
 }
 
 /// The options that words spell, each once; none where a word spells none.
-pub(crate) fn selections(alloc: Global, words: &mut Words<'_>) -> Result<Option<Options>, OutOfMemory>
+pub(crate) fn selections(
+    alloc: Global,
+    words: &mut Words<'_>,
+) -> Result<Option<Options>, OutOfMemory>
     ensures { IfOk result (λ found. found ≡ options_in words.old) }
 {
     match numbers(alloc, words, 999)? {

@@ -11,12 +11,7 @@ const TOWN: &str =
 const HEADER: &str = "1 election 16cbf4c3a45dae96ed01a82ac6d66a24812b6309d97421e2dc4282725ade6e70";
 
 /// What `decide` writes of a script over these records, its status, and the records from `from` on.
-fn written(
-    alloc: Global,
-    records: &[&str],
-    script: &[u8],
-    from: usize,
-) -> Result<String, Fail> {
+fn written(alloc: Global, records: &[&str], script: &[u8], from: usize) -> Result<String, Fail> {
     let mut files = NamedBytes::new(alloc);
     files.push("e", Bytes::from_slice(alloc, TOWN.as_bytes())?)?;
     files.push("s", Bytes::from_slice(alloc, script)?)?;
@@ -27,14 +22,7 @@ fn written(
         kept.push(record.as_bytes())?;
     }
     let mut keeper = MemKeeper::new(kept, KeeperCalls::new(alloc));
-    let status = status_of(decide(
-        alloc,
-        "e",
-        "s",
-        &mut inputs,
-        &mut out,
-        &mut keeper,
-    ));
+    let status = status_of(decide(alloc, "e", "s", &mut inputs, &mut out, &mut keeper));
     let mut text = String::new(alloc);
     for byte in out.held() {
         text.push(char::from(*byte))?;

@@ -59,7 +59,7 @@ fn queue_of<S: Sink, K: Keeper>(
     requires { IsValid election.now }
     ensures done { ForSome (K.held keeper.old) (λ records.
         IsDone (once_read election.now records
-            (λ journal. writing (queue_text election.now journal.center.events)))
+        (λ journal. writing (queue_text election.now journal.center.events)))
         (S.taken out.old) (S.taken out.new) (K.held keeper.old) (K.held keeper.new) result) }
     ensures nothing_written { writes_nothing false result ≡ true → S.taken out.new ≡ S.taken out.old }
     ensures held { K.held keeper.new ≡ K.held keeper.old }

@@ -59,7 +59,7 @@ fn push_contest(
     requires { is_read election.now marks.now ≡ true }
     ensures { OnOk result (GotLine
         (contest_lines election.now key.now (is_blank_sheet sheet.now) marks.now
-            (holder_of center.now.events key.now) (slice_get election.now.contests marks.now.contest))
+        (holder_of center.now.events key.now) (slice_get election.now.contests marks.now.contest))
         (string_bytes text.old) (string_bytes text.new)) }
 {
     let contest = &election.contests.as_slice()[marks.contest as usize];

@@ -99,7 +99,10 @@ pub record Unread : Type 0 where
 -- a text of which nothing was read
 abbrev pub whole : Paper → ℕ → List ℕ → Unread
 whole paper tag text = record {
-  paper = paper; tag = tag; pages = 0; left = record { number = 1; lines = lines_of text };
+  paper = paper;
+  tag = tag;
+  pages = 0;
+  left = record { number = 1; lines = lines_of text };
 }
 
 -- the same with one page read more, and these lines left

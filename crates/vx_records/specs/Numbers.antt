@@ -34,8 +34,8 @@ digits_in numbers n [] = taken numbers n []
 digits_in numbers n (b ∷ text) =
     if is_digit b then
     (if nat_lt 0 n && begins numbers (10 * n + (b - 48))
-     then digits_in numbers (10 * n + (b - 48)) text
-     else stop (b ∷ text))
+    then digits_in numbers (10 * n + (b - 48)) text
+    else stop (b ∷ text))
     else taken numbers n (b ∷ text)
 
 unfoldable pub number_in : Numbers → List ℕ → Read ℕ

@@ -18,7 +18,7 @@ returns c =
 pub loop-option-preserved : goal.loop-option-preserved
 loop-option-preserved c =
     elim c.if-is_among.branch [
-      then-is_among+in_ok-push w ↦
+      | then-is_among+in_ok-push w ↦
           ap (λ (list : Vec ℕ Global). list.items) w.list-is ∙ w.in_ok-push.ensures.items ∙ ap (λ (some : List ℕ). some ++ c.loop-option.option ∷ []) c.loop-option.invariant
           ∙ sym (one_option_more c.loop-option.option c.args.numbers.now true (sym c.is_among.ensures ∙ w.if-is_among.true))
       | else-is_among w ↦

@@ -10,7 +10,7 @@ loop-reason-init c = none_told c.args.set (string_bytes c.args.text.now)
 pub loop-reason-preserved : goal.loop-reason-preserved
 loop-reason-preserved c =
     elim c.if-has.branch [
-      then-has+in_ok-push_word w ↦
+      | then-has+in_ok-push_word w ↦
           rw (w.first-is, w.text-is)
           (one_told c.args.set c.loop-reason.reason-index c.loop-reason.first (string_bytes c.args.text.now) (string_bytes c.loop-reason.text) c.loop-reason.invariant _ c.loop-reason-test.true (string_bytes w.push_word.new.text) (sym c.has.ensures ∙ w.if-has.true)
           (w.in_ok-push_word.ensures ∙ ap (λ (word : List ℕ). string_bytes c.loop-reason.text ++ further c.loop-reason.first word) w.reason_word.ensures))
