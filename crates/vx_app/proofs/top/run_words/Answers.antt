@@ -1,11 +1,33 @@
-use Rattle.std.proofs.Common.{◌≡◌, true, false, Option, Some, Ok, sym, subst}
+use Rattle.std.proofs.Common.{◌≡◌, Bool, true, Some, Err, false, ap, sym, subst}
+use Rattle.std.proofs.lemmas.Bool.{false≢true}
 use Rattle.vx_command.specs.Acts.{Answer}
 use Rattle.vx_command.specs.Devices.{writes_nothing}
 use Rattle.vx_command.specs.Done.{IsDone}
+use Rattle.vx_command.specs.declared.status.Status.{Status}
+use Rattle.vx_command.specs.declared.status.Status.TheVariants.{Usage}
 use Rattle.vx_words.specs.declared.command.Command.{Command}
-use Rattle.vx_words.specs.Words.{Spells}
+use Rattle.vx_words.specs.declared.fault.UsageFault.{UsageFault}
+use Rattle.vx_words.specs.Words.{NoCommand, Parses, Spells}
 use Rattle.vx_app.specs.Outcome.{appends, outcome_of, takes_first, uses_keeper}
 use Rattle.vx_app.proofs.top.run_words.Goals as goal
+
+-- the one status of words that are no command
+is_usage : Status → Bool
+is_usage Usage = true
+is_usage other = false
+
+pub returns-in-Err-OutOfMemory-clause-usage : goal.returns-in-Err-OutOfMemory-clause-usage
+unfolding is_usage
+returns-in-Err-OutOfMemory-clause-usage g c =
+    let Parsed : UsageFault → Type 0 = λ fault. Parses c.args.words.now (Err fault) in
+    let spelled : (command : Command) × Spells c.args.words.now command = subst Parsed c.in-Err-OutOfMemory.field-0-is c.in-Err-OutOfMemory.ensures in
+    (λ is. absurd (false≢true (ap is_usage is)), λ none. absurd (none spelled.0 spelled.1))
+
+pub returns-in-Err-Usage-clause-done : goal.returns-in-Err-Usage-clause-done
+returns-in-Err-Usage-clause-done g c files told command spells records kept =
+    let Parsed : UsageFault → Type 0 = λ fault. Parses c.args.words.now (Err fault) in
+    let none : NoCommand c.args.words.now = subst Parsed c.in-Err-Usage.field-0-is c.in-Err-Usage.ensures in
+    absurd (none command spells)
 
 pub returns-in-Ok-clause-done : goal.returns-in-Ok-clause-done
 returns-in-Ok-clause-done g c files told command spells records kept =
