@@ -14,6 +14,3 @@ mod sheets;
 mod votes;
 
 pub use reporting::report;
-
-#[cfg(test)]
-mod tests;
