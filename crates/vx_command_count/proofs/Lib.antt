@@ -12,3 +12,4 @@ pub mod Fitting
 pub mod Held
 pub mod Recorded
 pub mod Standing
+pub mod Said

@@ -1,9 +1,9 @@
 -- The record of a sheet stands among those that a count appends.
-use Rattle.std.proofs.Common.{◌≡◌, ℕ, zero, suc, ◌+◌, ◌*◌, ◌<◌, ◌≤◌, ◌==◌, Bool, true, false, cond, List, [], ◌∷◌, ◌++◌, length, Option, None, Some, Result, Ok, Err, refl, sym, ap, ap₂, subst, ◌∙◌, append_assoc, arith, length-append}
+use Rattle.std.proofs.Common.{◌≡◌, ℕ, zero, suc, ◌+◌, ◌-◌, ◌*◌, ◌<◌, ◌≤◌, ◌==◌, Bool, true, false, cond, List, [], ◌∷◌, ◌++◌, length, get_or, Option, None, Some, Result, Ok, Err, refl, sym, ap, ap₂, subst, ◌∙◌, append_assoc, arith, length-append}
 use Rattle.std.specs.Prelude.{◌&&◌, All, bytes_eq, nat_lt, slice_get}
 use Rattle.std.specs.List.{flat_map, position_from}
 use Rattle.std.proofs.lemmas.Bool.{cond-true, cond-false}
-use Rattle.std.proofs.lemmas.List.Elements.{All-nil, All-append}
+use Rattle.std.proofs.lemmas.List.Elements.{All-nil, All-cons, All-append}
 use Rattle.std.proofs.lemmas.Option.{slice_get_within, get_or_from_slice_get}
 use Rattle.vx_base.proofs.Booleans.{chosen-none}
 use Rattle.vx_base.proofs.Numbers.{below-no, below-yes, equal-no}
@@ -41,7 +41,7 @@ use Rattle.vx_journal.specs.declared.journal.Journal.{Journal}
 use Rattle.vx_journal.specs.Keeping.{keep_acts, reply_in}
 use Rattle.vx_command_count.specs.declared.counting.Counting.{Counting}
 use Rattle.vx_command_count.specs.declared.tally.Tally.{Tally}
-use Rattle.vx_command_count.specs.Margin.{BeginsWith, FitsSheet, FittingSheetsAreAdded, FittingSheetsAreKept, FittingSheetsAreRead, KeepsFront, KeepsSheet, MarkedSheet, header_if_none, images_and, images_in, key_at, sheet_marked, unless_faulty_before}
+use Rattle.vx_command_count.specs.Margin.{BeginsWith, FitsSheet, FittingSheetsAreAdded, FittingSheetsAreKept, FittingSheetsAreRead, IsOfEarlier, KeepsFront, KeepsSheet, MarkedSheet, header_if_none, images_and, images_in, key_at, sheet_marked, unless_faulty_before}
 use Rattle.vx_command_count.specs.Outcome.{count_outcome, read_next}
 use Rattle.vx_command_count.specs.Sheets.{added_by, came_by, came_if, came_of, counted_with, event_of, journal_if, keep_if, sheet_acts}
 use Rattle.vx_command_count.specs.Tally.{next_image, next_number, tally_with}
@@ -105,36 +105,43 @@ module _ (key new : Key) (sheet : SheetMarks) (differ : same_key key new ≡ fal
   still-new (Release station other ∷ events) from place none = still-new events from (place + 1) none
   still-new (Decide station other contest decision ∷ events) from place none = still-new events from (place + 1) none
 
+-- a record is of the sheet with a number
+record IsNumbered (batch : List ℕ) (number : ℕ) (body : List ℕ) : Type 0 where
+  sheet : SheetMarks
+  is : body ≡ record_of (Add (key-of batch number) sheet)
+
 -- what a sheet with a lower number does: it adds an event and its record, or neither, and a key stays new
-record Goes (kept now : List Event) (added : List (List ℕ)) (key : Key) : Type 0 where
+record Goes (kept now : List Event) (added : List (List ℕ)) (lower : ℕ) (key : Key) : Type 0 where
   grown : length now ≡ length kept + length added
   few : length added ≤ 1
+  is : All (IsNumbered key.batch lower) added
   new : place_in now key ≡ None
 
 module _ (batch : List ℕ) (number : ℕ) where
   by-reply : (journal : Journal) (lower : ℕ) (sheet : SheetMarks) (done : Bool) → lower < number → place_in journal.center.events (key-of batch number) ≡ None
       → Goes journal.center.events
       (cond done (journal.center.events ++ Add (key-of batch lower) sheet ∷ []) journal.center.events)
-      (flat_map records_of (cond done (Append (record_of (Add (key-of batch lower) sheet)) ∷ []) [])) (key-of batch number)
+      (flat_map records_of (cond done (Append (record_of (Add (key-of batch lower) sheet)) ∷ []) [])) lower (key-of batch number)
   by-reply journal lower sheet true less new = record {
     grown = length-append journal.center.events (Add (key-of batch lower) sheet ∷ []);
     few = omega arith;
+    is = All-cons (IsNumbered batch lower) (record_of (Add (key-of batch lower) sheet)) [] (record { sheet = sheet; is = refl }) (All-nil (IsNumbered batch lower));
     new = still-new (key-of batch number) (key-of batch lower) sheet (other-key batch lower number less) journal.center.events 0 0 new;
   }
-  by-reply journal lower sheet false less new = record { grown = omega arith; few = omega arith; new = new }
+  by-reply journal lower sheet false less new = record { grown = omega arith; few = omega arith; is = All-nil (IsNumbered batch lower); new = new }
 
   by-number : (journal : Journal) (lower : ℕ) (sheet : SheetMarks) (beyond : Bool) → lower < number → place_in journal.center.events (key-of batch number) ≡ None
       → Goes journal.center.events
       (journal_if journal (cond beyond None (Some (Add (key-of batch lower) sheet)))).center.events
-      (flat_map records_of (keep_if journal (cond beyond None (Some (Add (key-of batch lower) sheet))))) (key-of batch number)
-  by-number journal lower sheet true less new = record { grown = omega arith; few = omega arith; new = new }
+      (flat_map records_of (keep_if journal (cond beyond None (Some (Add (key-of batch lower) sheet))))) lower (key-of batch number)
+  by-number journal lower sheet true less new = record { grown = omega arith; few = omega arith; is = All-nil (IsNumbered batch lower); new = new }
   by-number journal lower sheet false less new = by-reply journal lower sheet (is_done (reply_in journal (Add (key-of batch lower) sheet))) less new
 
   goes : (journal : Journal) (lower : ℕ) (read : Result SheetMarks Came) → lower < number → place_in journal.center.events (key-of batch number) ≡ None
       → Goes journal.center.events (journal_if journal (event_of batch lower read)).center.events
-      (flat_map records_of (keep_if journal (event_of batch lower read))) (key-of batch number)
+      (flat_map records_of (keep_if journal (event_of batch lower read))) lower (key-of batch number)
   goes journal lower (Ok sheet) less new = by-number journal lower sheet (nat_lt 999999 lower) less new
-  goes journal lower (Err came) less new = record { grown = omega arith; few = omega arith; new = new }
+  goes journal lower (Err came) less new = record { grown = omega arith; few = omega arith; is = All-nil (IsNumbered batch lower); new = new }
 
 -- each sheet has the next number
 numbered : (tally : Tally) (came : Came) → next_number (tally_with tally came) ≡ next_number tally + 1
@@ -146,24 +153,37 @@ numbered tally Single = omega arith
 numbered tally (Full count) = omega arith
 numbered tally Beyond = omega arith
 
+-- a record is of a sheet with a number below another
+record IsLower (batch : List ℕ) (number : ℕ) (body : List ℕ) : Type 0 where
+  lower : ℕ
+  some : 0 < lower
+  less : lower < number
+  sheet : SheetMarks
+  is : body ≡ record_of (Add (key-of batch lower) sheet)
+
 -- a record stands in a list: behind few others, unless the machine was full then
-record Stands (kept : List Event) (place : ℕ) (body : List ℕ) (records : List (List ℕ)) : Type 0 where
+record Stands (batch : List ℕ) (number : ℕ) (kept : List Event) (place : ℕ) (body : List ℕ) (records : List (List ℕ)) : Type 0 where
   before : List (List ℕ)
   behind : List (List ℕ)
   are : records ≡ before ++ behind
   few : length before ≤ place
+  earlier : All (IsLower batch number) before
   stands : length kept + length before < event_limit → BeginsWith body behind
 
 -- behind what another sheet did
-stands-behind : (kept now : List Event) (added : List (List ℕ)) (key : Key) (place : ℕ) (body : List ℕ) (records : List (List ℕ))
-    → Goes kept now added key → Stands now place body records → Stands kept (suc place) body (added ++ records)
-stands-behind kept now added key place body records goes it =
+stands-behind : (batch : List ℕ) (lower number : ℕ) (kept now : List Event) (added : List (List ℕ)) (place : ℕ) (body : List ℕ) (records : List (List ℕ))
+    → 0 < lower → lower < number → Goes kept now added lower (key-of batch number) → Stands batch number now place body records → Stands batch number kept (suc place) body (added ++ records)
+stands-behind batch lower number kept now added place body records some less goes it =
     let size : length (added ++ it.before) ≡ length added + length it.before = length-append added it.before in
     record {
       before = added ++ it.before;
       behind = it.behind;
       are = ap (λ (more : List (List ℕ)). added ++ more) it.are ∙ sym (append_assoc added it.before it.behind);
       few = omega (arith, size, it.few, goes.few);
+      earlier =
+          All-append (IsLower batch number) added it.before
+          (λ k d within. let one = goes.is k d within in record { lower = lower; some = some; less = less; sheet = one.sheet; is = one.is })
+          it.earlier;
       stands = λ room. it.stands (omega (arith, size, room, goes.grown));
     }
 
@@ -171,7 +191,7 @@ module _ (election : Election) (batch : List ℕ) (first second : Page) (sheet :
     (read : (image : ℕ) → sheet_read election image (reading_of election first) (reading_of election second) ≡ Ok sheet) where
   -- the sheet comes first
   first-stands : (counting : Counting) (images : List Page) → next_number counting.tally ≡ number → place_in counting.journal.center.events (key-of batch number) ≡ None
-      → Stands counting.journal.center.events 0 (record_of (Add (key-of batch number) sheet)) (sheet_records election batch counting (first ∷ (second ∷ images)))
+      → Stands batch number counting.journal.center.events 0 (record_of (Add (key-of batch number) sheet)) (sheet_records election batch counting (first ∷ (second ∷ images)))
   first-stands counting images is new =
       let next = read_next election counting first second in
       let more = sheet_records election batch (counted_with batch counting next) images in
@@ -180,6 +200,7 @@ module _ (election : Election) (batch : List ℕ) (first second : Page) (sheet :
         behind = sheet_records election batch counting (first ∷ (second ∷ images));
         are = refl;
         few = omega arith;
+        earlier = All-nil (IsLower batch number);
         stands = λ room.
             let added : IsAddedTo counting.journal batch number sheet = added-to counting.journal batch number sheet most new (omega (arith, room)) in
             (more,
@@ -190,7 +211,7 @@ module _ (election : Election) (batch : List ℕ) (first second : Page) (sheet :
   -- the sheet in a place
   sheet-stands : (images : List Page) (place : ℕ) (counting : Counting) → slice_get images (2 * place) ≡ Some first → slice_get images (2 * place + 1) ≡ Some second
       → number ≡ next_number counting.tally + place → place_in counting.journal.center.events (key-of batch number) ≡ None
-      → Stands counting.journal.center.events place (record_of (Add (key-of batch number) sheet)) (sheet_records election batch counting images)
+      → Stands batch number counting.journal.center.events place (record_of (Add (key-of batch number) sheet)) (sheet_records election batch counting images)
   sheet-stands [] place counting one other is new = absurd cc
   sheet-stands (single ∷ []) place counting one other is new =
       let past : 2 * place + 1 ≡ suc (2 * place) = omega arith in
@@ -199,7 +220,7 @@ module _ (election : Election) (batch : List ℕ) (first second : Page) (sheet :
   sheet-stands (front ∷ (back ∷ images)) zero counting one other is new =
       let same : front ≡ first = cc in
       let too : back ≡ second = cc in
-      let Here : Page → Page → Type 0 = λ a b. Stands counting.journal.center.events 0 (record_of (Add (key-of batch number) sheet)) (sheet_records election batch counting (a ∷ (b ∷ images))) in
+      let Here : Page → Page → Type 0 = λ a b. Stands batch number counting.journal.center.events 0 (record_of (Add (key-of batch number) sheet)) (sheet_records election batch counting (a ∷ (b ∷ images))) in
       let At : Page → Type 0 = λ a. Here a back in
       let Behind : Page → Type 0 = λ b. Here first b in
       subst At (sym same) (subst Behind (sym too) (first-stands counting images (omega (arith, is)) new))
@@ -210,12 +231,23 @@ module _ (election : Election) (batch : List ℕ) (first second : Page) (sheet :
       let two : 2 * suc place ≡ suc (suc (2 * place)) = omega arith in
       let three : 2 * suc place + 1 ≡ suc (suc (2 * place + 1)) = omega arith in
       let count = numbered counting.tally (came_of counting.journal batch (next_number counting.tally) next) in
-      stands-behind counting.journal.center.events now.journal.center.events
-      (flat_map records_of (keep_if counting.journal (event_of batch (next_number counting.tally) next))) (key-of batch number) place
-      (record_of (Add (key-of batch number) sheet)) (sheet_records election batch now images) went
+      stands-behind batch (next_number counting.tally) number counting.journal.center.events now.journal.center.events
+      (flat_map records_of (keep_if counting.journal (event_of batch (next_number counting.tally) next))) place
+      (record_of (Add (key-of batch number) sheet)) (sheet_records election batch now images) (omega arith) (omega (arith, is)) went
       (sheet-stands images place now
       (sym (ap (slice_get (front ∷ (back ∷ images))) two) ∙ one) (sym (ap (slice_get (front ∷ (back ∷ images))) three) ∙ other)
       (omega (arith, is, count)) went.new)
+
+-- sheets are numbered from 1, places from 0
+earlier-of : (batch : List ℕ) (place : ℕ) (body : List ℕ) → IsLower batch (place + 1) body → IsOfEarlier batch place body
+earlier-of batch place body it =
+    let number : it.lower ≡ it.lower - 1 + 1 = omega (arith, it.some) in
+    record {
+      earlier = it.lower - 1;
+      less = omega (arith, it.some, it.less);
+      sheet = it.sheet;
+      is = it.is ∙ ap (λ (n : ℕ). record_of (Add (key-of batch n) it.sheet)) number;
+    }
 
 -- all images are whole
 unless-whole : (fault : Option PbmFault) (more : List Page) → All IsWholePage more → All IsWholePage (unless_faulty_before fault more)
@@ -255,7 +287,7 @@ keeps defined whole fitting name batch scans files records taken taken_now held 
     let all : All IsWholePage images = in-whole whole files 4 scans in
     let first-whole : IsWholePage first = whole-at images (2 * place) first all one in
     let second-whole : IsWholePage second = whole-at images (2 * place + 1) second all other in
-    let it : Stands events place (record_of (Add (key_at batch place) (sheet_marked sheet))) (sheet_records election batch (begun election records events) images) =
+    let it : Stands batch (place + 1) events place (record_of (Add (key_at batch place) (sheet_marked sheet))) (sheet_records election batch (begun election records events) images) =
     sheet-stands election batch first second (sheet_marked sheet) (place + 1) most
     (λ image. fitting election image first second sheet valid first-whole.whole second-whole.whole fits)
     images place (begun election records events) one other (omega arith) new in
@@ -264,6 +296,7 @@ keeps defined whole fitting name batch scans files records taken taken_now held 
       before = it.before;
       behind = it.behind;
       few = it.few;
+      earlier = λ k d within. earlier-of batch place (get_or it.before k d) (it.earlier k d within);
       stands = it.stands;
       kept =
           subst Kept

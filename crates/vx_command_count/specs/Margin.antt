@@ -1,12 +1,13 @@
 -- What `count` keeps of scans that fit printed pages: where the two images of a sheet fit the front and the back of a
 -- card, its record stands among those that are appended, with the marks of both pages.
-use Rattle.std.specs.Prelude.{◌≡◌, ◌⊎◌, ◌<◌, ◌≤◌, ℕ, ◌+◌, ◌*◌, ◌%◌, ◌==◌, ◌||◌, if◌then◌else◌, List, [], ◌∷◌, ◌++◌, length, map, slice_get, Bool, true, false, Option, Some, None, Result, Ok, Err}
+use Rattle.std.specs.Prelude.{All, ◌≡◌, ◌⊎◌, ◌<◌, ◌≤◌, ℕ, ◌+◌, ◌*◌, ◌%◌, ◌==◌, ◌||◌, if◌then◌else◌, List, [], ◌∷◌, ◌++◌, length, map, slice_get, Bool, true, false, Option, Some, None, Result, Ok, Err}
 use Rattle.std.specs.List.{flat_map, range_with_len}
 use Rattle.vx_plane.specs.Plane.{Page}
 use Rattle.vx_count.specs.Turned.{IsWhole}
 use Rattle.vx_grid.specs.declared.kind.Kind.{Kind}
+use Rattle.vx_grid.specs.declared.state.State.{State}
 use Rattle.vx_center.specs.Replies.{event_limit}
-use Rattle.vx_center.specs.Sheets.{place_in}
+use Rattle.vx_center.specs.Sheets.{marks_on, place_in}
 use Rattle.vx_election_model.specs.declared.election.Election.{Election}
 use Rattle.vx_election_model.specs.Valid.{IsValid}
 use Rattle.vx_events.specs.declared.event.Event.{Event}
@@ -102,6 +103,25 @@ pub record FitsSheet (election : Election) (first second : Page) (sheet : Marked
   pub odd : sheet.front % 2 ≡ 1
   pub either : FitsPages election first second sheet ⊎ FitsPages election second first sheet
 
+-- what a sheet has of an option of a contest, if it has the contest
+abbrev pub state_in : Option ContestMarks → ℕ → Option State
+state_in None option = None
+state_in (Some marks) option = slice_get marks.states option
+
+-- a sheet says of each bubble of a page, at its contest and its option, that it is Marked where it is marked, else Clear
+abbrev pub SaysEachMark : SheetMarks → PagePlan → List Bool → Type 0
+SaysEachMark said plan marks =
+    (n : ℕ) (bubble : Bubble) (mark : Bool)
+    → slice_get plan.bubbles n ≡ Some bubble → slice_get marks n ≡ Some mark
+    → state_in (marks_on said bubble.contest) bubble.option ≡ Some (state_of_mark mark)
+
+-- so it is counted, of both of its pages
+abbrev pub MarkedSheetsSayEachMark : Type 0
+MarkedSheetsSayEachMark =
+    (election : Election) (first second : Page) (sheet : MarkedSheet) → IsValid election → FitsSheet election first second sheet
+    → SaysEachMark (sheet_marked sheet) sheet.front_plan sheet.front_marks
+    × SaysEachMark (sheet_marked sheet) sheet.back_plan sheet.back_marks
+
 -- two images that fit a sheet are read and paired as that sheet, with those marks
 abbrev pub FittingSheetsAreRead : Type 0
 FittingSheetsAreRead =
@@ -155,21 +175,29 @@ header_if_none election records = if has_none records then header_of election �
 abbrev pub BeginsWith : List ℕ → List (List ℕ) → Type 0
 BeginsWith body list = (more : List (List ℕ)) × (list ≡ body ∷ more)
 
--- Where the sheet's record stands: behind the header, if there was none, and behind the records of sheets before it, of
--- which there are at most so many as sheets. It stands there unless the machine was full when the sheet came, with the
--- events that were kept before and those of these records. Of the list so made the keeper has a front, and all of it
--- unless the command broke off. Places are counted from 0.
-pub record KeepsSheet (election : Election) (records : List (List ℕ)) (events : List Event) (place : ℕ) (body : List ℕ)
-    (held held_now : Held) (answer : Answer) : Type 0 where
-  pub before : List (List ℕ)
-  pub behind : List (List ℕ)
-  pub few : length before ≤ place
-  pub stands : length events + length before < event_limit → BeginsWith body behind
-  pub kept : KeepsFront (header_if_none election records ++ (before ++ behind)) held held_now answer
-
 -- the key of the sheet in a place: sheets are numbered from 1
 abbrev pub key_at : List ℕ → ℕ → Key
 key_at batch place = record { batch = batch; number = place + 1 }
+
+-- a record is of a sheet of the batch that comes before a place
+pub record IsOfEarlier (batch : List ℕ) (place : ℕ) (body : List ℕ) : Type 0 where
+  pub earlier : ℕ
+  pub less : earlier < place
+  pub sheet : SheetMarks
+  pub is : body ≡ record_of (Add (key_at batch earlier) sheet)
+
+-- Where the sheet's record stands: behind the header, if there was none, and behind the records of sheets before it, at
+-- most one of each. It stands there unless the machine was full when the sheet came, with the events that were kept
+-- before and those of these records. Of the list so made the keeper has a front, and all of it unless the command broke
+-- off. Places are counted from 0.
+pub record KeepsSheet (election : Election) (batch : List ℕ) (records : List (List ℕ)) (events : List Event) (place : ℕ)
+    (body : List ℕ) (held held_now : Held) (answer : Answer) : Type 0 where
+  pub before : List (List ℕ)
+  pub behind : List (List ℕ)
+  pub few : length before ≤ place
+  pub earlier : All (IsOfEarlier batch place) before
+  pub stands : length events + length before < event_limit → BeginsWith body behind
+  pub kept : KeepsFront (header_if_none election records ++ (before ++ behind)) held held_now answer
 
 -- so a command kept each sheet of two images that fit one, with its marks, where its key is new and its number at most
 -- 999,999
@@ -178,7 +206,7 @@ KeepsWhatFits election batch images records events held held_now answer =
     (place : ℕ) (first second : Page) (sheet : MarkedSheet)
     → slice_get images (2 * place) ≡ Some first → slice_get images (2 * place + 1) ≡ Some second
     → FitsSheet election first second sheet → place + 1 ≤ 999999 → place_in events (key_at batch place) ≡ None
-    → KeepsSheet election records events place (record_of (Add (key_at batch place) (sheet_marked sheet))) held held_now answer
+    → KeepsSheet election batch records events place (record_of (Add (key_at batch place) (sheet_marked sheet))) held held_now answer
 
 -- so `count` keeps the sheets of scans, where the election under a name can be read, its cards can be planned, and the
 -- records are a journal with these events

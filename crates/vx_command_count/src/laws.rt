@@ -3,12 +3,12 @@
 
 ghost use Rattle.vx_command_count.specs.Laws.{CountKeepsJournals};
 ghost use Rattle.vx_command_count.specs.Margin.{
-    FittingSheetsAreAdded, FittingSheetsAreKept, FittingSheetsAreRead,
+    FittingSheetsAreAdded, FittingSheetsAreKept, FittingSheetsAreRead, MarkedSheetsSayEachMark,
 };
 
 use vx_election::defined_elections_are_valid;
 use vx_journal::{headers_begin_journals, journals_grow};
-use vx_layout::plans_show_each_option;
+use vx_layout::{plans_are_numbered, plans_show_each_option, plans_stand_on_the_grid};
 use vx_pbm::images_are_whole;
 use vx_scan_model::fitting_scans_are_read;
 use vx_sheet::paired_sheets_can_be_added;
@@ -42,4 +42,14 @@ pub fn fitting_sheets_are_kept()
     defined_elections_are_valid();
     images_are_whole();
     fitting_sheets_are_added();
+}
+
+/// What a sheet that two images fit is counted as says of each bubble of both pages, at its contest and its
+/// option, whether it is marked.
+pub fn marked_sheets_say_each_mark()
+    ensures { MarkedSheetsSayEachMark }
+{
+    plans_are_numbered();
+    plans_show_each_option();
+    plans_stand_on_the_grid();
 }

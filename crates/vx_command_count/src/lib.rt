@@ -23,4 +23,7 @@ mod tally;
 mod waiting;
 
 pub use command::count;
-pub use laws::{count_keeps_journals, fitting_sheets_are_added, fitting_sheets_are_kept};
+pub use laws::{
+    count_keeps_journals, fitting_sheets_are_added, fitting_sheets_are_kept,
+    marked_sheets_say_each_mark,
+};
