@@ -1,6 +1,6 @@
 -- Two images that fit the pages of a sheet, and what is read of them.
 use Rattle.std.proofs.Common.{◌≡◌, ◌⊎◌, inl, inr, ℕ, ◌+◌, ◌%◌, ◌==◌, Bool, true, false, cond, List, [], ◌∷◌, ◌++◌, map, None, Some, Ok, refl, sym, ap, ap₂, ◌∙◌, arith}
-use Rattle.std.specs.Prelude.{◌||◌, ◌&&◌, Result}
+use Rattle.std.specs.Prelude.{◌||◌}
 use Rattle.std.specs.Bool.{beq}
 use Rattle.std.specs.List.{flat_map, range_with_len}
 use Rattle.std.proofs.lemmas.Bool.{cond-true, cond-false}
@@ -17,22 +17,19 @@ use Rattle.vx_code.specs.declared.code.PageCode.{PageCode}
 use Rattle.vx_election_model.specs.declared.election.Election.{Election}
 use Rattle.vx_election_model.specs.Valid.{IsValid}
 use Rattle.vx_layout.specs.declared.bubbles.Bubble.{Bubble}
-use Rattle.vx_layout.specs.declared.fault.LayoutFault.{LayoutFault}
 use Rattle.vx_layout.specs.declared.pages.PagePlan.{PagePlan}
 use Rattle.vx_layout.specs.declared.plan.CardPlan.{CardPlan}
 use Rattle.vx_layout.specs.Plan.{plan_of}
 use Rattle.vx_layout.specs.Printed.{IsPlanned, PrintedPage, code_of}
 use Rattle.vx_rules.specs.declared.marks.ContestMarks.{ContestMarks}
 use Rattle.vx_rules.specs.declared.marks.SheetMarks.{SheetMarks}
-use Rattle.vx_scan_model.specs.declared.fault.PageFault.{PageFault}
 use Rattle.vx_scan_model.specs.declared.reading.PageReading.{PageReading}
-use Rattle.vx_scan_model.specs.Fits.{Fits, FitsUpright, FittingScansAreRead, IsReadAs, Says, state_of_mark}
+use Rattle.vx_scan_model.specs.Fits.{FitsUpright, FittingScansAreRead, IsReadAs, state_of_mark}
 use Rattle.vx_scan_model.specs.Named.{page_numbered}
 use Rattle.vx_scan_model.specs.Reading.{reading_of}
-use Rattle.vx_sheet.specs.declared.came.Came.{Came}
 use Rattle.vx_sheet.specs.Came.{if_paired, plan_there, sheet_read}
 use Rattle.vx_sheet.specs.Sheet.{alike_sheet, are_alike, are_facing, bubbles_of, bubbles_on, contest_limit, either_sheet, facing_sheet, has_bubble, is_back_of, same_kind, sheet_of, sheet_with, states_on}
-use Rattle.vx_command_count.specs.Margin.{MarkedSheet, front_of, back_of, marks_of, contest_if_on, sheet_marked, FitsPages, FitsSheet, FittingSheetsAreRead}
+use Rattle.vx_command_count.specs.Margin.{MarkedSheet, front_of, back_of, marks_of, contest_if_on, sheet_marked, FitsPages, FittingSheetsAreRead}
 
 -- what the bubbles of a contest are read as, by their marks
 states-marked : (contest : ℕ) (bubbles : List Bubble) (marks : List Bool) → states_on contest bubbles (map state_of_mark marks) ≡ map state_of_mark (marks_of contest bubbles marks)
@@ -202,13 +199,14 @@ module _ (fitting : FittingScansAreRead) where
       let front-is : IsPlanned election (front_of sheet) sheet.front_plan = planned-of election _ _ (front_of sheet) sheet.front_plan sheet.front_marks fits.0 in
       let back-is : IsPlanned election (back_of sheet) sheet.back_plan = planned-of election _ _ (back_of sheet) sheet.back_plan sheet.back_marks fits.1 in
       let front-says = says-page election front-is.card (front_of sheet) sheet.front_plan sheet.front_marks front front-is front-is.card_is one in
-      let back-says = says-page election front-is.card (back_of sheet) sheet.back_plan sheet.back_marks back back-is front-is.card_is other in
-      (of-readings election image front back one.reading other.reading front-is.card sheet.card (sheet_marked sheet) one.is_read other.is_read
-      (ap (λ (code : PageCode). code.card) one.says.code_is) front-is.card_is
-      (front-first election front-is.card sheet odd one.reading other.reading front-says back-says),
-      of-readings election image back front other.reading one.reading front-is.card sheet.card (sheet_marked sheet) other.is_read one.is_read
-      (ap (λ (code : PageCode). code.card) other.says.code_is) front-is.card_is
-      (back-first election front-is.card sheet odd one.reading other.reading front-says back-says))
+      let back-says = says-page election front-is.card (back_of sheet) sheet.back_plan sheet.back_marks back back-is front-is.card_is other in (
+        of-readings election image front back one.reading other.reading front-is.card sheet.card (sheet_marked sheet) one.is_read other.is_read
+            (ap (λ (code : PageCode). code.card) one.says.code_is) front-is.card_is
+            (front-first election front-is.card sheet odd one.reading other.reading front-says back-says),
+        of-readings election image back front other.reading one.reading front-is.card sheet.card (sheet_marked sheet) other.is_read one.is_read
+            (ap (λ (code : PageCode). code.card) other.says.code_is) front-is.card_is
+            (back-first election front-is.card sheet odd one.reading other.reading front-says back-says),
+      )
 
   -- two images that fit a sheet are read as it
   pub sheets-read : FittingSheetsAreRead

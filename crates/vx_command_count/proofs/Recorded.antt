@@ -1,5 +1,5 @@
 -- The records that `count` appends: those of the sheets of all images, behind the header.
-use Rattle.std.proofs.Common.{◌≡◌, ℕ, ◌+◌, Bool, true, false, cond, List, [], ◌∷◌, ◌++◌, Option, None, Some, Result, Ok, Err, refl, sym, ap, ap₂, ◌∙◌, append_assoc}
+use Rattle.std.proofs.Common.{◌≡◌, ℕ, ◌+◌, Bool, true, false, cond, List, [], ◌∷◌, ◌++◌, Option, None, Some, Result, Ok, Err, refl, ap, ap₂, ◌∙◌, append_assoc}
 use Rattle.std.specs.List.{flat_map}
 use Rattle.std.proofs.lemmas.Grind.{flat_map-append}
 use Rattle.std.proofs.lemmas.List.{append-nil}
@@ -9,7 +9,7 @@ use Rattle.vx_events.specs.declared.event.Event.{Event}
 use Rattle.vx_io.specs.Outside.{Files}
 use Rattle.vx_layout.specs.declared.plan.CardPlan.{CardPlan}
 use Rattle.vx_pbm.specs.declared.fault.PbmFault.{PbmFault}
-use Rattle.vx_pbm.specs.Images.{Images, images_of}
+use Rattle.vx_pbm.specs.Images.{images_of}
 use Rattle.vx_records.specs.Records.{header_of}
 use Rattle.vx_sheet.specs.Lines.{lines_of}
 use Rattle.vx_command.specs.declared.halt.Halt.{Halt}

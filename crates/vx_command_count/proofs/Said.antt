@@ -1,13 +1,12 @@
 -- A marked sheet says each mark at its bubble's contest and option: a contest has its bubbles on one page, one for each of
 -- its options, in order.
-use Rattle.std.proofs.Common.{◌≡◌, ◌≢◌, ◌⊎◌, inl, inr, ℕ, zero, suc, ◌+◌, ◌-◌, ◌<◌, ◌≤◌, ◌==◌, Bool, true, false, cond, List, [], ◌∷◌, ◌++◌, length, map, get_or, Option, None, Some, Ok, refl, sym, ap, ap₂, subst, ◌∙◌, append-nil, append_assoc, arith}
+use Rattle.std.proofs.Common.{◌≡◌, ◌≢◌, ◌⊎◌, inl, inr, ℕ, zero, suc, ◌+◌, ◌-◌, ◌<◌, ◌≤◌, ◌==◌, Bool, true, false, cond, List, [], ◌∷◌, ◌++◌, map, Option, None, Some, Ok, refl, sym, ap, ap₂, subst, ◌∙◌, append-nil, append_assoc, arith}
 use Rattle.std.specs.Prelude.{◌||◌, All, find, slice_get}
 use Rattle.std.specs.List.{flat_map, range_with_len}
 use Rattle.std.proofs.lemmas.List.Elements.{All-head, All-tail}
 use Rattle.std.proofs.lemmas.Option.{get_or_from_slice_get, same_Some, slice_get_within}
 use Rattle.vx_base.proofs.Booleans.{or-left, or-right}
 use Rattle.vx_base.proofs.Numbers.{equal-from_yes, equal-no, equal-yes}
-use Rattle.vx_grid.specs.declared.state.State.{State}
 use Rattle.vx_plane.specs.Plane.{Page}
 use Rattle.vx_election_model.specs.declared.contest.Contest.{Contest}
 use Rattle.vx_election_model.specs.declared.election.Election.{Election}
@@ -28,7 +27,7 @@ use Rattle.vx_scan_model.specs.Fits.{FitsUpright, state_of_mark}
 use Rattle.vx_sheet.specs.Sheet.{contest_limit, has_bubble}
 use Rattle.vx_styles.specs.Cards.{contests_from, contests_of_card, has_contest, style_of_card}
 use Rattle.vx_center.specs.Sheets.{marks_on}
-use Rattle.vx_command_count.specs.Margin.{FitsPages, FitsSheet, MarkedSheet, MarkedSheetsSayEachMark, SaysEachMark, back_of, contest_if_on, contest_marked, front_of, marks_of, sheet_marked, state_in}
+use Rattle.vx_command_count.specs.Margin.{FitsPages, MarkedSheet, MarkedSheetsSayEachMark, SaysEachMark, back_of, contest_marked, front_of, marks_of, sheet_marked, state_in}
 
 -- the options of a contest among some options
 abbrev picks : ℕ → List (ℕ × ℕ) → List ℕ
@@ -325,20 +324,21 @@ module _ (numbered-law : PlansAreNumbered) (shows-law : PlansShowEachOption) (gr
       let grid : StandsOnGrid election card = grid-law election sheet.card card valid one.card_is in
       let same : two.card ≡ card = same-plan election sheet.card two.card card two.card_is one.card_is in
       let behind-it : slice_get card.pages (sheet.front + 1 - 1) ≡ Some sheet.back_plan = ap (λ (some : CardPlan). slice_get some.pages (sheet.front + 1 - 1)) (sym same) ∙ two.page_is in
-      let apart : sheet.front - 1 ≢ sheet.front + 1 - 1 = λ e. absurd (omega (arith, e, one.from_one)) in
-      (λ n bubble mark there marked.
-      says sheet bubble.contest bubble.option mark
-      (contest-below election sheet.card card numbered shown.0 shown.1 grid (sheet.front - 1) sheet.front_plan one.page_is n bubble there valid)
-      (or-left (has_bubble bubble.contest sheet.front_plan.bubbles) (has_bubble bubble.contest sheet.back_plan.bubbles) (bubble-there sheet.front_plan.bubbles n bubble there))
-      (in-front (marks_of bubble.contest sheet.front_plan.bubbles sheet.front_marks) (marks_of bubble.contest sheet.back_plan.bubbles sheet.back_marks) bubble.option mark
-      (mark-placed election sheet.card card numbered shown.0 shown.1 grid (sheet.front - 1) sheet.front_plan one.page_is n bubble there sheet.front_marks mark marked)),
-      λ n bubble mark there marked.
-      says sheet bubble.contest bubble.option mark
-      (contest-below election sheet.card card numbered shown.0 shown.1 grid (sheet.front + 1 - 1) sheet.back_plan behind-it n bubble there valid)
-      (or-right (has_bubble bubble.contest sheet.front_plan.bubbles) (has_bubble bubble.contest sheet.back_plan.bubbles) (bubble-there sheet.back_plan.bubbles n bubble there))
-      (ap (λ (marks : List Bool). slice_get (marks ++ marks_of bubble.contest sheet.back_plan.bubbles sheet.back_marks) bubble.option)
-      (no-marks-on election sheet.card card numbered shown.0 shown.1 grid (sheet.front + 1 - 1) sheet.back_plan behind-it n bubble there (sheet.front - 1) sheet.front_plan sheet.front_marks one.page_is apart)
-      ∙ mark-placed election sheet.card card numbered shown.0 shown.1 grid (sheet.front + 1 - 1) sheet.back_plan behind-it n bubble there sheet.back_marks mark marked))
+      let apart : sheet.front - 1 ≢ sheet.front + 1 - 1 = λ e. absurd (omega (arith, e, one.from_one)) in (
+        λ n bubble mark there marked.
+            says sheet bubble.contest bubble.option mark
+            (contest-below election sheet.card card numbered shown.0 shown.1 grid (sheet.front - 1) sheet.front_plan one.page_is n bubble there valid)
+            (or-left (has_bubble bubble.contest sheet.front_plan.bubbles) (has_bubble bubble.contest sheet.back_plan.bubbles) (bubble-there sheet.front_plan.bubbles n bubble there))
+            (in-front (marks_of bubble.contest sheet.front_plan.bubbles sheet.front_marks) (marks_of bubble.contest sheet.back_plan.bubbles sheet.back_marks) bubble.option mark
+            (mark-placed election sheet.card card numbered shown.0 shown.1 grid (sheet.front - 1) sheet.front_plan one.page_is n bubble there sheet.front_marks mark marked)),
+        λ n bubble mark there marked.
+            says sheet bubble.contest bubble.option mark
+            (contest-below election sheet.card card numbered shown.0 shown.1 grid (sheet.front + 1 - 1) sheet.back_plan behind-it n bubble there valid)
+            (or-right (has_bubble bubble.contest sheet.front_plan.bubbles) (has_bubble bubble.contest sheet.back_plan.bubbles) (bubble-there sheet.back_plan.bubbles n bubble there))
+            (ap (λ (marks : List Bool). slice_get (marks ++ marks_of bubble.contest sheet.back_plan.bubbles sheet.back_marks) bubble.option)
+            (no-marks-on election sheet.card card numbered shown.0 shown.1 grid (sheet.front + 1 - 1) sheet.back_plan behind-it n bubble there (sheet.front - 1) sheet.front_plan sheet.front_marks one.page_is apart)
+            ∙ mark-placed election sheet.card card numbered shown.0 shown.1 grid (sheet.front + 1 - 1) sheet.back_plan behind-it n bubble there sheet.back_marks mark marked),
+      )
 
   pub marks-said : MarkedSheetsSayEachMark
   marks-said election first second sheet valid fits = by fits.either

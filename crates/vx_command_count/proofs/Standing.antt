@@ -5,11 +5,10 @@ use Rattle.std.specs.List.{flat_map, position_from}
 use Rattle.std.proofs.lemmas.Bool.{cond-true, cond-false}
 use Rattle.std.proofs.lemmas.List.Elements.{All-nil, All-cons, All-append}
 use Rattle.std.proofs.lemmas.Option.{slice_get_within, get_or_from_slice_get}
-use Rattle.vx_base.proofs.Booleans.{chosen-none}
 use Rattle.vx_base.proofs.Numbers.{below-no, below-yes, equal-no}
 use Rattle.vx_base.proofs.Results.{bind_ok}
 use Rattle.vx_plane.specs.Plane.{Page}
-use Rattle.vx_center.specs.Replies.{add_reply, event_limit, is_done, reply_of}
+use Rattle.vx_center.specs.Replies.{add_reply, event_limit, is_done}
 use Rattle.vx_center.specs.Sheets.{added_from, has_key, place_in, same_key}
 use Rattle.vx_election.specs.declared.fault.ElectionFault.{ElectionFault}
 use Rattle.vx_election.specs.Laws.{DefinedElectionsAreValid}
@@ -20,28 +19,25 @@ use Rattle.vx_events.specs.declared.event.Event.{Event}
 use Rattle.vx_events.specs.declared.event.Event.TheVariants.{Add, Claim, Release, Decide}
 use Rattle.vx_events.specs.declared.key.Key.{Key}
 use Rattle.vx_io.specs.Outside.{Files}
-use Rattle.vx_layout.specs.declared.plan.CardPlan.{CardPlan}
 use Rattle.vx_pbm.specs.declared.fault.PbmFault.{PbmFault}
 use Rattle.vx_pbm.specs.Images.{ImagesAreWhole, IsWholePage, images_of}
 use Rattle.vx_records.specs.Records.{record_of}
 use Rattle.vx_refusals.specs.declared.reply.Reply.{Reply}
 use Rattle.vx_refusals.specs.declared.reply.Reply.TheVariants.{Done}
 use Rattle.vx_rules.specs.declared.marks.SheetMarks.{SheetMarks}
-use Rattle.vx_scan_model.specs.Fits.{FittingScansAreRead}
 use Rattle.vx_scan_model.specs.Reading.{reading_of}
 use Rattle.vx_sheet.specs.declared.came.Came.{Came}
 use Rattle.vx_sheet.specs.declared.came.Came.TheVariants.{Added, Beyond, Full, Repeated, Single, Unpaired, Unread}
 use Rattle.vx_sheet.specs.Came.{sheet_read}
 use Rattle.vx_sheet.specs.Lines.{lines_of}
 use Rattle.vx_command.specs.declared.halt.Halt.{Halt}
-use Rattle.vx_command.specs.Acts.{Act, Answer, Append, Write, input_limit, input_of, records_of}
-use Rattle.vx_command.specs.Done.{Held, IsDone, Taken}
-use Rattle.vx_command.specs.Elections.{election_in, election_read, plans_in}
+use Rattle.vx_command.specs.Acts.{Act, Append, Write, input_limit, input_of, records_of}
+use Rattle.vx_command.specs.Elections.{election_in, election_read}
 use Rattle.vx_journal.specs.declared.journal.Journal.{Journal}
-use Rattle.vx_journal.specs.Keeping.{keep_acts, reply_in}
+use Rattle.vx_journal.specs.Keeping.{reply_in}
 use Rattle.vx_command_count.specs.declared.counting.Counting.{Counting}
 use Rattle.vx_command_count.specs.declared.tally.Tally.{Tally}
-use Rattle.vx_command_count.specs.Margin.{BeginsWith, FitsSheet, FittingSheetsAreAdded, FittingSheetsAreKept, FittingSheetsAreRead, IsOfEarlier, KeepsFront, KeepsSheet, MarkedSheet, header_if_none, images_and, images_in, key_at, sheet_marked, unless_faulty_before}
+use Rattle.vx_command_count.specs.Margin.{BeginsWith, FittingSheetsAreAdded, FittingSheetsAreKept, FittingSheetsAreRead, IsOfEarlier, KeepsFront, header_if_none, images_and, images_in, key_at, sheet_marked, unless_faulty_before}
 use Rattle.vx_command_count.specs.Outcome.{count_outcome, read_next}
 use Rattle.vx_command_count.specs.Sheets.{added_by, came_by, came_if, came_of, counted_with, event_of, journal_if, keep_if, sheet_acts}
 use Rattle.vx_command_count.specs.Tally.{next_image, next_number, tally_with}
@@ -202,10 +198,11 @@ module _ (election : Election) (batch : List ℕ) (first second : Page) (sheet :
         few = omega arith;
         earlier = All-nil (IsLower batch number);
         stands = λ room.
-            let added : IsAddedTo counting.journal batch number sheet = added-to counting.journal batch number sheet most new (omega (arith, room)) in
-            (more,
-            ap₂ (λ (n : ℕ) (some : Result SheetMarks Came). flat_map records_of (keep_if counting.journal (event_of batch n some)) ++ more) is (read (next_image counting.tally))
-            ∙ ap (λ (acts : List Act). flat_map records_of acts ++ more) added.acts);
+            let added : IsAddedTo counting.journal batch number sheet = added-to counting.journal batch number sheet most new (omega (arith, room)) in (
+              more,
+              ap₂ (λ (n : ℕ) (some : Result SheetMarks Came). flat_map records_of (keep_if counting.journal (event_of batch n some)) ++ more) is (read (next_image counting.tally))
+                  ∙ ap (λ (acts : List Act). flat_map records_of acts ++ more) added.acts,
+            );
       }
 
   -- the sheet in a place

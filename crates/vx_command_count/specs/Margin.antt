@@ -1,6 +1,6 @@
 -- What `count` keeps of scans that fit printed pages: where the two images of a sheet fit the front and the back of a
 -- card, its record stands among those that are appended, with the marks of both pages.
-use Rattle.std.specs.Prelude.{All, ◌≡◌, ◌⊎◌, ◌<◌, ◌≤◌, ℕ, ◌+◌, ◌*◌, ◌%◌, ◌==◌, ◌||◌, if◌then◌else◌, List, [], ◌∷◌, ◌++◌, length, map, slice_get, Bool, true, false, Option, Some, None, Result, Ok, Err}
+use Rattle.std.specs.Prelude.{All, ◌≡◌, ◌⊎◌, ◌<◌, ◌≤◌, ℕ, ◌+◌, ◌*◌, ◌%◌, ◌==◌, ◌||◌, if◌then◌else◌, List, [], ◌∷◌, ◌++◌, length, map, slice_get, Bool, false, Option, Some, None, Result, Ok, Err}
 use Rattle.std.specs.List.{flat_map, range_with_len}
 use Rattle.vx_plane.specs.Plane.{Page}
 use Rattle.vx_count.specs.Turned.{IsWhole}
@@ -30,7 +30,7 @@ use Rattle.vx_sheet.specs.Came.{sheet_read}
 use Rattle.vx_sheet.specs.Lines.{lines_of}
 use Rattle.vx_sheet.specs.Sheet.{contest_limit, has_bubble}
 use Rattle.vx_command.specs.declared.halt.Halt.{Halt}
-use Rattle.vx_command.specs.Acts.{Act, Append, Write, Answer, input_limit, input_of}
+use Rattle.vx_command.specs.Acts.{Append, Write, Answer, input_limit, input_of}
 use Rattle.vx_command.specs.Done.{Taken, Held, Keeps, IsDone}
 use Rattle.vx_command.specs.Elections.{election_in, plans_in}
 use Rattle.vx_command.specs.Texts.{broke_off}

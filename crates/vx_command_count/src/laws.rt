@@ -3,7 +3,10 @@
 
 ghost use Rattle.vx_command_count.specs.Laws.{CountKeepsJournals};
 ghost use Rattle.vx_command_count.specs.Margin.{
-    FittingSheetsAreAdded, FittingSheetsAreKept, FittingSheetsAreRead, MarkedSheetsSayEachMark,
+  FittingSheetsAreAdded,
+  FittingSheetsAreKept,
+  FittingSheetsAreRead,
+  MarkedSheetsSayEachMark,
 };
 
 use vx_election::defined_elections_are_valid;
