@@ -101,3 +101,18 @@ fn a_turned_page_has_its_bubbles_in_the_page_s_order(rt: HostRuntime) -> Result<
     assert_eq!(rt; again.status.as_str(), "ok");
     Ok(())
 }
+
+#[test]
+fn what_read_wrote_is_certified(rt: HostRuntime) -> Result<(), Fail> {
+    let mut scans = both_pages(&rt)?;
+    // A light image of 8 by 1 pixels is no page.
+    scans.extend_from_slice(b"P4\n8 1\n\0")?;
+    let told = answer_of(&rt, &["read", "e", "s"], scans.as_slice(), &[])?;
+    let answer = checked(&rt, scans.as_slice(), told.text.as_slice())?;
+    assert_eq!(rt; answer.status.as_str(), "ok");
+    assert_eq!(rt;
+        answer.text.as_slice(),
+        b"page 1 certified\npage 2 certified\npage 3 no reading\n".as_slice()
+    );
+    Ok(())
+}
