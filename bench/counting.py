@@ -32,16 +32,17 @@ def output(command):
     return subprocess.run(command, check=True, stdout=subprocess.PIPE).stdout
 
 
-def instructions(command, room):
-    """How many instructions a command takes, its output thrown away."""
+def instructions(command, room, status=0):
+    """How many instructions a command takes that ends with a status, its output thrown away."""
     counts = os.path.join(room, "counts")
-    subprocess.run(
+    ran = subprocess.run(
         ["valgrind", "--tool=callgrind", "--callgrind-out-file=" + counts] + command,
-        check=True,
         stdout=subprocess.DEVNULL,
         stderr=subprocess.DEVNULL,
         env=dict(os.environ, GLIBC_TUNABLES=WITHOUT_REPEATS),
     )
+    if ran.returncode != status:
+        raise SystemExit("%s ends with %d" % (" ".join(command), ran.returncode))
     with open(counts) as lines:
         for line in lines:
             if line.startswith("totals:"):
