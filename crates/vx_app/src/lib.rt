@@ -13,4 +13,4 @@ mod arguments;
 mod top;
 
 pub use arguments::{arguments_status, command_words};
-pub use top::run;
+pub use top::{run, run_count};

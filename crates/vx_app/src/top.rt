@@ -1,13 +1,15 @@
-ghost use Rattle.std.specs.Prelude.{◌≡◌, ◌↔◌, true, false, List, ℕ, Some};
+ghost use Rattle.std.specs.Prelude.{◌≡◌, ◌≢◌, ◌↔◌, true, false, List, ℕ, Some};
 ghost use Rattle.vx_io.specs.Outside.{Files};
 ghost use Rattle.vx_command.specs.Devices.{LeavesInputs, LeavesKeeper, LeavesSink, writes_nothing};
 ghost use Rattle.vx_command.specs.Done.{IsDone};
 ghost use Rattle.vx_command.specs.Status.{answer_of};
 ghost use Rattle.vx_command_check.specs.Margin.{CheckSaysWhatFits};
+ghost use Rattle.vx_command_count.specs.Outcome.{count_outcome};
 ghost use Rattle.vx_command_read.specs.Margin.{ReadTellsWhatFits};
 ghost use Rattle.vx_words.specs.declared.command.Command.{Command as CommandOf};
 ghost use Rattle.vx_words.specs.Words.{IsSound, NoCommand, Spells};
 ghost use Rattle.vx_app.specs.Outcome.{appends, outcome_of, takes_first, uses_keeper};
+ghost use Rattle.vx_app.specs.Counting.{IsCount};
 
 use std::alloc::Global;
 use std::thread::Threads;
@@ -21,16 +23,17 @@ use vx_command_queue::queue;
 use vx_command_read::{fitting_scans_are_told, read};
 use vx_io::{Inputs, Keeper, Sink, Words};
 use vx_words::{Command, UsageFault, parse, words_spell_one_command};
-use vx_workers::OpenGate;
+use vx_workers::{Gate, OpenGate};
 
-/// Does a command.
-fn obey<R: Threads + Sync, I: Inputs, S: Sink, K: Keeper>(
+/// Does a command; the workers of `count` go through the gate.
+fn obey<R: Threads + Sync, I: Inputs, S: Sink, K: Keeper, G: Gate>(
     rt: &R,
     alloc: Global,
     command: Command,
     inputs: &mut I,
     out: &mut S,
     keeper: &mut K,
+    gate: &G,
 ) -> Result<(), Halt>
     requires { (device : List ℕ) × IsSound device command }
     ensures done { (files : Files) → I.held inputs.old ≡ Some files →
@@ -86,7 +89,7 @@ fn obey<R: Threads + Sync, I: Inputs, S: Sink, K: Keeper>(
             inputs,
             out,
             keeper,
-            &OpenGate,
+            gate,
         ),
         Command::Decide { election, script } => decide(
             alloc,
@@ -113,14 +116,15 @@ fn obey<R: Threads + Sync, I: Inputs, S: Sink, K: Keeper>(
     }
 }
 
-/// Does the command that the words spell.
-fn run_words<R: Threads + Sync, I: Inputs, S: Sink, K: Keeper>(
+/// Does the command that the words spell; the workers of `count` go through the gate.
+fn run_words<R: Threads + Sync, I: Inputs, S: Sink, K: Keeper, G: Gate>(
     rt: &R,
     alloc: Global,
     words: &Words,
     inputs: &mut I,
     out: &mut S,
     keeper: &mut K,
+    gate: &G,
 ) -> Status
     ensures usage { (result ≡ Status.Usage) ↔ NoCommand words.now }
     ensures done { (files : Files) → I.held inputs.old ≡ Some files →
@@ -146,7 +150,7 @@ fn run_words<R: Threads + Sync, I: Inputs, S: Sink, K: Keeper>(
     match parse(alloc, words) {
         Err(UsageFault::OutOfMemory) => Status::NoMemory,
         Err(UsageFault::Usage) => Status::Usage,
-        Ok(command) => status_of(obey(rt, alloc, command, inputs, out, keeper)),
+        Ok(command) => status_of(obey(rt, alloc, command, inputs, out, keeper, gate)),
     }
 }
 
@@ -200,5 +204,36 @@ pub fn run<R: Threads + Sync, I: Inputs, S: Sink, K: Keeper>(
 {
     fitting_scans_are_told();
     certified_pages_say_what_fits();
-    run_words(rt, alloc, words, inputs, out, keeper)
+    run_words(rt, alloc, words, inputs, out, keeper, &OpenGate)
+}
+
+/// Does the command `count`, whole, as `run` does, but has its workers go through a gate: before each
+/// image a worker asks it. Nothing that this call answers, writes or keeps depends on the gate or on
+/// the number of workers; a test can see by a gate which worker comes when.
+pub fn run_count<R: Threads + Sync, I: Inputs, S: Sink, K: Keeper, G: Gate>(
+    rt: &R,
+    alloc: Global,
+    words: &Words,
+    inputs: &mut I,
+    out: &mut S,
+    keeper: &mut K,
+    gate: &G,
+) -> Status
+    requires { IsCount words.now }
+    ensures no_usage { result ≢ Status.Usage }
+    ensures done { (files : Files) → I.held inputs.old ≡ Some files →
+        (records : List (List ℕ)) → K.held keeper.old ≡ Some records →
+        (election batch : List ℕ) (workers : ℕ) (scans : List (List ℕ)) →
+        Spells words.now (Command.Count election batch workers scans) →
+        IsDone (count_outcome election batch scans files records)
+        (S.taken out.old) (S.taken out.new) (K.held keeper.old) (K.held keeper.new) (answer_of result) }
+    // What halts the command before its first text comes before anything is written.
+    ensures nothing_written { writes_nothing false (answer_of result) ≡ true →
+        S.taken out.new ≡ S.taken out.old }
+    ensures inputs { LeavesInputs (I.held inputs.old) (I.held inputs.new)
+        (I.faults inputs.old) (I.faults inputs.new) (answer_of result) }
+    ensures sink { LeavesSink (S.faults out.old) (S.faults out.new) (answer_of result) }
+    ensures keeper { LeavesKeeper (K.faults keeper.old) (K.faults keeper.new) (answer_of result) }
+{
+    run_words(rt, alloc, words, inputs, out, keeper, gate)
 }
