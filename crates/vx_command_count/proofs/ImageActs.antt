@@ -15,7 +15,7 @@ use Rattle.vx_command.specs.Laws.{ActLaws}
 use Rattle.vx_command_count.specs.declared.counting.Counting.{Counting}
 use Rattle.vx_command_count.specs.Tally.{next_image}
 use Rattle.vx_command_count.specs.Sheets.{sheet_acts, counted_with}
-use Rattle.vx_command_count.specs.Outcome.{read_next, with_images}
+use Rattle.vx_command_count.specs.Outcome.{with_images}
 use Rattle.vx_command_count.specs.Reads.{IsReadOf}
 
 abbrev pub Read : Type 0

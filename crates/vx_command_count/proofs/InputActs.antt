@@ -6,7 +6,7 @@ use Rattle.vx_io.specs.Outside.{Files}
 use Rattle.vx_pbm.specs.Images.{images_of}
 use Rattle.vx_command.specs.declared.halt.Halt.{Halt}
 use Rattle.vx_command.specs.Acts.{Outcome, input_of, input_limit}
-use Rattle.vx_command.specs.Done.{Taken, Held, IsDone}
+use Rattle.vx_command.specs.Done.{Taken, Held}
 use Rattle.vx_command.specs.Laws.{StepLaws}
 use Rattle.vx_command.specs.Steps.{GivesTaking}
 use Rattle.vx_command_count.specs.declared.counting.Counting.{Counting}

@@ -1,9 +1,8 @@
 -- A journal stays one while sheets are counted into it.
-use Rattle.std.proofs.Common.{◌≡◌, ℕ, ◌+◌, ◌<◌, ◌≤◌, Bool, true, false, cond, List, [], ◌∷◌, ◌++◌, map, length, Option, Some, None, Result, Ok, Err, refl, sym, ap, subst, ◌∙◌, append_assoc, arith}
+use Rattle.std.proofs.Common.{◌≡◌, ℕ, ◌+◌, ◌<◌, ◌≤◌, Bool, true, false, cond, List, [], ◌∷◌, ◌++◌, Option, Some, None, Result, Ok, Err, refl, sym, ap, subst, ◌∙◌, append_assoc, arith}
 use Rattle.std.specs.Prelude.{◌&&◌, IfOk, IsOk, nat_le, nat_lt}
 use Rattle.std.specs.List.{flat_map}
 use Rattle.std.proofs.lemmas.List.{append-nil, length-map}
-use Rattle.vx_base.specs.Results.{◌>>=◌}
 use Rattle.vx_base.proofs.Booleans.{and-both, chosen-if}
 use Rattle.vx_base.proofs.Numbers.{at_most-yes, below-from_no}
 use Rattle.vx_base.proofs.Results.{bind_ok}
@@ -35,14 +34,14 @@ use Rattle.vx_scan_model.specs.declared.fault.PageFault.TheVariants.{FrameSize}
 use Rattle.vx_scan_model.specs.declared.reading.PageReading.{PageReading}
 use Rattle.vx_scan_model.specs.Border.{border_of}
 use Rattle.vx_scan_model.specs.Named.{named_plan}
-use Rattle.vx_scan_model.specs.Reading.{code_read, either_way, is_allowed, reading_of, reading_of_border, reading_of_code, reading_on, scores_of, states_of, bubble_score, upright_reading_of}
+use Rattle.vx_scan_model.specs.Reading.{code_read, either_way, is_allowed, reading_of, reading_of_border, reading_of_code, reading_on, scores_of, bubble_score, upright_reading_of}
 use Rattle.vx_score.specs.Score.{state_of}
 use Rattle.vx_sheet.specs.declared.came.Came.{Came}
 use Rattle.vx_sheet.specs.Came.{sheet_read}
 use Rattle.vx_sheet.specs.Lines.{lines_of}
 use Rattle.vx_sheet.specs.Shows.{CanBeAdded, IsOfPage, PairedCanBeAdded, PlansShowOptions}
 use Rattle.vx_command.specs.declared.halt.Halt.{Halt}
-use Rattle.vx_command.specs.Acts.{Act, Append, Write, Outcome, after, goes_on, input_limit, input_of, records_of}
+use Rattle.vx_command.specs.Acts.{Act, Append, Write, Outcome, goes_on, input_limit, input_of, records_of}
 use Rattle.vx_command.specs.Elections.{election_in, election_read, plans_in}
 use Rattle.vx_journal.specs.declared.journal.Journal.{Journal}
 use Rattle.vx_journal.specs.Keeping.{begin_acts, has_none, journal_in, journal_read}
@@ -55,9 +54,9 @@ use Rattle.vx_layout.specs.declared.plan.CardPlan.{CardPlan}
 use Rattle.vx_command_count.specs.declared.counting.Counting.{Counting}
 use Rattle.vx_command_count.specs.declared.tally.Tally.{Tally}
 use Rattle.vx_command_count.specs.Tally.{next_image, next_number, none_counted}
-use Rattle.vx_command_count.specs.Sheets.{added_by, came_of, counted_with, event_of, keep_if, journal_if, sheet_acts}
+use Rattle.vx_command_count.specs.Sheets.{added_by, came_of, counted_with, event_of, keep_if, journal_if}
 use Rattle.vx_command_count.specs.Laws.{CountKeepsJournals}
-use Rattle.vx_command_count.specs.Outcome.{count_outcome, end_outcome, journal_outcome, last_acts, read_next, scan_outcome, scans_outcome, unless_faulty, with_images}
+use Rattle.vx_command_count.specs.Outcome.{end_outcome, journal_outcome, read_next, scan_outcome, scans_outcome, unless_faulty, with_images}
 
 -- what a page is read as is of a planned page
 of-code : (election : Election) (page : Page) (border : MarkPlaces) (read : Result PageCode CodeFault) (reading : PageReading) → reading_of_code election page border read ≡ Ok reading → IsOfPage election reading

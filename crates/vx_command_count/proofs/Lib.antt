@@ -8,3 +8,8 @@ pub mod ScanActs
 pub mod InputActs
 pub mod Sets
 pub mod Journals
+pub mod Fitting
+pub mod Held
+pub mod Recorded
+pub mod Standing
+pub mod Said

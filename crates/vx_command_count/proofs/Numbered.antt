@@ -1,16 +1,15 @@
 -- The event of a sheet by its number, and what its lines may be written of.
-use Rattle.std.proofs.Common.{◌≡◌, ℕ, ◌<◌, ◌≤◌, Bool, true, false, cond, List, ap, ◌∙◌, arith, subst, sym}
-use Rattle.std.specs.Prelude.{◌&&◌, ◌%◌, ◌==◌, nat_lt, Option, None, Some, Result, Ok, Err}
+use Rattle.std.proofs.Common.{◌≡◌, ℕ, ◌<◌, ◌≤◌, Bool, true, false, cond, List, ap}
+use Rattle.std.specs.Prelude.{◌&&◌, ◌%◌, ◌==◌, nat_lt, None, Some}
 use Rattle.std.specs.List.{list_all}
 use Rattle.vx_base.proofs.Booleans.{and-right}
 use Rattle.vx_base.proofs.Numbers.{below-no, below-yes}
 use Rattle.vx_election_model.specs.declared.election.Election.{Election}
 use Rattle.vx_election_model.specs.Lists.{card_count}
-use Rattle.vx_events.specs.declared.event.Event.{Event}
 use Rattle.vx_events.specs.declared.event.Event.TheVariants.{Add}
 use Rattle.vx_events.specs.declared.key.Key.{Key}
 use Rattle.vx_events.specs.Ascending.{is_ascending}
-use Rattle.vx_events.specs.Fits.{contests_of, is_read, is_sheet}
+use Rattle.vx_events.specs.Fits.{contests_of, is_read}
 use Rattle.vx_refusals.specs.declared.reply.Reply.{Reply}
 use Rattle.vx_refusals.specs.declared.reply.Reply.TheVariants.{Done, Full}
 use Rattle.vx_rules.specs.declared.marks.SheetMarks.{SheetMarks}

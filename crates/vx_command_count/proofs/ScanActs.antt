@@ -1,12 +1,12 @@
 -- A scan that is counted piece after piece.
-use Rattle.std.proofs.Common.{◌≡◌, ℕ, List, [], ◌∷◌, ◌++◌, take, Option, None, Some, Result, Ok, Err, refl, sym, ap, subst}
+use Rattle.std.proofs.Common.{◌≡◌, ℕ, List, [], ◌++◌, Option, None, Some, Err, sym, subst}
 use Rattle.std.specs.Prelude.{All}
-use Rattle.std.proofs.lemmas.List.Elements.{All-append, All-take}
+use Rattle.std.proofs.lemmas.List.Elements.{All-append}
 use Rattle.vx_plane.specs.Plane.{Page}
 use Rattle.vx_election_model.specs.declared.election.Election.{Election}
 use Rattle.vx_pbm.specs.declared.fault.PbmFault.{PbmFault}
 use Rattle.vx_pbm.specs.declared.fault.PbmFault.TheVariants.{OutOfMemory}
-use Rattle.vx_pbm.specs.Images.{Unread, whole, Images, images_left, images_of, IsWholePage, ImagesAreWhole}
+use Rattle.vx_pbm.specs.Images.{Unread, whole, images_left, images_of, IsWholePage, ImagesAreWhole}
 use Rattle.vx_command.specs.declared.halt.Halt.{Halt}
 use Rattle.vx_command.specs.declared.halt.Halt.TheVariants.{Pbm, NoMemory}
 use Rattle.vx_command.specs.Acts.{Answer, Outcome, halted}
@@ -14,11 +14,9 @@ use Rattle.vx_command.specs.Done.{Taken, Held, IsDone, ComesTo}
 use Rattle.vx_command.specs.Halts.{bitmap_halt}
 use Rattle.vx_command.specs.Laws.{ActLaws}
 use Rattle.vx_command_count.specs.declared.counting.Counting.{Counting}
-use Rattle.vx_command_count.specs.declared.gathering.Ended.{Ended}
 use Rattle.vx_command_count.specs.declared.gathering.Ended.TheVariants.{NotYet, AtEnd, AtFault}
-use Rattle.vx_command_count.specs.Gathering.{LeavesPiece, left_by, waits}
+use Rattle.vx_command_count.specs.Gathering.{LeavesPiece, waits}
 use Rattle.vx_command_count.specs.Outcome.{scan_outcome, unless_faulty, with_images}
-use Rattle.vx_command_count.specs.Steps.{CountsScan}
 
 -- what comes behind the images of a scan
 abbrev pub then_next : ℕ → Option PbmFault → (Counting → List Page → Outcome) → Counting → List Page → Outcome

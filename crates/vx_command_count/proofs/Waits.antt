@@ -1,11 +1,11 @@
 -- The image that waits is the first of its bitmap.
-use Rattle.std.proofs.Common.{◌≡◌, ℕ, Bool, true, false, List, [], ◌∷◌, take, refl, ap, ◌∙◌, sym, subst}
+use Rattle.std.proofs.Common.{◌≡◌, ℕ, Bool, true, false, List, [], ◌∷◌, take, refl, ap, subst}
 use Rattle.std.proofs.lemmas.List.Elements.{All-take}
 use Rattle.std.specs.Prelude.{All, MatchBool, Option, None, Some, Ok, Err}
 use Rattle.vx_plane.specs.Plane.{Page}
 use Rattle.vx_pbm.specs.declared.fault.PbmFault.{PbmFault}
 use Rattle.vx_pbm.specs.Faults.{is_no_memory}
-use Rattle.vx_pbm.specs.Images.{Unread, whole, next_of, Images, ended, with_page, images_left, images_of, Walks, IsWholePage, ReadsBack, ImagesAreWhole}
+use Rattle.vx_pbm.specs.Images.{Unread, whole, next_of, Images, ended, images_left, images_of, Walks, IsWholePage, ReadsBack, ImagesAreWhole}
 use Rattle.vx_pbm.specs.Raw.{p4_of}
 use Rattle.vx_command_count.specs.Gathering.{waits}
 

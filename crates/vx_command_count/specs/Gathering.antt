@@ -1,5 +1,5 @@
 -- Images that are gathered from a scan.
-use Rattle.std.specs.Prelude.{◌≡◌, ◌<◌, ◌≤◌, ℕ, ◌+◌, ◌*◌, ◌++◌, ◌∷◌, [], List, All, length, Option, Some, None}
+use Rattle.std.specs.Prelude.{◌≡◌, ◌<◌, ℕ, ◌++◌, ◌∷◌, [], List, All, length, Option, Some, None}
 use Rattle.vx_plane.specs.Plane.{Page}
 use Rattle.vx_pbm.specs.Images.{Unread, Images, images_left, ended, IsWholePage}
 use Rattle.vx_command_count.specs.declared.gathering.Ended.{Ended}

@@ -7,3 +7,4 @@ pub mod Gathering
 pub mod Steps
 pub mod Devices
 pub mod Laws
+pub mod Margin

@@ -1,4 +1,4 @@
-use Rattle.std.proofs.Common.{Err, Result, ap, subst, ◌∙◌}
+use Rattle.std.proofs.Common.{Err, ap, subst, ◌∙◌}
 use Rattle.std.proofs.lemmas.Result.{err_from_is_err_and}
 use Rattle.vx_command.specs.Acts.{writing}
 use Rattle.vx_command.specs.Done.{IsWritten}

@@ -1,13 +1,11 @@
-use Rattle.std.proofs.Common.{◌≡◌, ◌++◌, ◌<◌, List, length, [], Ok, Err, refl, ap, sym, subst, ◌∙◌, arith}
-use Rattle.std.specs.Prelude.{All}
+use Rattle.std.proofs.Common.{◌++◌, List, length, Err, refl, ap, subst, ◌∙◌, arith}
 use Rattle.std.proofs.lemmas.Result.{err_from_is_err_and}
 use Rattle.vx_plane.specs.Plane.{Page}
-use Rattle.vx_pbm.specs.Images.{Unread, images_left, images_of, IsWholePage}
+use Rattle.vx_pbm.specs.Images.{Unread, images_left}
 use Rattle.vx_command.specs.Acts.{Outcome}
 use Rattle.vx_command.specs.Done.{ComesTo}
 use Rattle.vx_command_count.specs.declared.counting.Counting.{Counting}
 use Rattle.vx_command_count.specs.declared.gathering.Ended.{Ended}
-use Rattle.vx_command_count.specs.declared.gathering.Ended.TheVariants.{NotYet, AtEnd, AtFault}
 use Rattle.vx_command_count.specs.Gathering.{IsFilled, LeavesPiece, left_by, waits}
 use Rattle.vx_command_count.specs.Outcome.{with_images}
 use Rattle.vx_command_count.proofs.ScanActs.{no-memory, none-yet, piece-ends, piece-faults, piece-halts, piece-more, last-whole}

@@ -1,8 +1,7 @@
-use Rattle.std.proofs.Common.{◌++◌, ◌∷◌, [], ℕ, Ok, Err, Result, ap, subst, ◌∙◌}
+use Rattle.std.proofs.Common.{◌++◌, ◌∷◌, [], ℕ, Ok, Err, ap, subst, ◌∙◌}
 use Rattle.std.proofs.lemmas.Result.{err_from_is_err_and}
 use Rattle.vx_sheet.specs.declared.came.Came.{Came}
 use Rattle.vx_sheet.specs.Lines.{lines_of}
-use Rattle.vx_command.specs.declared.halt.Halt.{Halt}
 use Rattle.vx_command.specs.Acts.{Write, work, writing}
 use Rattle.vx_command.specs.Devices.{is_write_fault}
 use Rattle.vx_command.specs.Done.{IsDone, IsWritten}

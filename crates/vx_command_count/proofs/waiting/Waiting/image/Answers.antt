@@ -1,5 +1,4 @@
-use Rattle.std.proofs.Common.{◌≡◌, List, Ok, Err, ap, ◌∙◌, sym, subst}
-use Rattle.vx_plane.specs.Plane.{Page}
+use Rattle.std.proofs.Common.{◌≡◌, Ok, Err, ap, ◌∙◌, sym, subst}
 use Rattle.vx_pbm.specs.Images.{Unread, whole, Walks}
 use Rattle.vx_command_count.specs.Gathering.{waits}
 use Rattle.vx_command_count.proofs.Waits.{fault-first, first_of, read-first, whole-first}
