@@ -5,6 +5,7 @@ ghost use Rattle.vx_command.specs.Done.{IsDone};
 ghost use Rattle.vx_command.specs.Elections.{election_in};
 ghost use Rattle.vx_command.specs.Status.{answer_of};
 ghost use Rattle.vx_command_check.specs.Margin.{CheckSaysWhatFits};
+ghost use Rattle.vx_command_count.specs.Margin.{CountKeepsWhatFits};
 ghost use Rattle.vx_command_count.specs.Outcome.{count_outcome};
 ghost use Rattle.vx_command_export.specs.Laws.{ExportWritesWhatWasKept};
 ghost use Rattle.vx_command_read.specs.Margin.{ReadTellsWhatFits};
@@ -21,7 +22,7 @@ use std::alloc::Global;
 use std::thread::Threads;
 use vx_command::{Halt, Status, acts_in_order, status_of};
 use vx_command_check::{certified_pages_say_what_fits, check};
-use vx_command_count::{count, count_keeps_journals};
+use vx_command_count::{count, count_keeps_journals, fitting_sheets_are_kept};
 use vx_command_decide::{decide, decide_keeps_journals};
 use vx_command_export::{export, exports_write_what_was_kept};
 use vx_command_print::{Ballot, print};
@@ -169,7 +170,8 @@ fn run_words<R: Threads + Sync, I: Inputs, S: Sink, K: Keeper, G: Gate>(
 /// which a device failed, with that device's fault as the status, or before which memory ran out. A
 /// device's count of faults rises where the status is its fault, and stands still otherwise. What `read`
 /// writes tells each image that fits a printed page with some marks as that page with those marks, and
-/// readings that `check` certifies of such an image say so. A journal of the command's election stays one,
+/// readings that `check` certifies of such an image say so; of two such images of the facing pages of a
+/// card `count` keeps the sheet with those marks. A journal of the command's election stays one,
 /// and loses no event that it kept. What `export` writes is the report of exactly the events that the
 /// journal keeps.
 pub fn run<R: Threads + Sync, I: Inputs, S: Sink, K: Keeper>(
@@ -210,6 +212,14 @@ pub fn run<R: Threads + Sync, I: Inputs, S: Sink, K: Keeper>(
         (election scans readings : List ℕ) → Spells words.now (Command.Check election scans readings) →
         CheckSaysWhatFits election scans readings files
         (S.taken out.old) (S.taken out.new) (answer_of result) }
+    // Of each two images of a count that fit the front and the back of a card with some marks, as they lie or
+    // turned, in either order, the record of that sheet with those marks is kept, where its key is new.
+    ensures margin_of_count { (files : Files) → I.held inputs.old ≡ Some files →
+        (election batch : List ℕ) (workers : ℕ) (scans : List (List ℕ)) →
+        Spells words.now (Command.Count election batch workers scans) →
+        (records : List (List ℕ)) → K.held keeper.old ≡ Some records →
+        CountKeepsWhatFits election batch scans files records
+        (K.held keeper.old) (K.held keeper.new) (answer_of result) }
     // Whatever the status, a journal of the command's election stays one, which keeps the events that it kept,
     // and perhaps more behind them.
     ensures journal_kept { (files : Files) → I.held inputs.old ≡ Some files →
@@ -228,6 +238,7 @@ pub fn run<R: Threads + Sync, I: Inputs, S: Sink, K: Keeper>(
 {
     fitting_scans_are_told();
     certified_pages_say_what_fits();
+    fitting_sheets_are_kept();
     count_keeps_journals();
     decide_keeps_journals();
     journals_stay();

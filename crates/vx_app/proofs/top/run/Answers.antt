@@ -2,7 +2,7 @@ use Rattle.std.proofs.Common.{◌∙◌, [], subst}
 use Rattle.std.proofs.lemmas.Bool.{false≢true}
 use Rattle.vx_command.specs.Done.{Held, IsDone}
 use Rattle.vx_command.specs.Status.{answer_of}
-use Rattle.vx_words.specs.declared.command.Command.TheVariants.{Check, Export, Read}
+use Rattle.vx_words.specs.declared.command.Command.TheVariants.{Check, Count, Export, Read}
 use Rattle.vx_app.specs.Outcome.{outcome_of}
 use Rattle.vx_app.proofs.Journals.{kept-over}
 use Rattle.vx_app.proofs.top.run.Goals as goal
@@ -18,6 +18,12 @@ returns-clause-certified g c files told election scans readings spells =
     c.certified_pages_say_what_fits.ensures election scans readings files (g.S.Sink.taken c.args.out.now) (g.S.Sink.taken c.run_words.new.out)
     (g.K.Keeper.held c.args.keeper.now) (g.K.Keeper.held c.run_words.new.keeper) _
     (c.run_words.ensures.done files told (Check election scans readings) spells [] (λ uses. absurd (false≢true uses)))
+
+pub returns-clause-margin_of_count : goal.returns-clause-margin_of_count
+returns-clause-margin_of_count g c files told election batch workers scans spells records held =
+    c.fitting_sheets_are_kept.ensures election batch scans files records (g.S.Sink.taken c.args.out.now) (g.S.Sink.taken c.run_words.new.out)
+    (g.K.Keeper.held c.args.keeper.now) (g.K.Keeper.held c.run_words.new.keeper) _
+    (c.run_words.ensures.done files told (Count election batch workers scans) spells records (λ uses. held))
 
 pub returns-clause-journal_kept : goal.returns-clause-journal_kept
 returns-clause-journal_kept g c files told command spells election for_it records held events is =
