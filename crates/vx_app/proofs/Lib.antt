@@ -1,1 +1,3 @@
 pub mod Moving
+mod Growing
+mod Journals

@@ -1,2 +1,4 @@
 pub mod Outcome
 pub mod Arguments
+pub mod Counting
+pub mod Journals

@@ -5,12 +5,17 @@
 //! commands themselves are crates of their own. How far the acts of a command are done when `run`
 //! answers, and what it leaves of the devices, stands in `vx_command`.
 //!
+//! What runs leave of the journal stands in `specs/Journals.antt`; the function of `laws` promises it of any
+//! list of runs.
+//!
 //! A new command has its words in `vx_words`, one line in `outcome_of` and where they say so in
 //! `uses_keeper`, `appends` and `takes_first`, and one in `obey`.
 #![tactic(auto)]
 
 mod arguments;
+mod laws;
 mod top;
 
 pub use arguments::{arguments_status, command_words};
-pub use top::run;
+pub use laws::runs_leave_journals;
+pub use top::{run, run_count};

@@ -1,36 +1,47 @@
-ghost use Rattle.std.specs.Prelude.{◌≡◌, ◌↔◌, true, false, List, ℕ, Some};
+ghost use Rattle.std.specs.Prelude.{◌≡◌, ◌≢◌, ◌↔◌, true, false, List, ℕ, Ok, Some};
 ghost use Rattle.vx_io.specs.Outside.{Files};
 ghost use Rattle.vx_command.specs.Devices.{LeavesInputs, LeavesKeeper, LeavesSink, writes_nothing};
 ghost use Rattle.vx_command.specs.Done.{IsDone};
+ghost use Rattle.vx_command.specs.Elections.{election_in};
 ghost use Rattle.vx_command.specs.Status.{answer_of};
 ghost use Rattle.vx_command_check.specs.Margin.{CheckSaysWhatFits};
+ghost use Rattle.vx_command_count.specs.Margin.{CountKeepsWhatFits};
+ghost use Rattle.vx_command_count.specs.Outcome.{count_outcome};
+ghost use Rattle.vx_command_export.specs.Laws.{ExportWritesWhatWasKept};
 ghost use Rattle.vx_command_read.specs.Margin.{ReadTellsWhatFits};
+ghost use Rattle.vx_election_model.specs.declared.election.Election.{Election};
+ghost use Rattle.vx_events.specs.declared.event.Event.{Event};
+ghost use Rattle.vx_journal.specs.Replay.{replay_of};
 ghost use Rattle.vx_words.specs.declared.command.Command.{Command as CommandOf};
 ghost use Rattle.vx_words.specs.Words.{IsSound, NoCommand, Spells};
 ghost use Rattle.vx_app.specs.Outcome.{appends, outcome_of, takes_first, uses_keeper};
+ghost use Rattle.vx_app.specs.Counting.{IsCount};
+ghost use Rattle.vx_app.specs.Journals.{HoldsMore, election_named};
 
 use std::alloc::Global;
 use std::thread::Threads;
 use vx_command::{Halt, Status, acts_in_order, status_of};
 use vx_command_check::{certified_pages_say_what_fits, check};
-use vx_command_count::count;
-use vx_command_decide::decide;
-use vx_command_export::export;
+use vx_command_count::{count, count_keeps_journals, fitting_sheets_are_kept};
+use vx_command_decide::{decide, decide_keeps_journals};
+use vx_command_export::{export, exports_write_what_was_kept};
 use vx_command_print::{Ballot, print};
 use vx_command_queue::queue;
 use vx_command_read::{fitting_scans_are_told, read};
 use vx_io::{Inputs, Keeper, Sink, Words};
+use vx_journal::journals_stay;
 use vx_words::{Command, UsageFault, parse, words_spell_one_command};
-use vx_workers::OpenGate;
+use vx_workers::{Gate, OpenGate};
 
-/// Does a command.
-fn obey<R: Threads + Sync, I: Inputs, S: Sink, K: Keeper>(
+/// Does a command; the workers of `count` go through the gate.
+fn obey<R: Threads + Sync, I: Inputs, S: Sink, K: Keeper, G: Gate>(
     rt: &R,
     alloc: Global,
     command: Command,
     inputs: &mut I,
     out: &mut S,
     keeper: &mut K,
+    gate: &G,
 ) -> Result<(), Halt>
     requires { (device : List ℕ) × IsSound device command }
     ensures done { (files : Files) → I.held inputs.old ≡ Some files →
@@ -86,7 +97,7 @@ fn obey<R: Threads + Sync, I: Inputs, S: Sink, K: Keeper>(
             inputs,
             out,
             keeper,
-            &OpenGate,
+            gate,
         ),
         Command::Decide { election, script } => decide(
             alloc,
@@ -113,14 +124,15 @@ fn obey<R: Threads + Sync, I: Inputs, S: Sink, K: Keeper>(
     }
 }
 
-/// Does the command that the words spell.
-fn run_words<R: Threads + Sync, I: Inputs, S: Sink, K: Keeper>(
+/// Does the command that the words spell; the workers of `count` go through the gate.
+fn run_words<R: Threads + Sync, I: Inputs, S: Sink, K: Keeper, G: Gate>(
     rt: &R,
     alloc: Global,
     words: &Words,
     inputs: &mut I,
     out: &mut S,
     keeper: &mut K,
+    gate: &G,
 ) -> Status
     ensures usage { (result ≡ Status.Usage) ↔ NoCommand words.now }
     ensures done { (files : Files) → I.held inputs.old ≡ Some files →
@@ -146,7 +158,7 @@ fn run_words<R: Threads + Sync, I: Inputs, S: Sink, K: Keeper>(
     match parse(alloc, words) {
         Err(UsageFault::OutOfMemory) => Status::NoMemory,
         Err(UsageFault::Usage) => Status::Usage,
-        Ok(command) => status_of(obey(rt, alloc, command, inputs, out, keeper)),
+        Ok(command) => status_of(obey(rt, alloc, command, inputs, out, keeper, gate)),
     }
 }
 
@@ -158,7 +170,10 @@ fn run_words<R: Threads + Sync, I: Inputs, S: Sink, K: Keeper>(
 /// which a device failed, with that device's fault as the status, or before which memory ran out. A
 /// device's count of faults rises where the status is its fault, and stands still otherwise. What `read`
 /// writes tells each image that fits a printed page with some marks as that page with those marks, and
-/// readings that `check` certifies of such an image say so.
+/// readings that `check` certifies of such an image say so; of two such images of the facing pages of a
+/// card `count` keeps the sheet with those marks. A journal of the command's election stays one,
+/// and loses no event that it kept. What `export` writes is the report of exactly the events that the
+/// journal keeps.
 pub fn run<R: Threads + Sync, I: Inputs, S: Sink, K: Keeper>(
     rt: &R,
     alloc: Global,
@@ -197,8 +212,67 @@ pub fn run<R: Threads + Sync, I: Inputs, S: Sink, K: Keeper>(
         (election scans readings : List ℕ) → Spells words.now (Command.Check election scans readings) →
         CheckSaysWhatFits election scans readings files
         (S.taken out.old) (S.taken out.new) (answer_of result) }
+    // Of each two images of a count that fit the front and the back of a card with some marks, as they lie or
+    // turned, in either order, the record of that sheet with those marks is kept, where its key is new.
+    ensures margin_of_count { (files : Files) → I.held inputs.old ≡ Some files →
+        (election batch : List ℕ) (workers : ℕ) (scans : List (List ℕ)) →
+        Spells words.now (Command.Count election batch workers scans) →
+        (records : List (List ℕ)) → K.held keeper.old ≡ Some records →
+        CountKeepsWhatFits election batch scans files records
+        (K.held keeper.old) (K.held keeper.new) (answer_of result) }
+    // Whatever the status, a journal of the command's election stays one, which keeps the events that it kept,
+    // and perhaps more behind them.
+    ensures journal_kept { (files : Files) → I.held inputs.old ≡ Some files →
+        (command : CommandOf) → Spells words.now command →
+        (election : Election) → election_in (files (election_named command)) ≡ Ok election →
+        (records : List (List ℕ)) → K.held keeper.old ≡ Some records →
+        (events : List Event) → replay_of election records ≡ Ok events →
+        HoldsMore election events (K.held keeper.new) }
+    // An `export` that ends well has written the report of exactly the kept events: their sheets' marks as
+    // they were read, with the last decisions applied, without any contest that has a reason and no decision.
+    ensures exported { (files : Files) → I.held inputs.old ≡ Some files →
+        (election moment device : List ℕ) → Spells words.now (Command.Export election moment device) →
+        (records : List (List ℕ)) → K.held keeper.old ≡ Some records →
+        ExportWritesWhatWasKept election moment device files records
+        (S.taken out.old) (S.taken out.new) (answer_of result) }
 {
     fitting_scans_are_told();
     certified_pages_say_what_fits();
-    run_words(rt, alloc, words, inputs, out, keeper)
+    fitting_sheets_are_kept();
+    count_keeps_journals();
+    decide_keeps_journals();
+    journals_stay();
+    exports_write_what_was_kept();
+    run_words(rt, alloc, words, inputs, out, keeper, &OpenGate)
+}
+
+/// Does the command `count`, whole, as `run` does, but has its workers go through a gate: before each
+/// image a worker asks it. Nothing that this call answers, writes or keeps depends on the gate or on
+/// the number of workers; a test can see by a gate which worker comes when.
+pub fn run_count<R: Threads + Sync, I: Inputs, S: Sink, K: Keeper, G: Gate>(
+    rt: &R,
+    alloc: Global,
+    words: &Words,
+    inputs: &mut I,
+    out: &mut S,
+    keeper: &mut K,
+    gate: &G,
+) -> Status
+    requires { IsCount words.now }
+    ensures no_usage { result ≢ Status.Usage }
+    ensures done { (files : Files) → I.held inputs.old ≡ Some files →
+        (records : List (List ℕ)) → K.held keeper.old ≡ Some records →
+        (election batch : List ℕ) (workers : ℕ) (scans : List (List ℕ)) →
+        Spells words.now (Command.Count election batch workers scans) →
+        IsDone (count_outcome election batch scans files records)
+        (S.taken out.old) (S.taken out.new) (K.held keeper.old) (K.held keeper.new) (answer_of result) }
+    // What halts the command before its first text comes before anything is written.
+    ensures nothing_written { writes_nothing false (answer_of result) ≡ true →
+        S.taken out.new ≡ S.taken out.old }
+    ensures inputs { LeavesInputs (I.held inputs.old) (I.held inputs.new)
+        (I.faults inputs.old) (I.faults inputs.new) (answer_of result) }
+    ensures sink { LeavesSink (S.faults out.old) (S.faults out.new) (answer_of result) }
+    ensures keeper { LeavesKeeper (K.faults keeper.old) (K.faults keeper.new) (answer_of result) }
+{
+    run_words(rt, alloc, words, inputs, out, keeper, gate)
 }

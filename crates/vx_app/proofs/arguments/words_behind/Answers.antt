@@ -1,4 +1,4 @@
-use Rattle.std.proofs.Common.{◌≡◌, ◌+◌, [], ◌∷◌, ◌++◌, List, ℕ, drop, map, length, ap, ◌∙◌, arith, rules, length-append, string_bytes}
+use Rattle.std.proofs.Common.{◌≡◌, [], ◌∷◌, ◌++◌, List, ℕ, drop, map, length, ap, arith, rules, length-append, string_bytes}
 use Rattle.vx_app.proofs.Moving.{one_moved, seen_at}
 use Rattle.vx_app.proofs.arguments.words_behind.Goals as goal
 

@@ -1,4 +1,4 @@
-use Rattle.std.proofs.Common.{◌≡◌, ◌≤◌, ◌+◌, ◌++◌, drop, map, length, string_bytes}
+use Rattle.std.proofs.Common.{◌≡◌, ◌+◌, ◌++◌, drop, map, length, string_bytes}
 use Rattle.vx_app.proofs.arguments.words_behind.Given as goal
 
 abbrev pub invariant-loop-index : goal.invariant-loop-index

@@ -1,4 +1,3 @@
-use Rattle.std.proofs.Common.{ℕ, List}
 use Rattle.vx_election_model.specs.declared.election.Election.{Election}
 use Rattle.vx_command.specs.Acts.{writing}
 use Rattle.vx_command.specs.Elections.{election_in}

@@ -1,4 +1,4 @@
-use Rattle.std.proofs.Common.{ℕ, List, Some, subst, sym, ◌∙◌}
+use Rattle.std.proofs.Common.{subst, sym}
 use Rattle.vx_command.specs.Acts.{Outcome, writing}
 use Rattle.vx_command.specs.Done.{Held, IsDone}
 use Rattle.vx_journal.specs.declared.journal.Journal.{Journal}

@@ -1,0 +1,83 @@
+-- A journal stays one over each run for its election.
+use Rattle.std.proofs.Common.{◌≡◌, ℕ, false, List, [], ◌∷◌, ◌++◌, Some, Result, Ok, Err, refl, sym, ap, ◌∙◌, subst, append-nil}
+use Rattle.std.specs.Prelude.{IsOk}
+use Rattle.std.specs.List.{flat_map}
+use Rattle.vx_io.specs.Outside.{Files}
+use Rattle.vx_election_model.specs.declared.election.Election.{Election}
+use Rattle.vx_events.specs.declared.event.Event.{Event}
+use Rattle.vx_command.specs.Acts.{Answer, Outcome, records_of}
+use Rattle.vx_command.specs.Done.{Held, IsDone, Taken}
+use Rattle.vx_command.specs.Elections.{election_in}
+use Rattle.vx_command_count.specs.Laws.{CountKeepsJournals}
+use Rattle.vx_command_count.specs.Outcome.{count_outcome}
+use Rattle.vx_command_decide.specs.Laws.{DecideKeepsJournals}
+use Rattle.vx_command_decide.specs.Outcome.{decide_outcome}
+use Rattle.vx_journal.specs.Laws.{HoldsJournal, IsJournal, JournalsStay, StaysJournal}
+use Rattle.vx_journal.specs.Replay.{replay_of}
+use Rattle.vx_words.specs.declared.command.Command.{Command}
+use Rattle.vx_words.specs.declared.command.Command.TheVariants.{Print, Read, Check, Count, Decide, Queue, Export}
+use Rattle.vx_words.specs.Words.{IsSound}
+use Rattle.vx_app.specs.Outcome.{appends, outcome_of}
+use Rattle.vx_app.specs.Journals.{AreRuns, HoldsMore, IsRun, Run, RunsLeaveJournals, election_named}
+use Rattle.vx_app.proofs.Growing.{longer}
+
+was_read : {A E : Type 0} (r : Result A E) → IsOk r → (x : A) × (r ≡ Ok x)
+was_read (Ok x) h = (x, refl)
+was_read (Err e) h = absurd cc
+
+is_ok : {A E : Type 0} (r : Result A E) (x : A) → r ≡ Ok x → IsOk r
+is_ok {A} {E} r x is = let Good : Result A E → Type 0 = λ some. IsOk some in subst Good (sym is) refl
+
+module _ (election : Election) (records : List (List ℕ)) (events : List Event) (is : replay_of election records ≡ Ok events) where
+  -- nothing was appended
+  unchanged : (held_now : Held) → held_now ≡ Some records → HoldsMore election events held_now
+  unchanged held_now same = record {
+    records = records;
+    are_held = same;
+    more = [];
+    keeps = is ∙ ap Ok (sym (append-nil events));
+  }
+
+  -- what was appended left a journal
+  appended : (stays : JournalsStay) (outcome : Outcome) (taken taken_now : Taken) (held_now : Held) (answer : Answer) → StaysJournal election records outcome.acts → IsDone outcome taken taken_now (Some records) held_now answer → HoldsMore election events held_now
+  appended stays outcome taken taken_now held_now answer each done =
+      let more = flat_map records_of done.done ++ done.records in
+      let Holds : Held → Type 0 = λ held. HoldsJournal election held in
+      let now = was_read (replay_of election (records ++ more)) (subst Holds done.kept (stays election records outcome taken taken_now held_now answer each done)) in
+      let further = longer election records more events now.0 is now.1 in
+      record {
+        records = records ++ more;
+        are_held = done.kept;
+        more = further.more;
+        keeps = now.1 ∙ ap Ok further.is;
+      }
+
+module _ (count : CountKeepsJournals) (decide : DecideKeepsJournals) (stays : JournalsStay) where
+  pub kept-over : (command : Command) (device : List ℕ) (files : Files) (election : Election) (records : List (List ℕ)) (events : List Event) (taken taken_now : Taken) (held_now : Held) (answer : Answer) → IsSound device command → election_in (files (election_named command)) ≡ Ok election → replay_of election records ≡ Ok events → (appends command ≡ false → held_now ≡ Some records) → IsDone (outcome_of command files records) taken taken_now (Some records) held_now answer → HoldsMore election events held_now
+  kept-over (Print name card kind test) device files election records events taken taken_now held_now answer sound for_it is held done = unchanged election records events is held_now (held refl)
+  kept-over (Read name scans) device files election records events taken taken_now held_now answer sound for_it is held done = unchanged election records events is held_now (held refl)
+  kept-over (Check name scans readings) device files election records events taken taken_now held_now answer sound for_it is held done = unchanged election records events is held_now (held refl)
+  kept-over (Count name batch workers scans) device files election records events taken taken_now held_now answer sound for_it is held done =
+      appended election records events is stays (count_outcome name batch scans files records) taken taken_now held_now answer
+      (count name batch scans files records election sound.batch_in_range for_it (is_ok (replay_of election records) events is)) done
+  kept-over (Decide name script) device files election records events taken taken_now held_now answer sound for_it is held done =
+      appended election records events is stays (decide_outcome name script files records) taken taken_now held_now answer
+      (decide name script files records election for_it (is_ok (replay_of election records) events is)) done
+  kept-over (Queue name) device files election records events taken taken_now held_now answer sound for_it is held done = unchanged election records events is held_now (held refl)
+  kept-over (Export name moment named) device files election records events taken taken_now held_now answer sound for_it is held done = unchanged election records events is held_now (held refl)
+
+  -- over one run, and over all
+  over-run : (election : Election) (records : List (List ℕ)) (one : Run) → IsJournal election records → IsRun election records one → IsJournal election one.left
+  over-run election records one journal it =
+      let before = was_read (replay_of election records) journal in
+      let after = kept-over one.command it.spelled.device one.files election records before.0 one.taken one.taken_now (Some one.left) one.answer it.spelled.sound it.for_it before.1 it.held it.done in
+      let same : after.records ≡ one.left = let held = after.are_held in cc in
+      let Is : List (List ℕ) → Type 0 = λ some. IsJournal election some in
+      subst Is same (is_ok (replay_of election after.records) (before.0 ++ after.more) after.keeps)
+
+  over-runs : (election : Election) (records : List (List ℕ)) (runs : List Run) (left : List (List ℕ)) → IsJournal election records → AreRuns election records runs left → IsJournal election left
+  over-runs election records [] left journal are = let Is : List (List ℕ) → Type 0 = λ some. IsJournal election some in subst Is (sym are) journal
+  over-runs election records (one ∷ runs) left journal are = over-runs election one.left runs left (over-run election records one journal are.0) are.1
+
+  pub runs-leave : RunsLeaveJournals
+  runs-leave election runs left are = over-runs election [] runs left refl are

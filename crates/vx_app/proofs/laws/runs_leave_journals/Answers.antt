@@ -1,0 +1,5 @@
+use Rattle.vx_app.proofs.Journals.{runs-leave}
+use Rattle.vx_app.proofs.laws.runs_leave_journals.Goals as goal
+
+pub returns : goal.returns
+returns c = runs-leave c.count_keeps_journals.ensures c.decide_keeps_journals.ensures c.journals_stay.ensures

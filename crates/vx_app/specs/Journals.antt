@@ -1,0 +1,59 @@
+-- What runs of commands for an election leave of its journal.
+use Rattle.std.specs.Prelude.{◌≡◌, ℕ, false, List, [], ◌∷◌, ◌++◌, Some, Ok}
+use Rattle.vx_io.specs.Outside.{Files}
+use Rattle.vx_election_model.specs.declared.election.Election.{Election}
+use Rattle.vx_events.specs.declared.event.Event.{Event}
+use Rattle.vx_command.specs.Acts.{Answer}
+use Rattle.vx_command.specs.Done.{Taken, Held, IsDone}
+use Rattle.vx_command.specs.Elections.{election_in}
+use Rattle.vx_journal.specs.Laws.{IsJournal}
+use Rattle.vx_journal.specs.Replay.{replay_of}
+use Rattle.vx_words.specs.declared.command.Command.{Command}
+use Rattle.vx_words.specs.declared.command.Command.TheVariants.{Print, Read, Check, Count, Decide, Queue, Export}
+use Rattle.vx_words.specs.Words.{Spells}
+use Rattle.vx_app.specs.Outcome.{appends, outcome_of}
+
+-- the name of the election that a command is for
+abbrev pub election_named : Command → List ℕ
+election_named (Print election card kind test) = election
+election_named (Read election scans) = election
+election_named (Check election scans readings) = election
+election_named (Count election batch workers scans) = election
+election_named (Decide election script) = election
+election_named (Queue election) = election
+election_named (Export election moment device) = election
+
+-- a keeper holds a journal of an election that keeps these events, and perhaps more behind them
+pub record HoldsMore (election : Election) (events : List Event) (held : Held) : Type 0 where
+  pub records : List (List ℕ)
+  pub are_held : held ≡ Some records
+  pub more : List Event
+  pub keeps : replay_of election records ≡ Ok (events ++ more)
+
+-- a run of a command: the words, the files that it found, what the sink had taken before and after it, the records that
+-- it left, and its answer
+pub record Run : Type 0 where
+  pub words : List (List ℕ)
+  pub command : Command
+  pub files : Files
+  pub taken : Taken
+  pub taken_now : Taken
+  pub left : List (List ℕ)
+  pub answer : Answer
+
+-- it is a run for an election over records, whatever it answered: so far as `run` promises of its acts and its keeper
+pub record IsRun (election : Election) (records : List (List ℕ)) (some : Run) : Type 0 where
+  pub spelled : Spells some.words some.command
+  pub for_it : election_in (some.files (election_named some.command)) ≡ Ok election
+  pub done : IsDone (outcome_of some.command some.files records) some.taken some.taken_now (Some records) (Some some.left) some.answer
+  pub held : appends some.command ≡ false → Some some.left ≡ Some records
+
+-- runs for one election, one after another: each over the records that the one before left
+abbrev pub AreRuns : Election → List (List ℕ) → List Run → List (List ℕ) → Type 0
+AreRuns election records [] left = left ≡ records
+AreRuns election records (one ∷ runs) left = IsRun election records one × AreRuns election one.left runs left
+
+-- any list of runs for one election that began without a record leaves a journal of it
+abbrev pub RunsLeaveJournals : Type 0
+RunsLeaveJournals =
+    (election : Election) (runs : List Run) (left : List (List ℕ)) → AreRuns election [] runs left → IsJournal election left

@@ -1,0 +1,5 @@
+mod Lists
+mod Histories
+mod Sheets
+mod Decided
+mod Shown
