@@ -41,7 +41,13 @@ fn read_reusing(
     requires { IsSet setting.now }
     ensures { IfOk result (IsReadOf setting.now.election.now image.now) }
 {
-    match read_planned(alloc, memory, setting.election, setting.plans, &image.view()) {
+    match read_planned(
+        alloc,
+        memory,
+        setting.election,
+        setting.plans,
+        &image.view(),
+    ) {
         Ok((reading, _plan)) => Ok(Ok(reading)),
         Err(PageFault::OutOfMemory) => Err(OutOfMemory),
         Err(fault) => Ok(Err(fault)),
