@@ -1,0 +1,211 @@
+//! The commands that are tried, what they do in order, and what they are run over.
+
+use crate::fronts::Act::{self, Append, Lines, Page};
+use std::test::Fail;
+use std::thread::Threads;
+use vx_io::Records;
+use vx_town::{Answer, Failing, Held, TOWN, TOWN_HEADER, attempt, records_of};
+
+/// A command, the records before it, behind how many acts it takes each of its inputs, whether it
+/// reads the journal, its acts in order, and how it ends where nothing fails.
+///
+/// An input is asked for its size and then read in one piece. The journal is asked for the number of
+/// its records, and then for each, before any act. A text is written in one piece.
+#[derive(Clone, Copy)]
+pub(crate) struct Trial {
+    pub(crate) words: &'static [&'static str],
+    pub(crate) before: &'static [&'static str],
+    pub(crate) takes: &'static [usize],
+    pub(crate) reads_journal: bool,
+    pub(crate) acts: &'static [Act],
+    pub(crate) ends: &'static str,
+}
+
+/// A journal with a blank sheet.
+const ONE_SHEET: &[&str] = &[TOWN_HEADER, "1 add b1 1 0 1 precinct 0:cc"];
+
+/// A script that decides its contest.
+const SCRIPT: &[u8] = b"claim 1 b1 1\nselect 1 b1 1 mayor 1\n\nrelease 1 b1 1\n";
+
+/// The words of an export.
+const EXPORT: &[&str] = &[
+    "export",
+    "e",
+    "2024-11-06T08:00:00Z",
+    "00000000-0000-4000-8000-000000000001",
+];
+
+/// Commands that only read their inputs.
+pub(crate) const READERS: [Trial; 3] = [
+    Trial {
+        words: &["print", "e", "0", "precinct"],
+        before: &[],
+        takes: &[0],
+        reads_journal: false,
+        acts: &[Page, Page],
+        ends: "ok",
+    },
+    Trial {
+        words: &["read", "e", "s", "t"],
+        before: &[],
+        takes: &[0, 0, 2],
+        reads_journal: false,
+        acts: &[Lines(5), Lines(3), Lines(1)],
+        ends: "ok",
+    },
+    Trial {
+        words: &["check", "e", "s", "r"],
+        before: &[],
+        takes: &[0, 0, 0],
+        reads_journal: false,
+        acts: &[Lines(1), Lines(1)],
+        ends: "ok",
+    },
+];
+
+/// Counts. The first begins a journal; its second scan is one small image, the first of a sheet that
+/// can't be read, so that the sheets behind it go across scans, and the last image is alone. The second
+/// finds its first sheet there.
+pub(crate) const COUNTS: [Trial; 2] = [
+    Trial {
+        words: &["count", "e", "b1", "2", "s", "t", "s", "s"],
+        before: &[],
+        takes: &[0, 1, 3, 3, 4],
+        reads_journal: true,
+        acts: &[
+            Append,
+            Append,
+            Lines(2),
+            Lines(1),
+            Append,
+            Lines(2),
+            Lines(1),
+            Lines(1),
+        ],
+        ends: "ok",
+    },
+    Trial {
+        words: &["count", "e", "b1", "1", "s", "s"],
+        before: ONE_SHEET,
+        takes: &[0, 0, 1],
+        reads_journal: true,
+        acts: &[Lines(1), Append, Lines(2), Lines(1)],
+        ends: "ok",
+    },
+];
+
+/// Commands on the journal. Where it is empty, `decide` begins it before it takes its script.
+pub(crate) const JOURNALS: [Trial; 6] = [
+    Trial {
+        words: &["decide", "e", "d"],
+        before: ONE_SHEET,
+        takes: &[0, 0],
+        reads_journal: true,
+        acts: &[Append, Lines(1), Append, Lines(1), Append, Lines(1)],
+        ends: "ok",
+    },
+    Trial {
+        words: &["decide", "e", "d"],
+        before: &[],
+        takes: &[0, 1],
+        reads_journal: true,
+        acts: &[Append],
+        ends: "decision line 1 2 no sheet",
+    },
+    Trial {
+        words: &["queue", "e"],
+        before: ONE_SHEET,
+        takes: &[0],
+        reads_journal: true,
+        acts: &[Lines(2)],
+        ends: "ok",
+    },
+    Trial {
+        words: &["queue", "e"],
+        before: &[],
+        takes: &[0],
+        reads_journal: true,
+        acts: &[Lines(1)],
+        ends: "ok",
+    },
+    Trial {
+        words: EXPORT,
+        before: ONE_SHEET,
+        takes: &[0],
+        reads_journal: true,
+        acts: &[Lines(1)],
+        ends: "ok",
+    },
+    Trial {
+        words: EXPORT,
+        before: &[],
+        takes: &[0],
+        reads_journal: true,
+        acts: &[Lines(1)],
+        ends: "ok",
+    },
+];
+
+/// What the commands are run over: both pages of the town's card, and what is read of them.
+#[derive(Drop)]
+pub(crate) struct Day {
+    pub(crate) scan: Vec<u8>,
+    pub(crate) readings: Vec<u8>,
+}
+
+/// The day's files: the town's election, both pages of its card, a small image, readings, a script.
+pub(crate) fn files_of(day: &Day) -> [(&str, &[u8]); 5] {
+    [
+        ("e", TOWN.as_bytes()),
+        ("s", day.scan.as_slice()),
+        ("t", b"P4\n8 1\n\0"),
+        ("r", day.readings.as_slice()),
+        ("d", SCRIPT),
+    ]
+}
+
+/// The day of the town, by its own `print` and `read`.
+pub(crate) fn make_day<R: Threads + Sync + AllocGlobal>(rt: &R) -> Result<Day, Fail> {
+    let mut day = Day {
+        scan: Vec::new(rt.alloc()),
+        readings: Vec::new(rt.alloc()),
+    };
+    let none = Records::new(rt.alloc());
+    day.scan = run_over(
+        rt,
+        &day,
+        &none,
+        &["print", "e", "0", "precinct"],
+        Failing::NONE,
+    )?
+    .text;
+    day.readings = run_over(rt, &day, &none, &["read", "e", "s"], Failing::NONE)?.text;
+    Ok(day)
+}
+
+/// Runs a command over the day's files and records.
+pub(crate) fn run_over<R: Threads + Sync + AllocGlobal>(
+    rt: &R,
+    day: &Day,
+    records: &Records,
+    words: &[&str],
+    failing: Failing<'_>,
+) -> Result<Answer, Fail> {
+    let files = files_of(day);
+    let held = Held {
+        files: &files,
+        records,
+    };
+    Ok(attempt(rt, held, words, failing)?)
+}
+
+/// Runs a trial over the records before it.
+pub(crate) fn run_trial<R: Threads + Sync + AllocGlobal>(
+    rt: &R,
+    day: &Day,
+    trial: &Trial,
+    failing: Failing<'_>,
+) -> Result<Answer, Fail> {
+    let records = records_of(rt.alloc(), trial.before)?;
+    run_over(rt, day, &records, trial.words, failing)
+}
