@@ -1,6 +1,8 @@
 """What the measurements share: programs of this folder compiled, instructions and seconds counted."""
 
+import hashlib
 import os
+import sqlite3
 import subprocess
 import time
 
@@ -24,6 +26,37 @@ def page_election(room, pages):
     """The path of the election whose first card has so many pages of 60 bubbles."""
     path = os.path.join(room, "pages-%d.json" % pages)
     subprocess.run([os.path.join(HERE, "page_election"), path, str(pages)], check=True)
+    return path
+
+
+TABLE = "CREATE TABLE journal(place INTEGER PRIMARY KEY, body BLOB NOT NULL)"
+CONTESTS, OPTIONS = 24, 5
+
+
+def states_of(number, contest):
+    """Each contest has one marked candidate, never the write-in slot, which is the last option."""
+    marked = (number + contest) % (OPTIONS - 1)
+    return "".join("m" if option == marked else "c" for option in range(OPTIONS))
+
+
+def record_of(number):
+    """The record of a sheet of 24 contests of five options, all of them marked as they should be."""
+    contests = " ".join("%d:%s" % (contest, states_of(number, contest)) for contest in range(CONTESTS))
+    return "1 add b1 %d 0 1 precinct %s" % (number, contests)
+
+
+def made_journal(room, election, sheets):
+    """The path of a journal of so many sheets of an election's first card."""
+    path = os.path.join(room, "journal-%d" % sheets)
+    with open(election, "rb") as file:
+        header = "1 election " + hashlib.sha256(file.read()).hexdigest()
+    journal = sqlite3.connect(path)
+    journal.execute("PRAGMA journal_mode=WAL")
+    journal.execute(TABLE)
+    records = [header] + [record_of(number) for number in range(1, sheets + 1)]
+    journal.executemany("INSERT INTO journal VALUES (?, ?)", ((place, body.encode()) for place, body in enumerate(records)))
+    journal.commit()
+    journal.close()
     return path
 
 

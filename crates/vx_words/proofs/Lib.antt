@@ -1,3 +1,6 @@
+pub mod Made
 pub mod Moving
 pub mod OneSpelling
+pub mod Parsed
 pub mod Spellings
+pub mod Split

@@ -6,7 +6,7 @@ use Rattle.std.proofs.lemmas.List.{get_or-drop, length-drop, take_all}
 use Rattle.std.proofs.lemmas.List.Elements.{All-head, All-tail, All-more}
 use Rattle.std.proofs.lemmas.List.Elements.{All-cons, All-nil}
 use Rattle.std.proofs.lemmas.Bool.{false≢true}
-use Rattle.std.specs.Prelude.{◌≢◌, Option, None, Result, Ok, Err, IsErrAnd}
+use Rattle.std.specs.Prelude.{◌≢◌, is_some, Option, None, Result, Ok, Err, IsErrAnd}
 use Rattle.std.specs.Fmt.{decimal}
 use Rattle.std.specs.Str.Parse.{digits_value}
 use Rattle.std.proofs.lemmas.Fmt.{decimal_is_IsNumeral}
@@ -25,19 +25,26 @@ use Rattle.vx_words.specs.Devices.{device_of}
 use Rattle.vx_words.specs.Words.{words_with, HasName, IsArgument, IsSound, NoCommand, Parses, Spells}
 
 -- one word more that is an argument
-pub one_argument : (words : List (List ℕ)) (i : ℕ) (word : List ℕ) → 1 ≤ i → slice_get words i ≡ Some word → All IsArgument (take (i - 1) (drop 1 words)) → IsArgument word → All IsArgument (take (i + 1 - 1) (drop 1 words))
-one_argument words i word some at before is =
+pub one_argument : (words : List (List ℕ)) (from i : ℕ) (word : List ℕ) → from ≤ i → slice_get words i ≡ Some word → All IsArgument (take (i - from) (drop from words)) → IsArgument word → All IsArgument (take (i + 1 - from) (drop from words))
+one_argument words from i word some at before is =
     let inside : i < length words = slice_get_within words i word at in
-    let place : 1 + (i - 1) ≡ i = omega arith in
-    let next : i + 1 - 1 ≡ (i - 1) + 1 = omega arith in
-    let here : get_or (drop 1 words) (i - 1) [] ≡ word = get_or-drop 1 words (i - 1) [] ∙ ap (λ n. get_or words n []) place ∙ get_or_from_slice_get words i word [] at in
-    rw next (All-more IsArgument (drop 1 words) (i - 1) [] (omega (arith, length-drop 1 words)) before (subst IsArgument (sym here) is))
+    let place : from + (i - from) ≡ i = omega arith in
+    let next : i + 1 - from ≡ (i - from) + 1 = omega arith in
+    let here : get_or (drop from words) (i - from) [] ≡ word = get_or-drop from words (i - from) [] ∙ ap (λ n. get_or words n []) place ∙ get_or_from_slice_get words i word [] at in
+    rw next (All-more IsArgument (drop from words) (i - from) [] (omega (arith, length-drop from words)) before (subst IsArgument (sym here) is))
+
+pub argument_at : (words : List (List ℕ)) (from i : ℕ) (word : List ℕ) → from ≤ i → slice_get words i ≡ Some word → All IsArgument (drop from words) → IsArgument word
+argument_at words from i word some at are =
+    let inside : i < length words = slice_get_within words i word at in
+    let place : from + (i - from) ≡ i = omega arith in
+    let here : get_or (drop from words) (i - from) [] ≡ word = get_or-drop from words (i - from) [] ∙ ap (λ n. get_or words n []) place ∙ get_or_from_slice_get words i word [] at in
+    subst IsArgument here (are (i - from) [] (omega (arith, length-drop from words, inside)))
 
 -- all words are arguments
-pub all_arguments : (words : List (List ℕ)) (i : ℕ) → length words ≤ i → All IsArgument (take (i - 1) (drop 1 words)) → All IsArgument (drop 1 words)
-all_arguments words i past are =
+pub all_arguments : (words : List (List ℕ)) (from i : ℕ) → length words ≤ i → All IsArgument (take (i - from) (drop from words)) → All IsArgument (drop from words)
+all_arguments words from i past are =
     let Are : List (List ℕ) → Type 0 = λ l. All IsArgument l in
-    subst Are (take_all (i - 1) (drop 1 words) (omega (arith, length-drop 1 words))) are
+    subst Are (take_all (i - from) (drop from words) (omega (arith, length-drop from words))) are
 
 -- numbers and kinds may be arguments
 number_is_argument : (n : ℕ) → n < 2 ^ 32 → IsArgument (decimal n)
@@ -260,23 +267,76 @@ no_command words print read check count decide queue export (Decide election scr
 no_command words print read check count decide queue export (Queue election) spelled = queue (spelled_named words (Queue election) spelled)
 no_command words print read check count decide queue export (Export election moment device) spelled = export (spelled_named words (Export election moment device) spelled)
 
--- no other command is named as `count` is
-other_name : (words : List (List ℕ)) (command : Command) → slice_get words 0 ≡ Some (codes "count") → Spells words command → (get_or (name_of command) 1 0 ≡ 111 → ⊥) → ⊥
-other_name words command first spelled differs =
+-- no other command is named so
+pub other_name : (words : List (List ℕ)) (called : List ℕ) (command : Command) → slice_get words 0 ≡ Some called → Spells words command → (get_or (name_of command) 1 0 ≡ get_or called 1 0 → ⊥) → ⊥
+other_name words called command first spelled differs =
     let own : slice_get words 0 ≡ Some (name_of command) = (spelled_named words command spelled).first in
-    let same : name_of command ≡ codes "count" = cc in
+    let same : name_of command ≡ called = cc in
     differs (ap (λ (name : List ℕ). get_or name 1 0) same)
 
 -- the word of no workers is no number of workers
-pub no_workers : (words : List (List ℕ)) (word : List ℕ) (workers : ℕ) → HasName words (codes "count") 5 68 → slice_get words 3 ≡ Some word → word ≡ decimal workers → workers ≡ 0 → NoCommand words
-no_workers words word workers called at_3 is none (Count election batch others scans) spelled =
+pub no_workers : (words : List (List ℕ)) (word : List ℕ) (workers : ℕ) → slice_get words 0 ≡ Some (codes "count") → slice_get words 3 ≡ Some word → word ≡ decimal workers → workers ≡ 0 → NoCommand words
+no_workers words word workers first at_3 is none (Count election batch others scans) spelled =
     let shown : slice_get words 3 ≡ Some (decimal others) = ap (λ (w : List (List ℕ)). slice_get w 3) spelled.words_are in
     let same : decimal workers ≡ decimal others = cc in
     let equal : workers ≡ others = sym (decimal_is_IsNumeral workers (omega (arith, none))).1 ∙ ap (digits_value 10) same ∙ (decimal_is_IsNumeral others (omega (arith, spelled.sound.few_workers))).1 in
     omega (arith, equal, none, spelled.sound.some_worker)
-no_workers words word workers called at_3 is none (Print election card kind test) spelled = other_name words (Print election card kind test) called.first spelled (λ same. absurd (omega (arith, same)))
-no_workers words word workers called at_3 is none (Read election scans) spelled = other_name words (Read election scans) called.first spelled (λ same. absurd (omega (arith, same)))
-no_workers words word workers called at_3 is none (Check election scans readings) spelled = other_name words (Check election scans readings) called.first spelled (λ same. absurd (omega (arith, same)))
-no_workers words word workers called at_3 is none (Decide election script) spelled = other_name words (Decide election script) called.first spelled (λ same. absurd (omega (arith, same)))
-no_workers words word workers called at_3 is none (Queue election) spelled = other_name words (Queue election) called.first spelled (λ same. absurd (omega (arith, same)))
-no_workers words word workers called at_3 is none (Export election moment device) spelled = other_name words (Export election moment device) called.first spelled (λ same. absurd (omega (arith, same)))
+no_workers words word workers first at_3 is none (Print election card kind test) spelled = other_name words (codes "count") (Print election card kind test) first spelled (λ same. absurd (omega (arith, same)))
+no_workers words word workers first at_3 is none (Read election scans) spelled = other_name words (codes "count") (Read election scans) first spelled (λ same. absurd (omega (arith, same)))
+no_workers words word workers first at_3 is none (Check election scans readings) spelled = other_name words (codes "count") (Check election scans readings) first spelled (λ same. absurd (omega (arith, same)))
+no_workers words word workers first at_3 is none (Decide election script) spelled = other_name words (codes "count") (Decide election script) first spelled (λ same. absurd (omega (arith, same)))
+no_workers words word workers first at_3 is none (Queue election) spelled = other_name words (codes "count") (Queue election) first spelled (λ same. absurd (omega (arith, same)))
+no_workers words word workers first at_3 is none (Export election moment device) spelled = other_name words (codes "count") (Export election moment device) first spelled (λ same. absurd (omega (arith, same)))
+
+-- a word that names no device is no device of an export
+pub no_device : (words : List (List ℕ)) (word : List ℕ) → HasName words (codes "export") 4 4 → slice_get words 3 ≡ Some word → is_some (device_of word) ≡ false → NoCommand words
+no_device words word called at_3 none (Export election moment named) spelled =
+    let shown : slice_get words 3 ≡ Some spelled.device = ap (λ (w : List (List ℕ)). slice_get w 3) spelled.words_are in
+    let same : word ≡ spelled.device = cc in
+    false≢true (sym none ∙ ap (λ (w : List ℕ). is_some (device_of w)) same ∙ ap is_some spelled.sound.is_named)
+no_device words word called at_3 none (Print election card kind test) spelled = other_name words (codes "export") (Print election card kind test) called.first spelled (λ same. absurd (omega (arith, same)))
+no_device words word called at_3 none (Read election scans) spelled = other_name words (codes "export") (Read election scans) called.first spelled (λ same. absurd (omega (arith, same)))
+no_device words word called at_3 none (Check election scans readings) spelled = other_name words (codes "export") (Check election scans readings) called.first spelled (λ same. absurd (omega (arith, same)))
+no_device words word called at_3 none (Count election batch workers scans) spelled = other_name words (codes "export") (Count election batch workers scans) called.first spelled (λ same. absurd (omega (arith, same)))
+no_device words word called at_3 none (Decide election script) spelled = other_name words (codes "export") (Decide election script) called.first spelled (λ same. absurd (omega (arith, same)))
+no_device words word called at_3 none (Queue election) spelled = other_name words (codes "export") (Queue election) called.first spelled (λ same. absurd (omega (arith, same)))
+
+-- a word that names a device
+pub some_device : (word : List ℕ) → is_some (device_of word) ≡ true → (named : List ℕ) × (device_of word ≡ Some named)
+some_device word is = there (device_of word) (λ none. false≢true (sym (ap is_some none) ∙ is))
+
+-- a command's words may all be arguments
+name_is_argument : (command : Command) → IsArgument (name_of command)
+name_is_argument (Print election card kind test) = record { some = lit< tt; no_option = λ is. absurd (omega (arith, is)) }
+name_is_argument (Read election scans) = record { some = lit< tt; no_option = λ is. absurd (omega (arith, is)) }
+name_is_argument (Check election scans readings) = record { some = lit< tt; no_option = λ is. absurd (omega (arith, is)) }
+name_is_argument (Count election batch workers scans) = record { some = lit< tt; no_option = λ is. absurd (omega (arith, is)) }
+name_is_argument (Decide election script) = record { some = lit< tt; no_option = λ is. absurd (omega (arith, is)) }
+name_is_argument (Queue election) = record { some = lit< tt; no_option = λ is. absurd (omega (arith, is)) }
+name_is_argument (Export election moment named) = record { some = lit< tt; no_option = λ is. absurd (omega (arith, is)) }
+
+with_name : (words : List (List ℕ)) (name : List ℕ) → slice_get words 0 ≡ Some name → IsArgument name → All IsArgument (drop 1 words) → All IsArgument words
+with_name [] name first is are = All-nil IsArgument
+with_name (word ∷ words) name first is are = All-cons IsArgument word words (let same : name ≡ word = cc in subst IsArgument same is) are
+
+pub spelled_arguments : (words : List (List ℕ)) (command : Command) → Spells words command → All IsArgument words
+spelled_arguments words command spelled =
+    let called : HasName words (name_of command) (least_of command) (most_of command) = spelled_named words command spelled in
+    with_name words (name_of command) called.first (name_is_argument command) called.arguments
+
+-- words behind a name are as many as a command has
+pub behind_name : (name : List ℕ) (behind : List (List ℕ)) (least most : ℕ) → All IsArgument behind → least ≤ length behind + 1 → length behind + 1 ≤ most → HasName (name ∷ behind) name least most
+behind_name name behind least most are enough no_more = record { first = refl; enough = omega (arith, enough); no_more = omega (arith, no_more); arguments = are }
+
+-- a command has a word behind its name
+pub two_words : (words : List (List ℕ)) (command : Command) → Spells words command → 2 ≤ length words
+two_words words command spelled = enough command (spelled_named words command spelled).enough
+  where
+    enough : (command : Command) → least_of command ≤ length words → 2 ≤ length words
+    enough (Print election card kind test) are = omega (arith, are)
+    enough (Read election scans) are = omega (arith, are)
+    enough (Check election scans readings) are = omega (arith, are)
+    enough (Count election batch workers scans) are = omega (arith, are)
+    enough (Decide election script) are = omega (arith, are)
+    enough (Queue election) are = omega (arith, are)
+    enough (Export election moment named) are = omega (arith, are)

@@ -1,3 +1,4 @@
 pub mod Moments
 pub mod Devices
 pub mod Words
+pub mod Line

@@ -1,5 +1,5 @@
 -- Which words are which command: this program's own positions and spellings.
-use Rattle.std.specs.Prelude.{◌≡◌, ◌≢◌, ◌≤◌, ◌<◌, All, ℕ, List, ◌∷◌, [], length, slice_index, true, codes, Some, slice_get, Result, Ok, Err, drop}
+use Rattle.std.specs.Prelude.{⊤, Bool, false, ◌≡◌, ◌≢◌, ◌≤◌, ◌<◌, All, ℕ, List, ◌∷◌, [], length, slice_index, true, codes, Some, slice_get, Result, Ok, Err, drop}
 use Rattle.std.specs.Fmt.{decimal}
 use Rattle.vx_grid.specs.declared.kind.Kind.{Kind}
 use Rattle.vx_grid.specs.declared.kind.Kind.TheVariants.{Other}
@@ -86,6 +86,17 @@ abbrev pub Parses : List (List ℕ) → Result Command UsageFault → Type 0
 Parses words (Ok command) = Spells words command
 Parses words (Err Usage) = NoCommand words
 Parses words (Err OutOfMemory) = (command : Command) × Spells words command
+
+-- the same, but that memory may run out at any words
+abbrev pub Reads : List (List ℕ) → Result Command UsageFault → Type 0
+Reads words (Ok command) = Spells words command
+Reads words (Err Usage) = NoCommand words
+Reads words (Err OutOfMemory) = ⊤
+
+-- whether the words spell a command
+abbrev pub Decides : List (List ℕ) → Bool → Type 0
+Decides words true = (command : Command) × Spells words command
+Decides words false = NoCommand words
 
 -- the words begin with a command's name; the others may be arguments, and there are so many words
 pub record HasName (words : List (List ℕ)) (name : List ℕ) (least most : ℕ) : Type 0 where

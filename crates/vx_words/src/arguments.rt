@@ -1,6 +1,6 @@
 //! The words behind a command's name.
 
-ghost use Rattle.std.specs.Prelude.{◌≡◌, ◌↔◌, ◌<◌, ◌≤◌, [], All, IsTrue, IfOk, drop, length, slice_index_or};
+ghost use Rattle.std.specs.Prelude.{◌≡◌, ◌↔◌, ◌<◌, ◌≤◌, [], All, ◌^◌, IsTrue, IfOk, OnOk, drop, length, map};
 ghost use Rattle.vx_words.specs.Words.{HasName, IsArgument};
 
 use std::alloc::{AllocError, Global};
@@ -17,12 +17,12 @@ fn is_argument(word: &str) -> bool
     }
 }
 
-/// Whether all words from word 1 on may be arguments.
-fn are_arguments(words: &Words) -> bool
-    requires { 0 < length words.now }
-    ensures { IsTrue result ↔ All IsArgument (drop 1 words.now) }
+/// Whether all words from one on may be arguments.
+pub fn are_arguments(words: &Words, from: u32) -> bool
+    requires { from ≤ length words.now }
+    ensures { IsTrue result ↔ All IsArgument (drop from words.now) }
 {
-    for index in 1..words.count() {
+    for index in from..words.count() {
         if !is_argument(words.word(index)) {
             return false;
         }
@@ -36,25 +36,29 @@ pub fn has_name(words: &Words, name: &str, least: u32, most: u32) -> bool
     ensures { IsTrue result ↔ HasName words.now name.now least most }
 {
     let count = words.count();
-    least <= count && count <= most && words.word(0) == name && are_arguments(words)
+    least <= count && count <= most && words.word(0) == name && are_arguments(words, 1)
 }
 
-/// A word as a text of its own.
-pub fn text_at(alloc: Global, words: &Words, index: u32) -> Result<Text, AllocError>
-    requires { index < length words.now }
-    ensures { IfOk result (λ text. text ≡ slice_index_or words.now index []) }
+/// The words in a row, lent.
+pub fn row_of<'w>(alloc: Global, words: &'w Words) -> Result<Vec<&'w str>, AllocError>
+    ensures row { IfOk result (λ row. map (λ word. word.now) row.items ≡ words.now) }
+    ensures few { OnOk result (length words.now < 2 ^ 32) }
 {
-    Text::from_str(alloc, words.word(index))
+    let mut row = Vec::new(alloc);
+    for index in 0..words.count() {
+        row.push(words.word(index))?;
+    }
+    Ok(row)
 }
 
 /// The words from one on, as texts of their own.
-pub fn texts_from(alloc: Global, words: &Words, from: u32) -> Result<Texts, AllocError>
+pub fn texts_from(alloc: Global, words: &[&str], from: usize) -> Result<Texts, AllocError>
     requires { from ≤ length words.now }
-    ensures { IfOk result (λ texts. texts ≡ drop from words.now) }
+    ensures { IfOk result (λ texts. texts ≡ drop from (map (λ word. word.now) words.now)) }
 {
     let mut texts = Texts::new(alloc);
-    for index in from..words.count() {
-        texts.push(Text::from_str(alloc, words.word(index))?)?;
+    for index in from..words.len() {
+        texts.push(Text::from_str(alloc, words[index])?)?;
     }
     Ok(texts)
 }

@@ -2,16 +2,21 @@
 //!
 //! Which words are which command stands in `specs/Words.antt`, one line a command; moments in
 //! `specs/Moments.antt`, devices in `specs/Devices.antt`. `parse` answers Usage exactly where the
-//! words are no command.
+//! words are no command. The words are split by `clap`: its command line stands in `line.rt` and
+//! `specs/Line.antt`, and each command is made of the words behind its name in `making.rt`.
 #![tactic(auto)]
 
 mod arguments;
 mod command;
+mod deciding;
 mod fault;
 mod kinds;
 mod laws;
+mod line;
+mod making;
 mod moment;
 mod parsing;
+mod reading;
 
 pub use command::Command;
 pub use fault::UsageFault;

@@ -1,6 +1,6 @@
 //! Moments and devices among the words.
 
-ghost use Rattle.std.specs.Prelude.{◌≡◌, ◌≢◌, None, IfOk, OnErr};
+ghost use Rattle.std.specs.Prelude.{◌≡◌, ◌≢◌, None, IfOk, OnErr, is_some};
 ghost use Rattle.vx_words.specs.Moments.{has_clock_form, is_clock_time, is_moment};
 ghost use Rattle.vx_words.specs.Devices.{device_of};
 
@@ -42,6 +42,16 @@ pub fn is_moment(text: &str) -> bool
             number_at(text, 14),
             number_at(text, 17),
         )
+}
+
+/// Whether a word names a device. It takes no memory.
+pub fn is_device(word: &str) -> bool
+    ensures { result ≡ is_some (device_of word.now) }
+{
+    match Uuid::parse_str(word) {
+        Err(_) => false,
+        Ok(_) => true,
+    }
 }
 
 /// The device that a word names, if it names one, in lower case with hyphens.

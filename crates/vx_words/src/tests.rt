@@ -2,16 +2,25 @@ use crate::{Command, UsageFault, parse};
 use std::test::Fail;
 use vx_io::Words;
 
-/// What the words of a line, with blanks between, are read as: the command in the debug form of its
-/// parts, or why they are none.
-fn told(rt: &HostRuntime, line: &[&str]) -> Result<String, Fail> {
+/// The words of a line, and behind them so many scans.
+fn words_of(rt: &HostRuntime, line: &[&str], scans: u32) -> Result<Words, Fail> {
     let mut words = Words::new(rt.alloc());
     for word in line {
         if words.count() < 1_000_000 {
             words.push(word)?;
         }
     }
-    Ok(match parse(rt.alloc(), &words) {
+    for _ in 0..scans {
+        if words.count() < 1_000_000 {
+            words.push("s")?;
+        }
+    }
+    Ok(words)
+}
+
+/// What words are read as: the command in the debug form of its parts, or why they are none.
+fn told(rt: &HostRuntime, words: &Words) -> Result<String, Fail> {
+    Ok(match parse(rt.alloc(), words) {
         Ok(
             Command::Print {
                 election,
@@ -100,6 +109,7 @@ const LINES: &[(&[&str], &str)] = &[
     (&["read", "e", ""], "usage"),
     (&["check", "e", "s", "r"], "check e s r"),
     (&["check", "e", "s"], "usage"),
+    (&["check", "e", "s", "r", "more"], "usage"),
     (&["count", "e", "b-1", "64", "s", "t"], "count e b-1 64 2"),
     (&["count", "e", "b1", "0", "s"], "usage"),
     (&["count", "e", "b1", "65", "s"], "usage"),
@@ -108,6 +118,8 @@ const LINES: &[(&[&str], &str)] = &[
     (&["count", "e", "b1", "1"], "usage"),
     (&["decide", "e", "s"], "decide e s"),
     (&["decide", "e"], "usage"),
+    (&["decide", "e", "s", "more"], "usage"),
+    (&["queue"], "usage"),
     (&["queue", "e"], "queue e"),
     (&["queue", "e", "more"], "usage"),
     (
@@ -143,12 +155,44 @@ const LINES: &[(&[&str], &str)] = &[
     ),
     (&["export", "e", "2024-11-06 08:00:00Z", DEVICE], "usage"),
     (&["export", "e", "2024-11-06T08:00:00Z", "device"], "usage"),
+    (&["export", "e", "2024-11-06T08:00:00Z"], "usage"),
+    (
+        &["export", "e", "2024-11-06T08:00:00Z", DEVICE, "more"],
+        "usage",
+    ),
+    (
+        &[
+            "export",
+            "e",
+            "9999-12-31T23:59:59Z",
+            "00000000-0000-4000-8000-00000000000A",
+        ],
+        "export e 9999-12-31T23:59:59Z 00000000-0000-4000-8000-00000000000a",
+    ),
 ];
 
 #[test]
 fn lines_of_words_are_read(rt: HostRuntime) -> Result<(), Fail> {
     for (line, told_as) in LINES {
-        assert_eq!(rt; told(&rt, line)?.as_str(), *told_as);
+        let words = words_of(&rt, line, 0)?;
+        assert_eq!(rt; told(&rt, &words)?.as_str(), *told_as);
+    }
+    Ok(())
+}
+
+/// The first words of a line, how many scans stand behind them, and what they are read as.
+const SCANS: &[(&[&str], u32, &str)] = &[
+    (&["read", "e"], 64, "read e 64"),
+    (&["read", "e"], 65, "usage"),
+    (&["count", "e", "b1", "1"], 64, "count e b1 1 64"),
+    (&["count", "e", "b1", "1"], 65, "usage"),
+];
+
+#[test]
+fn there_are_64_scans_at_most(rt: HostRuntime) -> Result<(), Fail> {
+    for (line, scans, told_as) in SCANS {
+        let words = words_of(&rt, line, *scans)?;
+        assert_eq!(rt; told(&rt, &words)?.as_str(), *told_as);
     }
     Ok(())
 }

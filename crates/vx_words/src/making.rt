@@ -1,0 +1,173 @@
+//! The commands, made of the words behind their names.
+
+ghost use Rattle.std.specs.Prelude.{◌≡◌, ◌∷◌, All, codes, map};
+ghost use Rattle.vx_words.specs.Words.{IsArgument, Reads};
+
+use crate::arguments::texts_from;
+use crate::command::Command;
+use crate::fault::UsageFault;
+use crate::kinds::kind_and_test;
+use crate::moment::{device_of, is_moment};
+use std::alloc::Global;
+use vx_base::read_number;
+use vx_events::is_batch;
+use vx_json::Text;
+
+/// `print ELECTION CARD KIND`.
+fn print_of(alloc: Global, arguments: &[&str]) -> Result<Command, UsageFault>
+    requires { All IsArgument (map (λ word. word.now) arguments.now) }
+    ensures { Reads (codes "print" ∷ map (λ word. word.now) arguments.now) result }
+{
+    let [election, card, kind] = arguments else {
+        return Err(UsageFault::Usage);
+    };
+    let Some(card) = read_number(card, 1023) else {
+        return Err(UsageFault::Usage);
+    };
+    let Some((kind, test)) = kind_and_test(kind) else {
+        return Err(UsageFault::Usage);
+    };
+    let election = Text::from_str(alloc, election)?;
+    Ok(Command::Print {
+        election,
+        card,
+        kind,
+        test,
+    })
+}
+
+/// `read ELECTION SCANS`.
+fn read_of(alloc: Global, arguments: &[&str]) -> Result<Command, UsageFault>
+    requires { All IsArgument (map (λ word. word.now) arguments.now) }
+    ensures { Reads (codes "read" ∷ map (λ word. word.now) arguments.now) result }
+{
+    if arguments.len() < 2 || arguments.len() > 65 {
+        return Err(UsageFault::Usage);
+    }
+    let election = Text::from_str(alloc, arguments[0])?;
+    let scans = texts_from(alloc, arguments, 1)?;
+    Ok(Command::Read { election, scans })
+}
+
+/// `check ELECTION SCANS READINGS`.
+fn check_of(alloc: Global, arguments: &[&str]) -> Result<Command, UsageFault>
+    requires { All IsArgument (map (λ word. word.now) arguments.now) }
+    ensures { Reads (codes "check" ∷ map (λ word. word.now) arguments.now) result }
+{
+    let [election, scans, readings] = arguments else {
+        return Err(UsageFault::Usage);
+    };
+    let election = Text::from_str(alloc, election)?;
+    let scans = Text::from_str(alloc, scans)?;
+    let readings = Text::from_str(alloc, readings)?;
+    Ok(Command::Check {
+        election,
+        scans,
+        readings,
+    })
+}
+
+/// `count ELECTION BATCH WORKERS SCANS`.
+fn count_of(alloc: Global, arguments: &[&str]) -> Result<Command, UsageFault>
+    requires { All IsArgument (map (λ word. word.now) arguments.now) }
+    ensures { Reads (codes "count" ∷ map (λ word. word.now) arguments.now) result }
+{
+    if arguments.len() < 4 || arguments.len() > 67 {
+        return Err(UsageFault::Usage);
+    }
+    if !is_batch(arguments[1].as_bytes()) {
+        return Err(UsageFault::Usage);
+    }
+    let Some(workers) = read_number(arguments[2], 64) else {
+        return Err(UsageFault::Usage);
+    };
+    if workers == 0 {
+        return Err(UsageFault::Usage);
+    }
+    let election = Text::from_str(alloc, arguments[0])?;
+    let batch = Text::from_str(alloc, arguments[1])?;
+    let scans = texts_from(alloc, arguments, 3)?;
+    Ok(Command::Count {
+        election,
+        batch,
+        workers,
+        scans,
+    })
+}
+
+/// `decide ELECTION SCRIPT`.
+fn decide_of(alloc: Global, arguments: &[&str]) -> Result<Command, UsageFault>
+    requires { All IsArgument (map (λ word. word.now) arguments.now) }
+    ensures { Reads (codes "decide" ∷ map (λ word. word.now) arguments.now) result }
+{
+    let [election, script] = arguments else {
+        return Err(UsageFault::Usage);
+    };
+    let election = Text::from_str(alloc, election)?;
+    let script = Text::from_str(alloc, script)?;
+    Ok(Command::Decide { election, script })
+}
+
+/// `queue ELECTION`.
+fn queue_of(alloc: Global, arguments: &[&str]) -> Result<Command, UsageFault>
+    requires { All IsArgument (map (λ word. word.now) arguments.now) }
+    ensures { Reads (codes "queue" ∷ map (λ word. word.now) arguments.now) result }
+{
+    let [election] = arguments else {
+        return Err(UsageFault::Usage);
+    };
+    let election = Text::from_str(alloc, election)?;
+    Ok(Command::Queue { election })
+}
+
+/// `export ELECTION MOMENT DEVICE`.
+fn export_of(alloc: Global, arguments: &[&str]) -> Result<Command, UsageFault>
+    requires { All IsArgument (map (λ word. word.now) arguments.now) }
+    ensures { Reads (codes "export" ∷ map (λ word. word.now) arguments.now) result }
+{
+    if arguments.len() != 3 {
+        return Err(UsageFault::Usage);
+    }
+    if !is_moment(arguments[1]) {
+        return Err(UsageFault::Usage);
+    }
+    let Some(device) = device_of(alloc, arguments[2])? else {
+        return Err(UsageFault::Usage);
+    };
+    let election = Text::from_str(alloc, arguments[0])?;
+    let moment = Text::from_str(alloc, arguments[1])?;
+    Ok(Command::Export {
+        election,
+        moment,
+        device,
+    })
+}
+
+/// The command with a name, of the words behind it.
+pub fn command_of(alloc: Global, name: &str, arguments: &[&str]) -> Result<Command, UsageFault>
+    requires { All IsArgument (map (λ word. word.now) arguments.now) }
+    ensures { Reads (name.now ∷ map (λ word. word.now) arguments.now) result }
+{
+    if name == "print" {
+        return print_of(alloc, arguments);
+    }
+    if name == "read" {
+        return read_of(alloc, arguments);
+    }
+    if name == "check" {
+        return check_of(alloc, arguments);
+    }
+    if name == "count" {
+        return count_of(alloc, arguments);
+    }
+    if name == "decide" {
+        return decide_of(alloc, arguments);
+    }
+    if name == "queue" {
+        return queue_of(alloc, arguments);
+    }
+    if name == "export" {
+        return export_of(alloc, arguments);
+    }
+    Err(UsageFault::Usage)
+}
