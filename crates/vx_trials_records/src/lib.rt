@@ -1,0 +1,10 @@
+//! Trials of the records of a journal, against a second grammar that is written plainly here. Nothing
+//! stands on it.
+#![tactic(auto)]
+
+#[cfg(test)]
+mod grammar;
+#[cfg(test)]
+mod records;
+#[cfg(test)]
+mod words;
