@@ -4,6 +4,7 @@
 mod board;
 mod held;
 mod history;
+mod laws;
 mod pass;
 mod plays;
 mod seats;
@@ -12,4 +13,5 @@ mod turns;
 
 pub use history::{Entries, Entry};
 pub use pass::Pass;
-pub use sharing::{Receipt, SharedCenter, center_is_shared};
+pub use laws::{center_is_shared, pass_is_handed};
+pub use sharing::{Receipt, SharedCenter};

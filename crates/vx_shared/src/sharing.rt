@@ -193,17 +193,3 @@ fn merge<'e>(steps: &Steps<'e>, seat: &mut Place<'e>, other: Place<'e>)
     steps.join_seat::<Both>(seat, other);
     steps.load::<Merge>(seat, TICKET);
 }
-
-fn shared<T: Send + Sync>() {}
-
-fn handed<T: Send>() {}
-
-/// Threads share a center and hand its passes over.
-pub fn center_is_shared() {
-    handed::<std::snapshot::Snapshot<Center<'static>>>();
-    handed::<Vec<crate::history::Entry>>();
-    shared::<crate::history::Entry>();
-    handed::<Held<'static>>();
-    handed::<Pass>();
-    shared::<SharedCenter<'static>>();
-}
