@@ -1,0 +1,4 @@
+pub mod Marks
+pub mod Mixed
+pub mod Made
+pub mod Halves
