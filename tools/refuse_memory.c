@@ -1,0 +1,65 @@
+/* Loaded before the C library by tools/refused_memory: counts the calls that ask for memory, from the start of the
+   program on, and refuses the one whose number stands in REFUSED, or all from it on where ALL is set. How many there
+   were is written to the file descriptor 9 at the end, if it is open. */
+#define _GNU_SOURCE
+#include <dlfcn.h>
+#include <errno.h>
+#include <stdatomic.h>
+#include <stddef.h>
+#include <stdio.h>
+#include <stdlib.h>
+#include <unistd.h>
+
+extern void *__libc_malloc(size_t);
+extern void *__libc_calloc(size_t, size_t);
+extern void *__libc_realloc(void *, size_t);
+extern void *__libc_memalign(size_t, size_t);
+
+static atomic_ulong asked;
+static unsigned long refused;
+static int all, begun;
+
+__attribute__((constructor)) static void begin(void)
+{
+    const char *number = getenv("REFUSED");
+    refused = number ? strtoul(number, NULL, 10) : 0;
+    all = getenv("ALL") != NULL;
+    begun = 1;
+}
+
+__attribute__((destructor)) static void end(void)
+{
+    char text[32];
+    int length = snprintf(text, sizeof text, "%lu\n", atomic_load(&asked));
+    begun = 0;
+    if (write(9, text, (size_t)length) < 0)
+        return;
+}
+
+static int is_refused(void)
+{
+    unsigned long number;
+    if (!begun)
+        return 0;
+    number = atomic_fetch_add(&asked, 1) + 1;
+    if (refused && (number == refused || (all && number > refused))) {
+        errno = ENOMEM;
+        return 1;
+    }
+    return 0;
+}
+
+void *malloc(size_t size) { return is_refused() ? NULL : __libc_malloc(size); }
+void *calloc(size_t count, size_t size) { return is_refused() ? NULL : __libc_calloc(count, size); }
+void *realloc(void *old, size_t size) { return is_refused() ? NULL : __libc_realloc(old, size); }
+void *memalign(size_t align, size_t size) { return is_refused() ? NULL : __libc_memalign(align, size); }
+void *aligned_alloc(size_t align, size_t size) { return is_refused() ? NULL : __libc_memalign(align, size); }
+
+int posix_memalign(void **to, size_t align, size_t size)
+{
+    void *made = is_refused() ? NULL : __libc_memalign(align, size);
+    if (!made)
+        return ENOMEM;
+    *to = made;
+    return 0;
+}
