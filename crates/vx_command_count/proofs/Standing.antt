@@ -285,7 +285,7 @@ keeps defined whole fitting name batch scans files records taken taken_now held 
     let first-whole : IsWholePage first = whole-at images (2 * place) first all one in
     let second-whole : IsWholePage second = whole-at images (2 * place + 1) second all other in
     let it : Stands batch (place + 1) events place (record_of (Add (key_at batch place) (sheet_marked sheet))) (sheet_records election batch (begun election records events) images) =
-    sheet-stands election batch first second (sheet_marked sheet) (place + 1) most
+    sheet-stands election batch first second (sheet_marked sheet) (place + 1) (omega (arith, most))
     (λ image. fitting election image first second sheet valid first-whole.whole second-whole.whole fits)
     images place (begun election records events) one other (omega arith) new in
     let Kept : List (List ℕ) → Type 0 = λ list. KeepsFront list held held_now answer in
@@ -294,7 +294,7 @@ keeps defined whole fitting name batch scans files records taken taken_now held 
       behind = it.behind;
       few = it.few;
       earlier = λ k d within. earlier-of batch place (get_or it.before k d) (it.earlier k d within);
-      stands = it.stands;
+      stands = λ room. it.stands (omega (arith, room));
       kept =
           subst Kept
           (count-records name batch scans files records election plans events is planned replayed
