@@ -1,4 +1,0 @@
-pub mod Marks
-pub mod Mixed
-pub mod Made
-pub mod Halves
