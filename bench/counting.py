@@ -8,6 +8,8 @@ import time
 
 HERE = os.path.dirname(os.path.abspath(__file__))
 RUNS = 5
+CONTESTS, OPTIONS = 24, 5
+TABLE = "CREATE TABLE journal(place INTEGER PRIMARY KEY, body BLOB NOT NULL)"
 
 # callgrind counts a repeated string instruction once for each byte, so the C library is told not to
 # use them.
@@ -29,35 +31,36 @@ def page_election(room, pages):
     return path
 
 
-TABLE = "CREATE TABLE journal(place INTEGER PRIMARY KEY, body BLOB NOT NULL)"
-CONTESTS, OPTIONS = 24, 5
+def record_of(number, batch="b1"):
+    """The record that adds a sheet of 24 contests of five options to the count of such an election. Each contest has one
+    marked candidate, never the write-in slot, which is the last option."""
+    contests = []
+    for contest in range(CONTESTS):
+        marked = (number + contest) % (OPTIONS - 1)
+        states = "".join("m" if option == marked else "c" for option in range(OPTIONS))
+        contests.append("%d:%s" % (contest, states))
+    return "1 add %s %d 0 1 precinct %s" % (batch, number, " ".join(contests))
 
 
-def states_of(number, contest):
-    """Each contest has one marked candidate, never the write-in slot, which is the last option."""
-    marked = (number + contest) % (OPTIONS - 1)
-    return "".join("m" if option == marked else "c" for option in range(OPTIONS))
-
-
-def record_of(number):
-    """The record of a sheet of 24 contests of five options, all of them marked as they should be."""
-    contests = " ".join("%d:%s" % (contest, states_of(number, contest)) for contest in range(CONTESTS))
-    return "1 add b1 %d 0 1 precinct %s" % (number, contests)
-
-
-def made_journal(room, election, sheets):
-    """The path of a journal of so many sheets of an election's first card."""
-    path = os.path.join(room, "journal-%d" % sheets)
+def made_journal(room, name, election, records):
+    """The path of a journal of an election that has these records behind its header."""
+    path = os.path.join(room, name)
     with open(election, "rb") as file:
         header = "1 election " + hashlib.sha256(file.read()).hexdigest()
     journal = sqlite3.connect(path)
     journal.execute("PRAGMA journal_mode=WAL")
     journal.execute(TABLE)
-    records = [header] + [record_of(number) for number in range(1, sheets + 1)]
-    journal.executemany("INSERT INTO journal VALUES (?, ?)", ((place, body.encode()) for place, body in enumerate(records)))
+    journal.execute("INSERT INTO journal VALUES (0, ?)", (header.encode(),))
+    rows = ((place, body.encode()) for place, body in enumerate(records, 1))
+    journal.executemany("INSERT INTO journal VALUES (?, ?)", rows)
     journal.commit()
     journal.close()
     return path
+
+
+def sheets_journal(room, election, sheets):
+    """The path of a journal of an election that has so many such sheets."""
+    return made_journal(room, "journal-%d" % sheets, election, map(record_of, range(1, sheets + 1)))
 
 
 def output(command):
@@ -65,11 +68,13 @@ def output(command):
     return subprocess.run(command, check=True, stdout=subprocess.PIPE).stdout
 
 
-def instructions(command, room, status=0):
-    """How many instructions a command takes that ends with a status, its output thrown away."""
+def instructions(command, room, within=None):
+    """How many instructions a command takes, its output thrown away; or those within the calls of one function alone."""
     counts = os.path.join(room, "counts")
-    ran = subprocess.run(
-        ["valgrind", "--tool=callgrind", "--callgrind-out-file=" + counts] + command,
+    toggle = [] if within is None else ["--toggle-collect=" + within]
+    subprocess.run(
+        ["valgrind", "--tool=callgrind", "--callgrind-out-file=" + counts] + toggle + command,
+        check=True,
         stdout=subprocess.DEVNULL,
         stderr=subprocess.DEVNULL,
         env=dict(os.environ, GLIBC_TUNABLES=WITHOUT_REPEATS),
@@ -81,6 +86,17 @@ def instructions(command, room, status=0):
             if line.startswith("totals:"):
                 return int(line.split()[1])
     raise SystemExit("callgrind counts nothing: is %s the built program itself?" % command[0])
+
+
+def peak_megabytes(command):
+    """The peak memory of a command, its output thrown away."""
+    said = subprocess.run(
+        ["/usr/bin/time", "-f", "%M"] + command,
+        check=True,
+        stdout=subprocess.DEVNULL,
+        stderr=subprocess.PIPE,
+    )
+    return int(said.stderr.split()[-1]) / 1024
 
 
 def seconds(command):
