@@ -1,6 +1,0 @@
-pub mod Legal
-pub mod Marks
-pub mod Seats
-pub mod Rule
-pub mod Plays
-pub mod Calls
