@@ -1,0 +1,11 @@
+pub mod Totals
+pub mod Prefixes
+pub mod Marking
+pub mod Legally
+pub mod Steps
+pub mod Turning
+pub mod Counting
+pub mod Parting
+pub mod Ending
+pub mod Joining
+pub mod Crossing

@@ -1,0 +1,12 @@
+use Rattle.std.proofs.Common.{rules, arith, ◌≡◌, ◌<◌, ap, sym, ◌∙◌, subst}
+use mathlib.Core.Option.{none}
+use Rattle.atomic_table.specs.Table.{step}
+use Rattle.vx_shared.proofs.Turning.{raises}
+use Rattle.vx_shared.proofs.turns.leave.Goals as goal
+
+pub fetch_add-requires : goal.fetch_add-requires
+fetch_add-requires c = let words = c.requires.board.0 in (
+  c.requires.place,
+  omega arith,
+  raises c.args.steps.now.table_id.slots c.args.seat.now.id c.args.seat.now.me (step c.args.steps.now.table_id.slots 1 1 0 none) c.requires.may,
+)
