@@ -1,5 +1,6 @@
-ghost use Rattle.std.specs.Prelude.{◌≡◌, ◌-◌, ◌<◌, ◌≤◌, IfOk, pos};
+ghost use Rattle.std.specs.Prelude.{◌≡◌, ◌*◌, ◌-◌, ◌<◌, ◌≤◌, IfOk, length, pos};
 ghost use Rattle.vx_plane.specs.Plane.{page_of, dark_at, nowhere, with_pixel, rectangle, painted};
+ghost use Rattle.vx_bits.specs.Packed.{packed_page, stride_of};
 ghost use Rattle.vx_bits.specs.Runs.{IsRun};
 
 use crate::packed::{put, stride};
@@ -42,6 +43,21 @@ impl BitPage {
             height,
             rows: vec![in alloc; 0; size]?,
         })
+    }
+
+    /// The page of packed rows: most significant bit first, each row padded to a byte, whatever the
+    /// padding. Its sides are in pixels.
+    pub fn from_rows(width: u32, height: u32, rows: Vec<u8>) -> BitPage
+        requires width { (0 < width) × (width ≤ 4096) }
+        requires height { (0 < height) × (height ≤ 4096) }
+        requires size { length rows.items ≡ height * stride_of width }
+        ensures { result ≡ packed_page width height rows.items }
+    {
+        BitPage {
+            width,
+            height,
+            rows,
+        }
     }
 
     /// The number of columns.

@@ -45,7 +45,8 @@ fn count_pairs<S: Sink, K: Keeper>(
         counting.old counting.new (_images.now ++ more) more
         (S.taken out.old) (S.taken out.new) (K.held keeper.old) (K.held keeper.new) result }
     ensures election { OnOk result (counting.new.journal.center.election ≡ setting.now.election.now) }
-    ensures more { OnOk result (2 * sheets_in counting.new.tally ≡ 2 * sheets_in counting.old.tally + length _images.now) }
+    ensures more { OnOk result
+        (2 * sheets_in counting.new.tally ≡ 2 * sheets_in counting.old.tally + length _images.now) }
     ensures devices { TouchesBoth (S.faults out.old) (S.faults out.new)
         (K.faults keeper.old) (K.faults keeper.new) result }
 {
@@ -78,7 +79,8 @@ pub(crate) fn count_images<R: Threads + Sync, S: Sink, K: Keeper, G: Gate>(
         counting.old counting.new (images.now ++ more) more
         (S.taken out.old) (S.taken out.new) (K.held keeper.old) (K.held keeper.new) result }
     ensures election { OnOk result (counting.new.journal.center.election ≡ setting.now.election.now) }
-    ensures more { OnOk result (2 * sheets_in counting.new.tally ≡ 2 * sheets_in counting.old.tally + length images.now) }
+    ensures more { OnOk result
+        (2 * sheets_in counting.new.tally ≡ 2 * sheets_in counting.old.tally + length images.now) }
     ensures devices { TouchesBoth (S.faults out.old) (S.faults out.new)
         (K.faults keeper.old) (K.faults keeper.new) result }
 {

@@ -95,10 +95,10 @@ fn add_numbered<K: Keeper>(
     requires some { 0 < number }
     requires most { number ≤ 999999 }
     requires added { CanBeAdded setting.now.election.now sheet }
-    ensures came { IfOk result (λ came. came
-        ≡ spec.came_if journal.old (Some (Event.Add (record { batch = setting.now.batch.now; number = number }) sheet))) }
-    ensures next { OnOk result (journal.new
-        ≡ spec.journal_if journal.old (Some (Event.Add (record { batch = setting.now.batch.now; number = number }) sheet))) }
+    ensures came { IfOk result (λ came. came ≡ spec.came_if journal.old
+        (Some (Event.Add (record { batch = setting.now.batch.now; number = number }) sheet))) }
+    ensures next { OnOk result (journal.new ≡ spec.journal_if journal.old
+        (Some (Event.Add (record { batch = setting.now.batch.now; number = number }) sheet))) }
     ensures done { IsRecorded (spec.keep_if journal.old
         (Some (Event.Add (record { batch = setting.now.batch.now; number = number }) sheet)))
         (K.held keeper.old) (K.held keeper.new) (answer_of result) }
@@ -123,8 +123,10 @@ fn add_sheet<K: Keeper>(
     requires election { journal.old.center.election ≡ setting.now.election.now }
     requires some { 0 < number }
     requires added { CanBeAdded setting.now.election.now sheet }
-    ensures came { IfOk result (λ came. came ≡ spec.came_if journal.old (spec.added_by setting.now.batch.now number sheet)) }
-    ensures next { OnOk result (journal.new ≡ spec.journal_if journal.old (spec.added_by setting.now.batch.now number sheet)) }
+    ensures came { IfOk result (λ came.
+        came ≡ spec.came_if journal.old (spec.added_by setting.now.batch.now number sheet)) }
+    ensures next { OnOk result
+        (journal.new ≡ spec.journal_if journal.old (spec.added_by setting.now.batch.now number sheet)) }
     ensures done { IsRecorded (spec.keep_if journal.old (spec.added_by setting.now.batch.now number sheet))
         (K.held keeper.old) (K.held keeper.new) (answer_of result) }
     ensures keeper { TouchesKeeper (K.faults keeper.old) (K.faults keeper.new) result }
@@ -151,7 +153,8 @@ fn settle<K: Keeper>(
     requires some { 0 < number }
     requires added { IfOk read (CanBeAdded setting.now.election.now) }
     ensures came { IfOk result (λ came. came ≡ spec.came_of journal.old setting.now.batch.now number read) }
-    ensures next { OnOk result (journal.new ≡ spec.journal_if journal.old (spec.event_of setting.now.batch.now number read)) }
+    ensures next { OnOk result
+        (journal.new ≡ spec.journal_if journal.old (spec.event_of setting.now.batch.now number read)) }
     ensures done { IsRecorded (spec.keep_if journal.old (spec.event_of setting.now.batch.now number read))
         (K.held keeper.old) (K.held keeper.new) (answer_of result) }
     ensures keeper { TouchesKeeper (K.faults keeper.old) (K.faults keeper.new) result }

@@ -74,7 +74,8 @@ fn accept<S: Sink, K: Keeper>(
     keeper: &mut K,
 ) -> Result<(), Halt>
     requires { Fits journal.old.center.election event.now }
-    ensures done { Accepts journal.old.center.election journal.old.center.events journal.new.center.events number event.now
+    ensures done { Accepts journal.old.center.election
+        journal.old.center.events journal.new.center.events number event.now
         (S.taken out.old) (S.taken out.new) (K.held keeper.old) (K.held keeper.new) result }
     ensures election { OnOk result (journal.new.center.election ≡ journal.old.center.election) }
     ensures no_read_fault { is_read_fault result ≡ false }

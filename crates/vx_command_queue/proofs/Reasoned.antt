@@ -7,7 +7,8 @@ use Rattle.std.proofs.lemmas.List.Concat.{flat_map-append}
 use Rattle.vx_election_model.specs.declared.reason.Reason.{Reason}
 use Rattle.vx_election_model.specs.declared.reason.ReasonSet.{ReasonSet}
 use Rattle.vx_election_model.specs.Reasons.{has_reason}
-use Rattle.vx_command_queue.specs.Queue.{reason_word, all_reasons, with_commas, further}
+use Rattle.vx_rules.specs.Reasons.{reason_word}
+use Rattle.vx_command_queue.specs.Queue.{all_reasons, with_commas, further}
 
 -- the words of the first reasons that a set has
 abbrev pub words_of : ReasonSet → ℕ → List (List ℕ)

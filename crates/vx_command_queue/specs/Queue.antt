@@ -10,7 +10,7 @@ use Rattle.vx_election_model.specs.declared.reason.ReasonSet.{ReasonSet}
 use Rattle.vx_election_model.specs.Reasons.{has_reason}
 use Rattle.vx_rules.specs.declared.marks.ContestMarks.{ContestMarks}
 use Rattle.vx_rules.specs.declared.marks.SheetMarks.{SheetMarks}
-use Rattle.vx_rules.specs.Reasons.{is_blank_sheet, reasons_of}
+use Rattle.vx_rules.specs.Reasons.{is_blank_sheet, reason_word, reasons_of}
 use Rattle.vx_events.specs.declared.event.Event.{Event}
 use Rattle.vx_events.specs.declared.key.Key.{Key}
 use Rattle.vx_center.specs.Sheets.{Added, sheets_in}
@@ -23,14 +23,6 @@ abbrev pub line_of : List (List ℕ) → List ℕ
 line_of [] = 10 ∷ []
 line_of (word ∷ []) = word ++ 10 ∷ []
 line_of (word ∷ words) = word ++ 32 ∷ line_of words
-
--- a reason's name
-abbrev pub reason_word : Reason → List ℕ
-reason_word Overvote = codes "Overvote"
-reason_word Undervote = codes "Undervote"
-reason_word MarginalMark = codes "MarginalMark"
-reason_word BlankBallot = codes "BlankBallot"
-reason_word WriteIn = codes "WriteIn"
 
 -- all reasons, in their order
 abbrev pub all_reasons : List Reason

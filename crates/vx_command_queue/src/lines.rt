@@ -5,19 +5,7 @@ ghost use Rattle.vx_command_queue.specs.Queue.{reasons_word, wait_line};
 use vx_base::OutOfMemory;
 use vx_election_model::{Reason, ReasonSet};
 use vx_events::Key;
-
-/// A reason's name.
-fn reason_word(reason: Reason) -> &'static str
-    ensures { result.now ≡ lines.reason_word reason }
-{
-    match reason {
-        Reason::Overvote => "Overvote",
-        Reason::Undervote => "Undervote",
-        Reason::MarginalMark => "MarginalMark",
-        Reason::BlankBallot => "BlankBallot",
-        Reason::WriteIn => "WriteIn",
-    }
-}
+use vx_rules::reason_word;
 
 /// Adds a word behind a comma, or without one where it is the first.
 fn push_word(text: &mut String, first: bool, word: &str) -> Result<(), OutOfMemory>

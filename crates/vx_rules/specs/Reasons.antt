@@ -1,5 +1,5 @@
 -- For which reasons a person has to look at a contest of a sheet.
-use Rattle.std.specs.Prelude.{◌&&◌, Bool, true, false, List, [], ◌∷◌, length, drop, count_by, nat_lt}
+use Rattle.std.specs.Prelude.{◌&&◌, ℕ, Bool, true, false, List, [], ◌∷◌, length, drop, codes, count_by, nat_lt}
 use Rattle.std.specs.List.{list_all, list_any}
 use Rattle.vx_grid.specs.declared.state.State.{State}
 use Rattle.vx_grid.specs.declared.state.State.TheVariants.{Marked, Marginal, Clear}
@@ -59,3 +59,11 @@ abbrev pub reasons_of : Contest → List State → Bool → ReasonSet → Reason
 reasons_of contest states sheet_blank enabled =
     let test = is_reason contest states sheet_blank enabled in
     test Overvote ∷ test Undervote ∷ test MarginalMark ∷ test BlankBallot ∷ test WriteIn ∷ []
+
+-- a reason's name
+abbrev pub reason_word : Reason → List ℕ
+reason_word Overvote = codes "Overvote"
+reason_word Undervote = codes "Undervote"
+reason_word MarginalMark = codes "MarginalMark"
+reason_word BlankBallot = codes "BlankBallot"
+reason_word WriteIn = codes "WriteIn"

@@ -9,4 +9,4 @@ mod marks;
 mod rules;
 
 pub use marks::{ContestMarks, ContestMarksList, SheetMarks};
-pub use rules::{is_blank, reasons};
+pub use rules::{is_blank, reason_word, reasons};

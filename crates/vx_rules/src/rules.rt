@@ -5,6 +5,7 @@ ghost use Rattle.vx_election_model.specs.Reasons.{has_reason};
 ghost use Rattle.vx_election_model.specs.declared.reason.Reason.{Reason};
 ghost use Rattle.vx_election_model.specs.declared.reason.Reason.TheVariants.{MarginalMark};
 ghost use Rattle.vx_rules.specs.Reasons.{holds, is_blank_sheet, is_clear, is_enabled, is_marginal, is_marked, reasons_of};
+ghost use Rattle.vx_rules.specs.Reasons as words;
 
 use crate::marks::{ContestMarks, SheetMarks};
 use vx_election_model::{Contest, Reason, ReasonSet};
@@ -63,6 +64,19 @@ pub fn is_blank(sheet: &SheetMarks) -> bool
         .as_slice()
         .iter()
         .all(|marks| are_clear(marks.states.as_slice()))
+}
+
+/// A reason's name.
+pub fn reason_word(reason: Reason) -> &'static str
+    ensures { result.now ≡ words.reason_word reason }
+{
+    match reason {
+        Reason::Overvote => "Overvote",
+        Reason::Undervote => "Undervote",
+        Reason::MarginalMark => "MarginalMark",
+        Reason::BlankBallot => "BlankBallot",
+        Reason::WriteIn => "WriteIn",
+    }
 }
 
 /// The reasons that hold of a contest of a sheet and are enabled. `sheet_blank` says whether every

@@ -46,7 +46,8 @@ impl<'e> Held<'e> {
     /// all is as before.
     pub fn apply(&mut self, alloc: Global, event: Event) -> Result<Reply, OutOfMemory>
         requires { Fits self.old.start.election event }
-        ensures called { IfOk result (λ reply. self.new ≡ stored self.old.start (self.old.history ++ entry event reply ∷ [])) }
+        ensures called { IfOk result (λ reply.
+            self.new ≡ stored self.old.start (self.old.history ++ entry event reply ∷ [])) }
         ensures legal { IsLegal self.new.start self.new.history }
         ensures as_before { OnErr result (self.new ≡ self.old) }
     {

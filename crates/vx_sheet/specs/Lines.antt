@@ -11,7 +11,7 @@ use Rattle.vx_election_model.specs.Reasons.{has_reason}
 use Rattle.vx_records.specs.Records.{spaced}
 use Rattle.vx_rules.specs.declared.marks.ContestMarks.{ContestMarks}
 use Rattle.vx_rules.specs.declared.marks.SheetMarks.{SheetMarks}
-use Rattle.vx_rules.specs.Reasons.{is_blank_sheet, reasons_of}
+use Rattle.vx_rules.specs.Reasons.{is_blank_sheet, reason_word, reasons_of}
 use Rattle.vx_scan_model.specs.FaultTexts as page
 use Rattle.vx_sheet.specs.FaultTexts as sheet
 use Rattle.vx_sheet.specs.declared.came.Came.{Came}
@@ -20,14 +20,6 @@ use Rattle.vx_sheet.specs.declared.came.Came.TheVariants.{Added, Repeated, Unrea
 -- a line: its first word, the others each behind a blank, and a line end
 abbrev pub line_of : List ℕ → List (List ℕ) → List ℕ
 line_of word others = word ++ spaced others ++ 10 ∷ []
-
--- a reason's name
-abbrev pub reason_word : Reason → List ℕ
-reason_word Overvote = codes "Overvote"
-reason_word Undervote = codes "Undervote"
-reason_word MarginalMark = codes "MarginalMark"
-reason_word BlankBallot = codes "BlankBallot"
-reason_word WriteIn = codes "WriteIn"
 
 -- `reason B N CONTESTID REASON`
 abbrev pub reason_line : List ℕ → ℕ → List ℕ → Reason → List ℕ

@@ -21,7 +21,7 @@ mod reading;
 pub use came::Came;
 pub use fault::SheetFault;
 pub use laws::{either_page_may_come_first, paired_sheets_can_be_added, sheets_fit};
-pub use lines::{push_counted, push_lines, reason_word};
+pub use lines::{push_counted, push_lines};
 pub use pairing::pair;
 pub use reading::{PageRead, read_sheet};
 

@@ -9,20 +9,7 @@ ghost use Rattle.vx_sheet.specs.Shows.{IsReadAll};
 use crate::came::Came;
 use vx_base::OutOfMemory;
 use vx_election_model::{Contest, Election, Reason, ReasonSet};
-use vx_rules::{ContestMarks, SheetMarks, is_blank, reasons};
-
-/// A reason's name.
-pub fn reason_word(reason: Reason) -> &'static str
-    ensures { result.now ≡ lines.reason_word reason }
-{
-    match reason {
-        Reason::Overvote => "Overvote",
-        Reason::Undervote => "Undervote",
-        Reason::MarginalMark => "MarginalMark",
-        Reason::BlankBallot => "BlankBallot",
-        Reason::WriteIn => "WriteIn",
-    }
-}
+use vx_rules::{ContestMarks, SheetMarks, is_blank, reason_word, reasons};
 
 /// Adds the line of a reason of a contest.
 fn push_reason(
