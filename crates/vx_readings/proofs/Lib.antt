@@ -1,6 +1,7 @@
 pub mod ReadingTexts
 pub mod Parts
 pub mod Spelled
+pub mod Digits
 pub mod FilledPlaces
 pub mod ReadBubbles
 pub mod Pages

@@ -1,5 +1,6 @@
 -- A text in parts, by the first place of a byte.
-use Rattle.std.proofs.Common.{◌≡◌, ◌<◌, ℕ, zero, suc, Bool, true, false, List, [], ◌∷◌, length, take, drop, get_or, cond, arith, refl, sym, ap}
+use Rattle.std.proofs.Common.{◌≡◌, ◌<◌, ◌≤◌, ◌+◌, ℕ, zero, suc, Bool, true, false, List, [], ◌∷◌, length, take, drop, get_or, cond, arith, refl, sym, ap, ◌∙◌, inl, inr}
+use Rattle.std.proofs.Math.Nat.{eq-or-lt_of_le}
 use Rattle.std.specs.Prelude.{◌==◌, MatchBool}
 use Rattle.vx_base.proofs.Numbers.{equal-yes, equal-from_yes}
 use Rattle.vx_readings.specs.Parts.{begun_with, parts_of, lines_of}
@@ -11,6 +12,15 @@ is_false false never = refl
 -- the byte stands at none of the first places of a text
 abbrev pub StandsNowhere : ℕ → List ℕ → ℕ → Type 0
 StandsNowhere at text end = (k : ℕ) → k < end → (get_or text k 0 == at) ≡ true → ⊥
+
+-- it stands nowhere before the next place either, where it doesn't stand at this one
+pub none_after : (at : ℕ) (text : List ℕ) (end : ℕ) → StandsNowhere at text end → (get_or text end 0 ≡ at → ⊥) → StandsNowhere at text (end + 1)
+none_after at text end none here k below is =
+    let k_or_less : k ≤ end = omega (arith, below) in
+    elim (eq-or-lt_of_le k_or_less) [
+      | inl same ↦ here (equal-from_yes (get_or text end 0) at (ap (λ (n : ℕ). get_or text n 0 == at) (sym same) ∙ is))
+      | inr less ↦ none k less is
+    ]
 
 -- a text without the byte is one part
 pub parts_of-none : (at : ℕ) (text : List ℕ) → StandsNowhere at text (length text) → parts_of at text ≡ text ∷ []

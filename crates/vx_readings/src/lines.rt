@@ -12,10 +12,13 @@ pub(crate) fn split_at<'a>(at: u8, text: &'a [u8]) -> Option<(&'a [u8], &'a [u8]
         (parts_of at text.now ≡ text.now ∷ [])
         (λ found. parts_of at text.now ≡ found.0.now ∷ parts_of at found.1.now) }
 {
-    match memchr(at, text) {
-        Some(place) => Some((&text[..place], &text[place + 1..])),
-        None => None,
+    // Words are short: looking at one byte after another is cheaper than `memchr`.
+    for place in 0..text.len() {
+        if text[place] == at {
+            return Some((&text[..place], &text[place + 1..]));
+        }
     }
+    None
 }
 
 /// The first line of a text that isn't empty, and the text behind it.

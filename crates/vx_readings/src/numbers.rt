@@ -1,19 +1,48 @@
-ghost use Rattle.std.specs.Prelude.{◌≡◌};
+ghost use Rattle.std.specs.Prelude.{◌≡◌, ◌<◌, ◌≤◌, ◌↔◌, IsTrue, MatchOption, length, slice_index};
+ghost use Rattle.std.specs.Str.Parse.{AllDigits, digits_value};
 ghost use Rattle.vx_readings.specs.Numbers as numbers;
 
-use std::str;
-use vx_base::read_number;
+/// The number that a word of digits alone writes, of which it has at most ten.
+fn value_of(word: &[u8]) -> Option<u64>
+    requires { length word.now ≤ 10 }
+    ensures { MatchOption result
+        (¬ AllDigits 10 word.now)
+        (λ value. AllDigits 10 word.now × (value ≡ digits_value 10 word.now)) }
+{
+    let mut value = 0u64;
+    for place in 0..word.len() {
+        let byte = word[place];
+        if byte < b'0' || byte > b'9' {
+            return None;
+        }
+        value = 10 * value + u64::from(byte - b'0');
+    }
+    Some(value)
+}
+
+/// Whether a word has more than a `0` that it begins with.
+fn has_leading_zero(word: &[u8]) -> bool
+    ensures { IsTrue result ↔ ((slice_index word.now 0 ≡ 48) × (1 < length word.now)) }
+{
+    word.len() > 1 && word[0] == b'0'
+}
 
 /// The number of 32 bits that a word spells.
 pub(crate) fn number_in(word: &[u8]) -> Option<u32>
     ensures { result ≡ numbers.number_in word.now }
 {
-    if word.len() > 10 {
+    if word.is_empty() || word.len() > 10 || has_leading_zero(word) {
         return None;
     }
-    match str::from_utf8(word) {
-        Ok(text) => read_number(text, u32::MAX),
-        Err(_) => None,
+    match value_of(word) {
+        Some(value) => {
+            if value <= u64::from(u32::MAX) {
+                Some(value as u32)
+            } else {
+                None
+            }
+        }
+        None => None,
     }
 }
 

@@ -1,22 +1,30 @@
-use Rattle.std.proofs.Common.{◌≤◌, length, arith, sym, subst, ap, ◌∙◌}
-use Rattle.std.specs.Fmt.{decimal}
-use Rattle.std.specs.Str.{IsUtf8}
-use Rattle.std.proofs.lemmas.Fmt.{length-decimal-le, IsAscii-decimal}
-use Rattle.std.proofs.lemmas.Str.{IsUtf8-from_ascii}
-use Rattle.vx_readings.specs.Numbers.{number_in}
-use Rattle.vx_readings.proofs.Spelled.{number_in-none, number_in-read}
+use Rattle.std.proofs.Common.{◌≡◌, ◌<◌, length, get_or, arith, ap, sym, ◌∙◌, Some, rules}
+use Rattle.vx_readings.proofs.Digits.{digits-spell, none-not_digits, none-too_great, none-leading_zero, none-empty, none-long, one_alone}
 use Rattle.vx_readings.proofs.numbers.number_in.Goals as goal
+use Rattle.vx_readings.proofs.numbers.number_in.Goals.{then-is_empty-via-then-is_empty, then-is_empty-via-else-is_empty+then-word-gt10, then-is_empty-via-else-is_empty+else-word-gt10+then-has_leading_zero}
 
-pub returns-then-word-gt10 : goal.returns-then-word-gt10
-returns-then-word-gt10 c =
-    sym (number_in-none c.args.word.now (λ n small is.
-    let few : length (decimal n) ≤ 10 = length-decimal-le 10 n (omega arith) (omega arith) (omega arith) in
-    omega (arith, few, ap length is, c.if-word-gt10.true)))
+pub returns-then-is_empty : goal.returns-then-is_empty
+returns-then-is_empty c =
+    elim c.then-is_empty.branch [
+      | then-is_empty-via-then-is_empty w ↦ sym (none-empty c.args.word.now (search (rules, w.if-is_empty.ensures)))
+      | then-is_empty-via-else-is_empty+then-word-gt10 w ↦ sym (none-long c.args.word.now (omega (arith, w.if-word-gt10.true)))
+      | then-is_empty-via-else-is_empty+else-word-gt10+then-has_leading_zero w ↦
+          let zero : (get_or c.args.word.now 0 0 ≡ 48) × (1 < length c.args.word.now) = search (rules, w.if-has_leading_zero.ensures) in
+          sym (none-leading_zero c.args.word.now zero.0 zero.1)
+    ]
 
-pub returns-in-Ok : goal.returns-in-Ok
-returns-in-Ok c =
-    number_in-read c.in-Ok.text.now c.read_number.result c.read_number.ensures ∙ ap number_in c.in-Ok.ensures.cases.0
+pub returns-then-value-from : goal.returns-then-value-from
+returns-then-value-from c =
+    let word = c.args.word.now in
+    let some : 0 < length word = search (rules, c.if-is_empty.ensures) in
+    let alone : ¬ ((get_or word 0 0 ≡ 48) × (1 < length word)) = search (rules, c.if-has_leading_zero.ensures) in
+    let told = c.in-Some.ensures in
+    let spelled = digits-spell word told.0 some (λ zero. one_alone (length word) some (λ more. alone (zero, more))) (omega (arith, c.if-value-from.true, c.from.ensures, told.1)) in
+    ap Some told.1 ∙ sym spelled
 
-pub returns-in-Err : goal.returns-in-Err
-returns-in-Err c =
-    sym (number_in-none c.args.word.now (λ n small is. c.in-Err.ensures.cases.0 (subst IsUtf8 (sym is) (IsUtf8-from_ascii (decimal n) (IsAscii-decimal n (omega arith))))))
+pub returns-else-value-from : goal.returns-else-value-from
+returns-else-value-from c =
+    sym (none-too_great c.args.word.now (omega (arith, c.if-value-from.false, c.from.ensures, c.in-Some.ensures.1)))
+
+pub returns-in-None : goal.returns-in-None
+returns-in-None c = sym (none-not_digits c.args.word.now c.in-None.ensures)
