@@ -354,3 +354,41 @@ pub(crate) fn say_event(alloc: Global, words: &[&[u8]], event: &Event) -> Result
         }
     }
 }
+
+/// The words of a header before its digest.
+const HEADER: &[u8] = b"1 election ";
+
+/// The digits of a digest, two for each of its 32 bytes.
+const DIGITS: &[u8] = b"0123456789abcdef";
+
+/// How many bytes from the front begin a header.
+pub(crate) fn longest_header_front(body: &[u8]) -> u32 {
+    let mut longest = 0u32;
+    for (place, byte) in body.iter().take(75).enumerate() {
+        let is_right = match HEADER.get(place) {
+            Some(own) => *own == *byte,
+            None => DIGITS.iter().any(|digit| *digit == *byte),
+        };
+        if !is_right {
+            break;
+        }
+        longest = longest.saturating_add(1);
+    }
+    longest
+}
+
+/// Whether the digits of a header say the bytes of a digest.
+pub(crate) fn says_digest(header: &[u8], digest: &[u8]) -> bool {
+    let digits = header.get(11..).unwrap_or(&[]);
+    for (place, byte) in digest.iter().enumerate() {
+        let first = place.saturating_mul(2);
+        let high = DIGITS.get(usize::from(*byte / 16)).copied();
+        let low = DIGITS.get(usize::from(*byte % 16)).copied();
+        if digits.get(first).copied() != high
+            || digits.get(first.saturating_add(1)).copied() != low
+        {
+            return false;
+        }
+    }
+    digits.len() == 64 && digest.len() == 32
+}

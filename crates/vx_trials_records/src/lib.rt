@@ -1,4 +1,4 @@
-//! Trials of the records of a journal, against a second grammar that is written plainly here. Nothing
+//! Trials of the records of a journal, its header among them, against a second grammar that is written plainly here. Nothing
 //! stands on it.
 #![tactic(auto)]
 

@@ -1,10 +1,10 @@
-//! Records beside the second grammar: all their fronts, and all changes of one byte.
+//! Records and headers beside the second grammar: all their fronts, and all changes of one byte.
 
-use crate::grammar::{longest_front, record_words, say_event};
+use crate::grammar::{longest_front, longest_header_front, record_words, say_event, says_digest};
 use std::alloc::Global;
 use std::process::Abort;
 use std::test::Fail;
-use vx_records::{JournalFault, decode};
+use vx_records::{JournalFault, decode, header_digest};
 
 const ADDS: [&str; 12] = [
     "1 add b1 1 0 1 precinct 0:cc",
@@ -111,8 +111,30 @@ const CANDIDATES: [&str; 12] = [
     "1 name 7 D 8 14 98 candidate 12",
 ];
 
-/// Whether bytes are read as the second grammar reads them, of which so many begin a record.
-fn is_read_alike(alloc: Global, body: &[u8], known: usize) -> Result<bool, Fail> {
+const HEADERS: [&str; 12] = [
+    "1 election 0000000000000000000000000000000000000000000000000000000000000000",
+    "1 election ffffffffffffffffffffffffffffffffffffffffffffffffffffffffffffffff",
+    "1 election 0123456789abcdef0123456789abcdef0123456789abcdef0123456789abcdef",
+    "1 election fedcba9876543210fedcba9876543210fedcba9876543210fedcba9876543210",
+    "1 election e3b0c44298fc1c149afbf4c8996fb92427ae41e4649b934ca495991b7852b855",
+    "1 election ba7816bf8f01cfea414140de5dae2223b00361a396177a9cb410ff61f20015ad",
+    "1 election 9999999999999999999999999999999999999999999999999999999999999999",
+    "1 election aaaaaaaaaaaaaaaaaaaaaaaaaaaaaaaaaaaaaaaaaaaaaaaaaaaaaaaaaaaaaaaa",
+    "1 election 00000000000000000000000000000000000000000000000000000000000000ff",
+    "1 election 0f0f0f0f0f0f0f0f0f0f0f0f0f0f0f0ff0f0f0f0f0f0f0f0f0f0f0f0f0f0f0f0",
+    "1 election a1b2c3d4e5f60718293a4b5c6d7e8f90a1b2c3d4e5f60718293a4b5c6d7e8f90",
+    "1 election 8000000000000000000000000000000000000000000000000000000000000001",
+];
+
+/// What bytes are read as: an event's record, or a journal's first one.
+#[derive(Clone, Copy)]
+enum Sort {
+    Event,
+    Header,
+}
+
+/// Whether bytes are read as an event as the second grammar reads them, of which so many begin a record.
+fn is_event_alike(alloc: Global, body: &[u8], known: usize) -> Result<bool, Fail> {
     let read = decode(alloc, body, 7);
     match (record_words(alloc, body)?, read) {
         (Some(words), Ok(event)) => Ok(say_event(alloc, words.as_slice(), &event)?),
@@ -123,19 +145,40 @@ fn is_read_alike(alloc: Global, body: &[u8], known: usize) -> Result<bool, Fail>
     }
 }
 
+/// Whether bytes are read as a header as the second grammar reads them.
+fn is_header_alike(alloc: Global, body: &[u8]) -> Result<bool, Fail> {
+    let longest = longest_header_front(body);
+    match header_digest(alloc, body) {
+        Ok(digest) => Ok(longest == 75 && says_digest(body, digest.as_slice())),
+        Err(JournalFault::BadRecord(0, at)) => {
+            Ok(at == longest && (longest < 75 || body.len() > 75))
+        }
+        Err(_) => Ok(false),
+    }
+}
+
+/// Whether bytes are read as the second grammar reads them, of which so many begin a record.
+fn is_read_alike(alloc: Global, sort: Sort, body: &[u8], known: usize) -> Result<bool, Fail> {
+    match sort {
+        Sort::Event => is_event_alike(alloc, body, known),
+        Sort::Header => is_header_alike(alloc, body),
+    }
+}
+
 /// Compares all fronts of a record, from none of it to all of it.
-fn compare_fronts<R: Abort + AllocGlobal>(rt: &R, body: &[u8]) -> Result<(), Fail> {
+fn compare_fronts<R: Abort + AllocGlobal>(rt: &R, sort: Sort, body: &[u8]) -> Result<(), Fail> {
     for end in 0..body.len() {
         let front = body.get(..end).unwrap_or(&[]);
-        assert!(rt; is_read_alike(rt.alloc(), front, 0)?, "{front:?}");
+        assert!(rt; is_read_alike(rt.alloc(), sort, front, 0)?, "{front:?}");
     }
-    assert!(rt; is_read_alike(rt.alloc(), body, 0)?, "{body:?}");
+    assert!(rt; is_read_alike(rt.alloc(), sort, body, 0)?, "{body:?}");
     Ok(())
 }
 
 /// Compares a record with each byte in the place of one.
 fn compare_changes<R: Abort + AllocGlobal>(
     rt: &R,
+    sort: Sort,
     body: &mut Vec<u8>,
     place: usize,
 ) -> Result<(), Fail> {
@@ -147,7 +190,7 @@ fn compare_changes<R: Abort + AllocGlobal>(
             *byte = other;
         }
         assert!(rt;
-            is_read_alike(rt.alloc(), body.as_slice(), place)?,
+            is_read_alike(rt.alloc(), sort, body.as_slice(), place)?,
             "{body:?}"
         );
     }
@@ -158,51 +201,56 @@ fn compare_changes<R: Abort + AllocGlobal>(
 }
 
 /// Compares records, their fronts, their changes, and what comes of one byte more.
-fn compare_all<R: Abort + AllocGlobal>(rt: &R, records: &[&str]) -> Result<(), Fail> {
+fn compare_all<R: Abort + AllocGlobal>(rt: &R, sort: Sort, records: &[&str]) -> Result<(), Fail> {
     for record in records {
         let mut body = Vec::from_slice(rt.alloc(), record.as_bytes())?;
-        compare_fronts(rt, body.as_slice())?;
+        compare_fronts(rt, sort, body.as_slice())?;
         let size = body.len();
         for place in 0..size {
-            compare_changes(rt, &mut body, place)?;
+            compare_changes(rt, sort, &mut body, place)?;
         }
         body.push(b' ')?;
-        compare_changes(rt, &mut body, size)?;
+        compare_changes(rt, sort, &mut body, size)?;
     }
     Ok(())
 }
 
 #[test]
 fn adds_are_read_alike(rt: HostRuntime) -> Result<(), Fail> {
-    compare_all(&rt, &ADDS)
+    compare_all(&rt, Sort::Event, &ADDS)
 }
 
 #[test]
 fn claims_are_read_alike(rt: HostRuntime) -> Result<(), Fail> {
-    compare_all(&rt, &CLAIMS)
+    compare_all(&rt, Sort::Event, &CLAIMS)
 }
 
 #[test]
 fn releases_are_read_alike(rt: HostRuntime) -> Result<(), Fail> {
-    compare_all(&rt, &RELEASES)
+    compare_all(&rt, Sort::Event, &RELEASES)
 }
 
 #[test]
 fn selections_are_read_alike(rt: HostRuntime) -> Result<(), Fail> {
-    compare_all(&rt, &SELECTIONS)
+    compare_all(&rt, Sort::Event, &SELECTIONS)
 }
 
 #[test]
 fn rulings_are_read_alike(rt: HostRuntime) -> Result<(), Fail> {
-    compare_all(&rt, &RULINGS)
+    compare_all(&rt, Sort::Event, &RULINGS)
 }
 
 #[test]
 fn names_are_read_alike(rt: HostRuntime) -> Result<(), Fail> {
-    compare_all(&rt, &NAMES)
+    compare_all(&rt, Sort::Event, &NAMES)
 }
 
 #[test]
 fn candidates_are_read_alike(rt: HostRuntime) -> Result<(), Fail> {
-    compare_all(&rt, &CANDIDATES)
+    compare_all(&rt, Sort::Event, &CANDIDATES)
+}
+
+#[test]
+fn headers_are_read_alike(rt: HostRuntime) -> Result<(), Fail> {
+    compare_all(&rt, Sort::Header, &HEADERS)
 }
