@@ -68,13 +68,12 @@ def output(command):
     return subprocess.run(command, check=True, stdout=subprocess.PIPE).stdout
 
 
-def instructions(command, room, within=None):
-    """How many instructions a command takes, its output thrown away; or those within the calls of one function alone."""
+def instructions(command, room, within=None, status=0):
+    """How many instructions a command takes that ends so, its output thrown away; or those within the calls of one function alone."""
     counts = os.path.join(room, "counts")
     toggle = [] if within is None else ["--toggle-collect=" + within]
-    subprocess.run(
+    ran = subprocess.run(
         ["valgrind", "--tool=callgrind", "--callgrind-out-file=" + counts] + toggle + command,
-        check=True,
         stdout=subprocess.DEVNULL,
         stderr=subprocess.DEVNULL,
         env=dict(os.environ, GLIBC_TUNABLES=WITHOUT_REPEATS),
