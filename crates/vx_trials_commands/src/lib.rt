@@ -7,4 +7,6 @@ mod gates;
 #[cfg(test)]
 mod rows;
 #[cfg(test)]
+mod stops;
+#[cfg(test)]
 mod trials;

@@ -124,6 +124,32 @@ fn a_script_has_a_mebibyte_at_most(rt: HostRuntime) -> Result<(), Fail> {
     Ok(())
 }
 
+/// A script that claims the blank sheet, and then has one line that fills it up to a mebibyte.
+fn one_long_line(alloc: Global, front: &[u8]) -> Result<Vec<u8>, AllocError> {
+    let mut script = Vec::from_slice(alloc, b"claim 1 b1 1\n")?;
+    script.extend_from_slice(front)?;
+    for _ in script.len()..1_048_576 {
+        script.push(b'x')?;
+    }
+    Ok(script)
+}
+
+#[test]
+fn a_line_of_a_mebibyte_is_bad(rt: HostRuntime) -> Result<(), Fail> {
+    let row = Row {
+        words: &["decide", "e", "d"],
+        before: ONE_SHEET,
+        text: "line 1 done\n",
+        status: "decision line 2 bad",
+        after: &[TOWN_HEADER, BLANK, "1 claim 1 b1 1"],
+    };
+    for front in ["", "name 1 b1 1 mayor 0 text ", "select 1 b1 1 mayor 0 "] {
+        let script = one_long_line(rt.alloc(), front.as_bytes())?;
+        assert_rows(&rt, b"", script.as_slice(), &[row])?;
+    }
+    Ok(())
+}
+
 #[test]
 fn a_contest_waits_until_it_is_decided(rt: HostRuntime) -> Result<(), Fail> {
     let waits = Row {

@@ -1,0 +1,88 @@
+//! A count of five blank sheets whose third append fails, and the same count again.
+
+use crate::rows::{Row, assert_row, files_of, make_scan};
+use std::process::Abort;
+use std::test::Fail;
+use std::thread::Threads;
+use vx_town::{Failing, TOWN_HEADER};
+
+/// What stands before the count, behind its second record, behind its third and behind its last.
+const NONE: &[&str] = &[TOWN_HEADER];
+
+const TWO: &[&str] = &[
+    TOWN_HEADER,
+    "1 add b1 1 0 1 precinct 0:cc",
+    "1 add b1 2 0 1 precinct 0:cc",
+];
+
+const THREE: &[&str] = &[
+    TOWN_HEADER,
+    "1 add b1 1 0 1 precinct 0:cc",
+    "1 add b1 2 0 1 precinct 0:cc",
+    "1 add b1 3 0 1 precinct 0:cc",
+];
+
+const FIVE: &[&str] = &[
+    TOWN_HEADER,
+    "1 add b1 1 0 1 precinct 0:cc",
+    "1 add b1 2 0 1 precinct 0:cc",
+    "1 add b1 3 0 1 precinct 0:cc",
+    "1 add b1 4 0 1 precinct 0:cc",
+    "1 add b1 5 0 1 precinct 0:cc",
+];
+
+/// The lines of the first two sheets.
+const LINES: &str =
+    "sheet b1 1 added card 0 pages 1 2\nreason b1 1 mayor BlankBallot\nsheet b1 2 added card 0 pages 1 2\nreason b1 2 mayor BlankBallot\n";
+
+/// What the count writes over two records.
+const AFTER_TWO: &str =
+    "sheet b1 1 repeated\nsheet b1 2 repeated\nsheet b1 3 added card 0 pages 1 2\nreason b1 3 mayor BlankBallot\nsheet b1 4 added card 0 pages 1 2\nreason b1 4 mayor BlankBallot\nsheet b1 5 added card 0 pages 1 2\nreason b1 5 mayor BlankBallot\ncounted 3 added 2 repeated 0 unread\n";
+
+/// What it writes over three.
+const AFTER_THREE: &str =
+    "sheet b1 1 repeated\nsheet b1 2 repeated\nsheet b1 3 repeated\nsheet b1 4 added card 0 pages 1 2\nreason b1 4 mayor BlankBallot\nsheet b1 5 added card 0 pages 1 2\nreason b1 5 mayor BlankBallot\ncounted 2 added 3 repeated 0 unread\n";
+
+/// The count whose third append fails and keeps its record or not, so that these stand, and the count
+/// over them. The keeper is asked for the number of its records and for the header before.
+fn assert_stops<R: Threads + Sync + AllocGlobal + Abort>(
+    rt: &R,
+    scan: &[u8],
+    words: &[&str],
+    kept: bool,
+    stand: &[&str],
+    again: &str,
+) -> Result<(), Fail> {
+    let files = files_of(scan, b"");
+    let stops = Row {
+        words,
+        before: NONE,
+        text: LINES,
+        status: "keeper fault",
+        after: stand,
+    };
+    let failing = Failing {
+        keeps: &[(5, kept)],
+        ..Failing::NONE
+    };
+    assert_row(rt, &files, &stops, failing)?;
+    let goes_on = Row {
+        words,
+        before: stand,
+        text: again,
+        status: "ok",
+        after: FIVE,
+    };
+    assert_row(rt, &files, &goes_on, Failing::NONE)
+}
+
+#[test]
+fn a_count_that_stopped_goes_on_where_it_stopped(rt: HostRuntime) -> Result<(), Fail> {
+    let scan = make_scan(&rt)?;
+    for workers in ["1", "2", "64"] {
+        let words = ["count", "e", "b1", workers, "s", "s", "s", "s", "s"];
+        assert_stops(&rt, scan.as_slice(), &words, false, TWO, AFTER_TWO)?;
+        assert_stops(&rt, scan.as_slice(), &words, true, THREE, AFTER_THREE)?;
+    }
+    Ok(())
+}
