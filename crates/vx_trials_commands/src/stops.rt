@@ -45,13 +45,13 @@ const AFTER_THREE: &str =
 
 /// The count whose third append fails and keeps its record or not, so that these stand, and the count
 /// over them. The keeper is asked for the number of its records and for the header before.
-fn assert_stops<R: Threads + Sync + AllocGlobal + Abort>(
+fn assert_stops<'x, R: Threads + Sync + AllocGlobal + Abort>(
     rt: &R,
     scan: &[u8],
-    words: &[&str],
+    words: &'x [&'x str],
     kept: bool,
-    stand: &[&str],
-    again: &str,
+    stand: &'x [&'x str],
+    again: &'x str,
 ) -> Result<(), Fail> {
     let files = files_of(scan, b"");
     let stops = Row {
