@@ -1,6 +1,6 @@
 //! A count of five blank sheets whose third append fails, and the same count again.
 
-use crate::rows::{Row, assert_row, files_of, make_scan};
+use crate::rows::{Row, assert_row, assert_rows, files_of, make_scan};
 use std::process::Abort;
 use std::test::Fail;
 use std::thread::Threads;
@@ -43,37 +43,42 @@ const AFTER_TWO: &str =
 const AFTER_THREE: &str =
     "sheet b1 1 repeated\nsheet b1 2 repeated\nsheet b1 3 repeated\nsheet b1 4 added card 0 pages 1 2\nreason b1 4 mayor BlankBallot\nsheet b1 5 added card 0 pages 1 2\nreason b1 5 mayor BlankBallot\ncounted 2 added 3 repeated 0 unread\n";
 
-/// The count whose third append fails and keeps its record or not, so that these stand, and the count
-/// over them. The keeper is asked for the number of its records and for the header before.
-fn assert_stops<'x, R: Threads + Sync + AllocGlobal + Abort>(
-    rt: &R,
-    scan: &[u8],
-    words: &'x [&'x str],
-    kept: bool,
-    stand: &'x [&'x str],
-    again: &'x str,
-) -> Result<(), Fail> {
-    let files = files_of(scan, b"");
-    let stops = Row {
+/// A count whose third append fails, so that these stand.
+fn stops<'x>(words: &'x [&'x str], stand: &'x [&'x str]) -> Row<'x> {
+    Row {
         words,
         before: NONE,
         text: LINES,
         status: "keeper fault",
         after: stand,
-    };
+    }
+}
+
+/// The same count over them.
+fn goes_on<'x>(words: &'x [&'x str], stand: &'x [&'x str], text: &'x str) -> Row<'x> {
+    Row {
+        words,
+        before: stand,
+        text,
+        status: "ok",
+        after: FIVE,
+    }
+}
+
+/// The third append fails, and keeps its record or not. The keeper is asked for the number of its records
+/// and for the header before the first.
+fn assert_stops<R: Threads + Sync + AllocGlobal + Abort>(
+    rt: &R,
+    scan: &[u8],
+    row: &Row<'_>,
+    kept: bool,
+) -> Result<(), Fail> {
+    let files = files_of(scan, b"");
     let failing = Failing {
         keeps: &[(5, kept)],
         ..Failing::NONE
     };
-    assert_row(rt, &files, &stops, failing)?;
-    let goes_on = Row {
-        words,
-        before: stand,
-        text: again,
-        status: "ok",
-        after: FIVE,
-    };
-    assert_row(rt, &files, &goes_on, Failing::NONE)
+    assert_row(rt, &files, row, failing)
 }
 
 #[test]
@@ -81,8 +86,13 @@ fn a_count_that_stopped_goes_on_where_it_stopped(rt: HostRuntime) -> Result<(), 
     let scan = make_scan(&rt)?;
     for workers in ["1", "2", "64"] {
         let words = ["count", "e", "b1", workers, "s", "s", "s", "s", "s"];
-        assert_stops(&rt, scan.as_slice(), &words, false, TWO, AFTER_TWO)?;
-        assert_stops(&rt, scan.as_slice(), &words, true, THREE, AFTER_THREE)?;
+        assert_stops(&rt, scan.as_slice(), &stops(&words, TWO), false)?;
+        assert_stops(&rt, scan.as_slice(), &stops(&words, THREE), true)?;
+        let again = [
+            goes_on(&words, TWO, AFTER_TWO),
+            goes_on(&words, THREE, AFTER_THREE),
+        ];
+        assert_rows(&rt, scan.as_slice(), b"", &again)?;
     }
     Ok(())
 }
