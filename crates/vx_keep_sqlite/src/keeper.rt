@@ -3,6 +3,7 @@ ghost use Rattle.vx_io.specs.Fakes.{raised};
 ghost use Rattle.vx_io.specs.Keeping.{has_failed};
 ghost use Rattle.vx_io.specs.Outside.{Appends, CountsFaults, IsCountOf, IsRecordAt, MayAppend};
 
+use crate::refusal::told;
 use crate::table::Place;
 use std::alloc::AllocError;
 use std::marker::Model;
@@ -70,7 +71,7 @@ impl Keeper for SqliteKeeper<'_> {
         let counted = if self.has_given_up() {
             Err(KeeperError::Failed)
         } else {
-            self.place.count()
+            told(self.place.count())
         };
         count_fault(&mut self.faults, counted == Err(KeeperError::Failed));
         counted
@@ -87,7 +88,7 @@ impl Keeper for SqliteKeeper<'_> {
         let fetched = if self.has_given_up() {
             Err(KeeperError::Failed)
         } else {
-            self.place.fetch(index, into)
+            told(self.place.fetch(index, into))
         };
         if fetched.is_err() {
             into.clear();
@@ -106,7 +107,7 @@ impl Keeper for SqliteKeeper<'_> {
         let kept = if self.has_given_up() {
             Err(KeeperError::Failed)
         } else {
-            self.place.append(body)
+            told(self.place.append(body))
         };
         count_fault(&mut self.faults, kept == Err(KeeperError::Failed));
         kept

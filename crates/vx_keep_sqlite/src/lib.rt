@@ -11,6 +11,7 @@
 #![tactic(auto)]
 
 mod keeper;
+mod refusal;
 mod table;
 
 pub use keeper::SqliteKeeper;

@@ -1,25 +1,16 @@
+ghost use Rattle.std.specs.Prelude.{◌≡◌, ◌+ℤ◌, pos, IfOk, OnErr, OnOk};
+
 use sqlite::types::ValueRef;
 use sqlite::{Connection, Error, ErrorCode, File, FileStore, params};
-use sqlite_resolve::CompileError;
 use std::alloc::AllocError;
 use std::rt::HostRuntime;
 use vx_base::Bytes;
-use vx_io::KeeperError;
 
 /// The open file, and how many records its table has.
 #[derive(Drop)]
 pub(crate) struct Table {
     connection: Connection<FileStore<File>>,
     records: i64,
-}
-
-/// What refused a statement or an opening: want of memory, or the device.
-fn refusal(error: Error) -> KeeperError {
-    match error {
-        Error::SqliteFailure(ErrorCode::OutOfMemory)
-        | Error::SqlInputError(CompileError::OutOfMemory) => KeeperError::OutOfMemory,
-        _ => KeeperError::Failed,
-    }
 }
 
 /// Opens the file, or makes it, with its table.
@@ -52,11 +43,24 @@ fn copy_record(
     }
 }
 
+/// Adds a record at a place, in a transaction of its own.
+fn insert_record(
+    connection: &mut Connection<FileStore<File>>,
+    place: i64,
+    body: &[u8],
+) -> Result<(), Error> {
+    connection.execute(
+        "INSERT INTO journal (place, body) VALUES (?1, ?2)",
+        params![place, body],
+    )?;
+    Ok(())
+}
+
 impl Table {
     /// Opens the file, or makes it.
-    pub(crate) fn open(rt: &HostRuntime, path: &str) -> Result<Table, KeeperError> {
-        let mut connection = connection_of(rt, path).map_err(refusal)?;
-        let records = count_records(&mut connection).map_err(refusal)?;
+    pub(crate) fn open(rt: &HostRuntime, path: &str) -> Result<Table, Error> {
+        let mut connection = connection_of(rt, path)?;
+        let records = count_records(&mut connection)?;
         Ok(Table {
             connection,
             records,
@@ -64,25 +68,30 @@ impl Table {
     }
 
     /// How many records there are.
-    pub(crate) fn count(&self) -> Result<u64, KeeperError> {
-        u64::try_from(self.records).map_err(|_| KeeperError::Failed)
+    pub(crate) fn count(&self) -> Result<u64, Error>
+        ensures { IfOk result (λ count. pos count ≡ self.now.records) }
+    {
+        u64::try_from(self.records).map_err(|_| Error::SqliteFailure(ErrorCode::DatabaseCorrupt))
     }
 
     /// Copies the record at an index behind what is there.
-    pub(crate) fn fetch(&mut self, index: u64, into: &mut Bytes) -> Result<(), KeeperError> {
-        let place = i64::try_from(index).map_err(|_| KeeperError::Failed)?;
-        copy_record(&mut self.connection, place, into).map_err(refusal)
+    pub(crate) fn fetch(&mut self, index: u64, into: &mut Bytes) -> Result<(), Error>
+        ensures { self.new.records ≡ self.old.records }
+    {
+        let place = i64::try_from(index).map_err(|_| Error::QueryReturnedNoRows)?;
+        copy_record(&mut self.connection, place, into)
     }
 
-    /// Adds a record at the end, in a transaction of its own.
-    pub(crate) fn append(&mut self, body: &[u8]) -> Result<(), KeeperError> {
-        let next = self.records.checked_add(1).ok_or(KeeperError::Failed)?;
-        self.connection
-            .execute(
-                "INSERT INTO journal (place, body) VALUES (?1, ?2)",
-                params![self.records, body],
-            )
-            .map_err(refusal)?;
+    /// Adds a record at the end, in a transaction of its own. It is counted where that is done.
+    pub(crate) fn append(&mut self, body: &[u8]) -> Result<(), Error>
+        ensures counted { OnOk result (self.new.records ≡ self.old.records +ℤ pos 1) }
+        ensures as_before { OnErr result (self.new.records ≡ self.old.records) }
+    {
+        let next = self
+            .records
+            .checked_add(1)
+            .ok_or(Error::SqliteFailure(ErrorCode::NoRowid))?;
+        insert_record(&mut self.connection, self.records, body)?;
         self.records = next;
         Ok(())
     }
@@ -107,25 +116,27 @@ impl<'r> Place<'r> {
     }
 
     /// The open file; it is opened at the first call.
-    fn table(&mut self) -> Result<&mut Table, KeeperError> {
+    fn table(&mut self) -> Result<&mut Table, Error> {
         if self.table.is_none() {
             self.table = Some(Table::open(self.rt, self.path.as_str())?);
         }
-        self.table.as_mut().ok_or(KeeperError::Failed)
+        self.table
+            .as_mut()
+            .ok_or(Error::SqliteFailure(ErrorCode::CannotOpen))
     }
 
     /// How many records there are.
-    pub(crate) fn count(&mut self) -> Result<u64, KeeperError> {
+    pub(crate) fn count(&mut self) -> Result<u64, Error> {
         self.table()?.count()
     }
 
     /// Copies the record at an index behind what is there.
-    pub(crate) fn fetch(&mut self, index: u64, into: &mut Bytes) -> Result<(), KeeperError> {
+    pub(crate) fn fetch(&mut self, index: u64, into: &mut Bytes) -> Result<(), Error> {
         self.table()?.fetch(index, into)
     }
 
     /// Adds a record at the end.
-    pub(crate) fn append(&mut self, body: &[u8]) -> Result<(), KeeperError> {
+    pub(crate) fn append(&mut self, body: &[u8]) -> Result<(), Error> {
         self.table()?.append(body)
     }
 }

@@ -6,3 +6,4 @@ pub mod Sayable
 pub mod Texts
 pub mod Pages
 pub mod Whole
+pub mod TurnedPages

@@ -1,3 +1,4 @@
 pub mod Accepted
 pub mod Sayable
 pub mod Certified
+pub mod Turned
