@@ -6,4 +6,3 @@ pub mod Sayable
 pub mod Texts
 pub mod Pages
 pub mod Whole
-pub mod TurnedPages

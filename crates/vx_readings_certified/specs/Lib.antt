@@ -1,4 +1,3 @@
 pub mod Accepted
 pub mod Sayable
 pub mod Certified
-pub mod Turned

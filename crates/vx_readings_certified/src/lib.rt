@@ -2,14 +2,11 @@
 //!
 //! `specs/Accepted.antt` says that a certificate passes all tests, `specs/Sayable.antt` that what is read can be said in
 //! a text of readings, and `specs/Certified.antt` what `check` does of what `read` wrote: a line for each image.
-//! `specs/Turned.antt` says that a page which lies upside down is read as none as it lies.
 #![tactic(auto)]
 
 mod laws;
-mod turned;
 
 pub use laws::{
     certificates_are_accepted, faults_are_one_line, readings_are_sayable,
     written_readings_are_certified,
 };
-pub use turned::turned_pages_are_none_as_they_lie;
