@@ -1,6 +1,6 @@
 -- What is known of numbers and places that were drawn.
 use Rattle.std.proofs.Common.{◌≡◌, ℕ, zero, suc, ◌≤◌, ◌<◌, true, false, ◌&&◌, List, [], ◌∷◌, length, ℤ, pos, ◌+ℤ◌, mod-lt, refl, ap, ◌∙◌, arith}
-use Rattle.std.specs.Prelude.{slice_index_or}
+use Rattle.std.specs.Prelude.{All, slice_index_or}
 use Rattle.std.specs.Ordering.{int_eq}
 use Rattle.std.proofs.lemmas.Int.{ints}
 use Rattle.rand_pcg.specs.Lcg.{Lcg}
@@ -8,8 +8,8 @@ use Rattle.rand_pcg.specs.Pcg.{pcg32}
 use Rattle.vx_base.proofs.Booleans.{or-cases}
 use Rattle.vx_plane.specs.Plane.{rectangle}
 use Rattle.vx_plane.proofs.Pages.{rectangle-inside, rectangle-sides, rectangle-one}
-use Rattle.vx_simulate.specs.Draws.{draw, draw_places, draw_all}
-use Rattle.vx_simulate.specs.Flips.{places_from}
+use Rattle.vx_simulate.specs.Draws.{draw, draw_place, draw_places, draw_all}
+use Rattle.vx_simulate.specs.Flips.{places_from, AreDrawnIn}
 
 pub draw-below : (bound : ℕ) (g : Lcg) → 0 < bound → (draw bound g).0 < bound
 draw-below bound g some = mod-lt (pcg32 g).0 some
@@ -57,3 +57,22 @@ pub lists-inside : {A : Type 0} (many width height : ℕ) (xs : List A) (g : Lcg
 lists-inside many width height [] g k x y u v wide high found = cc
 lists-inside many width height (a ∷ xs) g zero x y u v wide high found = places-inside many width height g x y u v wide high found
 lists-inside many width height (a ∷ xs) g (suc k) x y u v wide high found = lists-inside many width height xs (draw_places many width height g).1 k x y u v wide high found
+
+-- they are offsets below the sides of their rectangle
+pub places-below : (many width height : ℕ) (g : Lcg) → 0 < width → 0 < height → All (λ (at : ℕ × ℕ). (at.0 < width) × (at.1 < height)) (draw_places many width height g).0
+places-below zero width height g wide high k d few = absurd (omega (arith, few))
+places-below (suc many) width height g wide high zero d few = (draw-below width g wide, draw-below height (draw width g).1 high)
+places-below (suc many) width height g wide high (suc k) d few = places-below many width height (draw_place width height g).1 wide high k d (omega (arith, few))
+
+lists-below : {A : Type 0} (many width height : ℕ) (xs : List A) (g : Lcg) → 0 < width → 0 < height
+    → All (All (λ (at : ℕ × ℕ). (at.0 < width) × (at.1 < height))) (draw_all (λ (a : A). draw_places many width height) xs g).0
+lists-below many width height [] g wide high k d few = absurd (omega (arith, few))
+lists-below many width height (a ∷ xs) g wide high zero d few = places-below many width height g wide high
+lists-below many width height (a ∷ xs) g wide high (suc k) d few = lists-below many width height xs (draw_places many width height g).1 wide high k d (omega (arith, few))
+
+pub lists-drawn : {A : Type 0} (many width height : ℕ) (xs : List A) (g : Lcg) → 0 < width → 0 < height
+    → AreDrawnIn (length xs) width height (draw_all (λ (a : A). draw_places many width height) xs g).0
+lists-drawn {A = A} many width height xs g wide high = record {
+  all = all-many (λ (a : A). draw_places many width height) xs g;
+  within = lists-below many width height xs g wide high;
+}

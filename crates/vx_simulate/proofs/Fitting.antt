@@ -29,7 +29,7 @@ use Rattle.vx_simulate.specs.Lie.{frame_width, frame_height, shear_to, start_col
 use Rattle.vx_simulate.specs.Flips.{draw_flips, drawn_flips}
 use Rattle.vx_geom.specs.Seen.{seen}
 use Rattle.vx_simulate.specs.Ink.{draw_inks, inked}
-use Rattle.vx_simulate.specs.Simulated.{SimulatedScansFit}
+use Rattle.vx_simulate.specs.Simulated.{draw_page, SimulatedScansFit}
 use Rattle.vx_simulate.proofs.Drawn.{draw-below}
 use Rattle.vx_simulate.proofs.Lying.{IsFramed, IsWellInside, slant-is, first-row, first-column, well-inside}
 use Rattle.vx_simulate.proofs.Inking.{no_bubble, is-inked}
@@ -167,6 +167,7 @@ module _ (plan : PagePlan) (keeps : KeepsClear plan) (a b u v : ℤ) (rows : IsW
         }
 
 pub simulated-fit : BubblesAreOutlined → PrintedKeepClear → SimulatedScansFit
+unfolding draw_page
 simulated-fit outlined clear election printed plan g valid planned =
     let keeps : KeepsClear plan = clear election printed plan valid planned in
     let print : Pixels = print_of_page election plan printed in

@@ -34,7 +34,8 @@ use Rattle.vx_margin.specs.Flips.{differ, flips, flips_in, flips_on}
 use Rattle.vx_margin.specs.Shown.{count_at, count_round}
 use Rattle.vx_scan_model.specs.Ink.{bubble_at}
 use Rattle.vx_simulate.specs.Lie.{frame_width, frame_height}
-use Rattle.vx_simulate.specs.Flips.{Flips, draw_flips, bubble_places, box_places, paper_flips, scan_flips, drawn_flips, draw_at_bubbles, draw_at_boxes}
+use Rattle.vx_simulate.specs.declared.flips.Flips.{Flips}
+use Rattle.vx_simulate.specs.Flips.{draw_flips, bubble_places, box_places, paper_flips, scan_flips, drawn_flips, draw_at_bubbles, draw_at_boxes}
 use Rattle.vx_simulate.proofs.Counting.{false-true, count-places, count-among}
 use Rattle.vx_simulate.proofs.Drawn.{lists-few, lists-inside}
 use Rattle.vx_simulate.proofs.Inking.{no_bubble, decide}

@@ -23,7 +23,9 @@ use Rattle.vx_layout.specs.Printed.{KeepsClear}
 use Rattle.vx_margin.specs.Shown.{count_round}
 use Rattle.vx_scan_model.specs.Ink.{added_to, bubble_at, HasInk, IsInked}
 use Rattle.vx_simulate.specs.Draws.{draw}
-use Rattle.vx_simulate.specs.Ink.{Ink, first_pixels, whole_box, ink_pixels, draw_mark, draw_ink, draw_inks, inked_bubble, inked}
+use Rattle.vx_simulate.specs.declared.ink.Ink.{Ink}
+use Rattle.vx_simulate.specs.declared.ink.Ink.TheVariants.{FirstPixels, WholeBox}
+use Rattle.vx_simulate.specs.Ink.{ink_pixels, draw_mark, draw_ink, draw_inks, inked_bubble, inked}
 use Rattle.vx_simulate.proofs.Counting.{false-true, count-inside}
 use Rattle.vx_simulate.proofs.Drawn.{draw-below, all-at}
 use Rattle.vx_simulate.proofs.Fronts.{count-first}
@@ -42,8 +44,8 @@ box-unprinted = refl
 
 ink-in_box : (ink : Ink) (i j : ℤ) → ink_pixels ink i j ≡ true → bubble_box i j ≡ true
 unfolding ink_pixels
-ink-in_box (first_pixels n) i j h = and-left _ _ h
-ink-in_box whole_box i j h = h
+ink-in_box (FirstPixels n) i j h = and-left _ _ h
+ink-in_box WholeBox i j h = h
 
 -- what lies inside the outline isn't printed
 inner-unprinted : (box outer inner : Bool) → inner ≡ true → not (box && (outer && not inner)) ≡ true
@@ -55,7 +57,7 @@ inner-unprinted true false false h = absurd (false-true h)
 inner-unprinted false outer false h = refl
 
 -- ink counts the pixels that it adds to the print
-first-unprinted : (n : ℕ) (i j : ℤ) → ink_pixels (first_pixels n) i j ≡ true → unprinted (ink_pixels (first_pixels n)) i j ≡ true
+first-unprinted : (n : ℕ) (i j : ℤ) → ink_pixels (FirstPixels n) i j ≡ true → unprinted (ink_pixels (FirstPixels n)) i j ≡ true
 unfolding ink_pixels outline
 first-unprinted n i j h =
     let inner : inner_ellipse i j ≡ true = and-left _ _ (and-right _ _ h) in
@@ -65,18 +67,18 @@ first-unprinted n i j h =
     both true b h g = g
     both false b h g = h
 
-first-many : (n : ℕ) → count_in (negsuc 19) (negsuc 12) 40 26 (ink_pixels (first_pixels n)) ≡ min 624 n
+first-many : (n : ℕ) → count_in (negsuc 19) (negsuc 12) 40 26 (ink_pixels (FirstPixels n)) ≡ min 624 n
 unfolding ink_pixels
 first-many n = count-first (negsuc 19) (negsuc 12) 40 inner_ellipse n 26 ∙ ap (λ m. min m n) inner-in_box
 
-first-added : (n : ℕ) → min 624 n ≤ count_in (negsuc 19) (negsuc 12) 40 26 (unprinted (ink_pixels (first_pixels n)))
+first-added : (n : ℕ) → min 624 n ≤ count_in (negsuc 19) (negsuc 12) 40 26 (unprinted (ink_pixels (FirstPixels n)))
 first-added n =
-    let many : count_in (negsuc 19) (negsuc 12) 40 26 (ink_pixels (first_pixels n)) ≡ min 624 n = first-many n in
-    let most : count_in (negsuc 19) (negsuc 12) 40 26 (ink_pixels (first_pixels n)) ≤ count_in (negsuc 19) (negsuc 12) 40 26 (unprinted (ink_pixels (first_pixels n))) =
-    count_in-le (negsuc 19) (negsuc 12) 40 26 (ink_pixels (first_pixels n)) (unprinted (ink_pixels (first_pixels n))) (λ i j a b c d h. first-unprinted n i j h) in
+    let many : count_in (negsuc 19) (negsuc 12) 40 26 (ink_pixels (FirstPixels n)) ≡ min 624 n = first-many n in
+    let most : count_in (negsuc 19) (negsuc 12) 40 26 (ink_pixels (FirstPixels n)) ≤ count_in (negsuc 19) (negsuc 12) 40 26 (unprinted (ink_pixels (FirstPixels n))) =
+    count_in-le (negsuc 19) (negsuc 12) 40 26 (ink_pixels (FirstPixels n)) (unprinted (ink_pixels (FirstPixels n))) (λ i j a b c d h. first-unprinted n i j h) in
     omega (arith, many, most)
 
-whole-added : count_in (negsuc 19) (negsuc 12) 40 26 (unprinted (ink_pixels whole_box)) ≡ 848
+whole-added : count_in (negsuc 19) (negsuc 12) 40 26 (unprinted (ink_pixels WholeBox)) ≡ 848
 unfolding ink_pixels
 whole-added = box-unprinted
 
@@ -104,7 +106,7 @@ abbrev pub no_bubble : Bubble
 no_bubble = record { contest = 0; option = 0; col = 0; row = 0 }
 
 -- the sides of a rectangle round a centre
-box-sides : (paper : Paper) (bubble : Bubble) (x y : ℤ) → bubble_box (x -ℤ pos (x_of bubble.col)) (y -ℤ pos (y_of paper bubble.row)) ≡ true → bubble_box_of paper bubble x y ≡ true
+pub box-sides : (paper : Paper) (bubble : Bubble) (x y : ℤ) → bubble_box (x -ℤ pos (x_of bubble.col)) (y -ℤ pos (y_of paper bubble.row)) ≡ true → bubble_box_of paper bubble x y ≡ true
 box-sides paper bubble x y h =
     let cx : ℕ = x_of bubble.col in
     let cy : ℕ = y_of paper bubble.row in
@@ -117,6 +119,10 @@ box-zoned paper bubble x y h =
     let cy : ℕ = y_of paper bubble.row in
     let sides = rectangle-sides (pos cx -ℤ pos 20) (pos cy -ℤ pos 13) 40 26 x y h in
     rectangle-inside (pos cx -ℤ pos 36) (pos cy -ℤ pos 25) 72 50 x y (omega (arith, ints, sides.0)) (omega (arith, ints, sides.1)) (omega (arith, ints, sides.2)) (omega (arith, ints, sides.3))
+
+-- the ink of a bubble lies in its box
+pub ink-boxed : (plan : PagePlan) (inks : List Ink) (n : ℕ) (x y : ℤ) → inked_bubble plan inks n x y ≡ true → bubble_box_of plan.paper (bubble_at plan n) x y ≡ true
+ink-boxed plan inks n x y h = box-sides plan.paper (bubble_at plan n) x y (ink-in_box (slice_index_or inks n (FirstPixels 0)) _ _ h)
 
 -- a shape that is put at a place is counted round it
 placed-count : (left top cx cy : ℤ) (width height : ℕ) (shape : Pixels) → count_in (left +ℤ cx) (top +ℤ cy) width height (placed cx cy shape) ≡ count_in left top width height shape
@@ -166,7 +172,7 @@ module _ (plan : PagePlan) (keeps : KeepsClear plan) (print : Pixels)
   paper = inked plan inks print
 
   inked-box : (n : ℕ) (x y : ℤ) → inked_bubble plan inks n x y ≡ true → bubble_box_of plan.paper (bubble_at plan n) x y ≡ true
-  inked-box n x y h = box-sides plan.paper (bubble_at plan n) x y (ink-in_box (slice_index_or inks n (first_pixels 0)) _ _ h)
+  inked-box n x y h = ink-boxed plan inks n x y h
 
   -- what was added is the ink of a bubble
   added-ink : (x y : ℤ) → added_to print paper x y ≡ true → (n : ℕ) × (n < length plan.bubbles) × (inked_bubble plan inks n x y ≡ true)
@@ -176,8 +182,8 @@ module _ (plan : PagePlan) (keeps : KeepsClear plan) (print : Pixels)
   added-zone : (x y : ℤ) → added_to print paper x y ≡ true → (n : ℕ) × (n < length plan.bubbles) × (bubble_zone_of plan.paper (bubble_at plan n) x y ≡ true)
   added-zone x y h = let k = added-ink x y h in (k.0, k.1, box-zoned plan.paper (bubble_at plan k.0) x y (inked-box k.0 x y k.2))
 
-  ink-at : (n : ℕ) → n < length plan.bubbles → (state : Lcg) × (slice_index_or inks n (first_pixels 0) ≡ (draw_ink thresholds (slice_index_or marks n false) state).0)
-  ink-at n few = all-at (draw_ink thresholds) marks g n (first_pixels 0) false (omega (arith, few, all))
+  ink-at : (n : ℕ) → n < length plan.bubbles → (state : Lcg) × (slice_index_or inks n (FirstPixels 0) ≡ (draw_ink thresholds (slice_index_or marks n false) state).0)
+  ink-at n few = all-at (draw_ink thresholds) marks g n (FirstPixels 0) false (omega (arith, few, all))
 
   module _ (n : ℕ) (few : n < length plan.bubbles) where
     abbrev bubble : Bubble
@@ -198,7 +204,7 @@ module _ (plan : PagePlan) (keeps : KeepsClear plan) (print : Pixels)
         own k within is (inr other) = absurd ((keeps.apart.each n k no_bubble few within other).apart x y zone (inked-box k x y is))
 
     -- its ink is added, where its outline isn't
-    ink-added : (x y : ℤ) → bubble_box_of plan.paper bubble x y ≡ true → placed cx cy (unprinted (ink_pixels (slice_index_or inks n (first_pixels 0)))) x y ≡ true → added_to print paper x y ≡ true
+    ink-added : (x y : ℤ) → bubble_box_of plan.paper bubble x y ≡ true → placed cx cy (unprinted (ink_pixels (slice_index_or inks n (FirstPixels 0)))) x y ≡ true → added_to print paper x y ≡ true
     unfolding inked bubble_pixels
     ink-added x y box h =
         let zone : bubble_zone_of plan.paper bubble x y ≡ true = box-zoned plan.paper bubble x y box in
@@ -206,9 +212,9 @@ module _ (plan : PagePlan) (keeps : KeepsClear plan) (print : Pixels)
         is-added (print x y) _ blank (in_any-one (length plan.bubbles) n (inked_bubble plan inks) x y few (and-left _ _ h))
 
     -- the box has what its ink adds
-    box-added : count_in (negsuc 19) (negsuc 12) 40 26 (unprinted (ink_pixels (slice_index_or inks n (first_pixels 0)))) ≤ count_round plan.paper sizes.bubble bubble.col bubble.row (added_to print paper)
+    box-added : count_in (negsuc 19) (negsuc 12) 40 26 (unprinted (ink_pixels (slice_index_or inks n (FirstPixels 0)))) ≤ count_round plan.paper sizes.bubble bubble.col bubble.row (added_to print paper)
     box-added =
-        let ink : Pixels = unprinted (ink_pixels (slice_index_or inks n (first_pixels 0))) in
+        let ink : Pixels = unprinted (ink_pixels (slice_index_or inks n (FirstPixels 0))) in
         let same : count_in (cx -ℤ pos 20) (cy -ℤ pos 13) 40 26 (placed cx cy ink) ≡ count_in (negsuc 19) (negsuc 12) 40 26 ink = round-count cx cy ink in
         let most : count_in (cx -ℤ pos 20) (cy -ℤ pos 13) 40 26 (placed cx cy ink) ≤ count_in (cx -ℤ pos 20) (cy -ℤ pos 13) 40 26 (added_to print paper) =
         count_in-le (cx -ℤ pos 20) (cy -ℤ pos 13) 40 26 (placed cx cy ink) (added_to print paper)
@@ -216,9 +222,9 @@ module _ (plan : PagePlan) (keeps : KeepsClear plan) (print : Pixels)
         omega (arith, same, most)
 
     -- the zone has no more than its ink
-    zone-added : count_round plan.paper (zone_of sizes.bubble) bubble.col bubble.row (added_to print paper) ≤ count_in (negsuc 19) (negsuc 12) 40 26 (ink_pixels (slice_index_or inks n (first_pixels 0)))
+    zone-added : count_round plan.paper (zone_of sizes.bubble) bubble.col bubble.row (added_to print paper) ≤ count_in (negsuc 19) (negsuc 12) 40 26 (ink_pixels (slice_index_or inks n (FirstPixels 0)))
     zone-added =
-        let ink : Pixels = ink_pixels (slice_index_or inks n (first_pixels 0)) in
+        let ink : Pixels = ink_pixels (slice_index_or inks n (FirstPixels 0)) in
         let own : count_in (cx -ℤ pos 36) (cy -ℤ pos 25) 72 50 (added_to print paper) ≤ count_in (cx -ℤ pos 36) (cy -ℤ pos 25) 72 50 (placed cx cy ink) =
         count_in-le (cx -ℤ pos 36) (cy -ℤ pos 25) 72 50 (added_to print paper) (placed cx cy ink)
         (λ x y a b c d h. own-ink x y (rectangle-inside (cx -ℤ pos 36) (cy -ℤ pos 25) 72 50 x y a b c d) h) in
@@ -227,16 +233,16 @@ module _ (plan : PagePlan) (keeps : KeepsClear plan) (print : Pixels)
         let same : count_in (cx -ℤ pos 20) (cy -ℤ pos 13) 40 26 (placed cx cy ink) ≡ count_in (negsuc 19) (negsuc 12) 40 26 ink = round-count cx cy ink in
         omega (arith, own, inside, same)
 
-    has-ink : (mark : Bool) (state : Lcg) → slice_index_or inks n (first_pixels 0) ≡ (draw_ink thresholds mark state).0 → HasInk mark thresholds plan.paper bubble (added_to print paper)
+    has-ink : (mark : Bool) (state : Lcg) → slice_index_or inks n (FirstPixels 0) ≡ (draw_ink thresholds mark state).0 → HasInk mark thresholds plan.paper bubble (added_to print paper)
     has-ink true state is =
         let enough : thresholds.def + 12 ≤ count_in (negsuc 19) (negsuc 12) 40 26 (unprinted (ink_pixels (draw_ink thresholds true state).0)) = mark-added thresholds state are in
-        let same : count_in (negsuc 19) (negsuc 12) 40 26 (unprinted (ink_pixels (slice_index_or inks n (first_pixels 0)))) ≡ count_in (negsuc 19) (negsuc 12) 40 26 (unprinted (ink_pixels (draw_ink thresholds true state).0)) =
+        let same : count_in (negsuc 19) (negsuc 12) 40 26 (unprinted (ink_pixels (slice_index_or inks n (FirstPixels 0)))) ≡ count_in (negsuc 19) (negsuc 12) 40 26 (unprinted (ink_pixels (draw_ink thresholds true state).0)) =
         ap (λ (ink : Ink). count_in (negsuc 19) (negsuc 12) 40 26 (unprinted (ink_pixels ink))) is in
         let box = box-added in
         omega (arith, enough, same, box)
     has-ink false state is =
         let few : count_in (negsuc 19) (negsuc 12) 40 26 (ink_pixels (draw_ink thresholds false state).0) + 13 ≤ thresholds.marg = slip-added thresholds state are in
-        let same : count_in (negsuc 19) (negsuc 12) 40 26 (ink_pixels (slice_index_or inks n (first_pixels 0))) ≡ count_in (negsuc 19) (negsuc 12) 40 26 (ink_pixels (draw_ink thresholds false state).0) =
+        let same : count_in (negsuc 19) (negsuc 12) 40 26 (ink_pixels (slice_index_or inks n (FirstPixels 0))) ≡ count_in (negsuc 19) (negsuc 12) 40 26 (ink_pixels (draw_ink thresholds false state).0) =
         ap (λ (ink : Ink). count_in (negsuc 19) (negsuc 12) 40 26 (ink_pixels ink)) is in
         let zone = zone-added in
         omega (arith, few, same, zone)

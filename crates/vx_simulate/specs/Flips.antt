@@ -1,5 +1,5 @@
 -- The pixels that a simulated scanner gets wrong. This project's own rule.
-use Rattle.std.specs.Prelude.{ℕ, ◌+◌, ◌*◌, ◌/◌, ◌%◌, ◌&&◌, not, List, length, slice_index_or, ℤ, pos, ◌+ℤ◌, ◌-ℤ◌, []}
+use Rattle.std.specs.Prelude.{◌≡◌, ◌<◌, ℕ, All, ◌+◌, ◌*◌, ◌/◌, ◌%◌, ◌&&◌, not, List, length, slice_index_or, ℤ, pos, ◌+ℤ◌, ◌-ℤ◌, []}
 use Rattle.std.specs.Ordering.{int_eq}
 use Rattle.std.specs.List.{list_any, range_with_len}
 use Rattle.rand_pcg.specs.Lcg.{Lcg}
@@ -17,6 +17,7 @@ use Rattle.vx_scan_model.specs.Ink.{bubble_at}
 use Rattle.vx_geom.specs.Slants.{Slant}
 use Rattle.vx_geom.specs.Seen.{seen}
 use Rattle.vx_simulate.specs.Lie.{frame_width, frame_height}
+use Rattle.vx_simulate.specs.declared.flips.Flips.{Flips}
 use Rattle.vx_simulate.specs.Draws.{draw_places, draw_all}
 
 -- places by their offsets, column and row, from a corner
@@ -66,17 +67,23 @@ tile_places drawn n =
     places_from (pos (46 * (n % tile_columns))) (pos (22 * (n / tile_columns))) (slice_index_or drawn n [])
 
 -- what is drawn of a scan's flips
-pub record Flips : Type 0 where
-  pub at_bubbles : List (List (ℕ × ℕ))
-  pub at_boxes : List (List (ℕ × ℕ))
-  pub in_tiles : List (List (ℕ × ℕ))
-
 abbrev pub draw_flips : PagePlan → Lcg → Flips × Lcg
 draw_flips plan g =
     let bubbles = draw_at_bubbles plan g in
     let boxes = draw_at_boxes bubbles.1 in
     let tiles = draw_in_tiles plan.paper boxes.1 in
     (record { at_bubbles = bubbles.0; at_boxes = boxes.0; in_tiles = tiles.0 }, tiles.1)
+
+-- so many lists of places, each place in a rectangle of so many columns and rows
+pub record AreDrawnIn (many width height : ℕ) (lists : List (List (ℕ × ℕ))) : Type 0 where
+  pub all : length lists ≡ many
+  pub within : All (All (λ (at : ℕ × ℕ). (at.0 < width) × (at.1 < height))) lists
+
+-- lists such as are drawn for a page
+pub record AreFlipsOf (plan : PagePlan) (drawn : Flips) : Type 0 where
+  pub at_bubbles : AreDrawnIn (length plan.bubbles) 72 50 drawn.at_bubbles
+  pub at_boxes : AreDrawnIn 84 60 44 drawn.at_boxes
+  pub in_tiles : AreDrawnIn (tile_columns * tile_rows plan.paper) 46 22 drawn.in_tiles
 
 -- the flips that are drawn on the paper: at bubbles and at boxes
 unfoldable pub paper_flips : PagePlan → Flips → Pixels

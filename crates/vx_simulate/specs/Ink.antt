@@ -9,12 +9,9 @@ use Rattle.vx_grid.specs.Sizes.{bubble, inner_pixels}
 use Rattle.vx_layout.specs.declared.pages.PagePlan.{PagePlan}
 use Rattle.vx_layout.specs.Print.{inner_ellipse, bubble_box}
 use Rattle.vx_scan_model.specs.Ink.{bubble_at}
+use Rattle.vx_simulate.specs.declared.ink.Ink.{Ink}
+use Rattle.vx_simulate.specs.declared.ink.Ink.TheVariants.{FirstPixels, WholeBox}
 use Rattle.vx_simulate.specs.Draws.{draw, draw_all}
-
--- ink in a bubble: the first so many pixels inside its outline, row by row from the left, or its whole box
-pub data Ink : Type 0 where
-  first_pixels : ℕ → Ink
-  whole_box : Ink
 
 -- how many places of a set come before a place, row by row from the left, from a corner on
 abbrev pub before : ℤ → ℤ → ℕ → Pixels → ℤ → ℤ → ℕ
@@ -28,22 +25,22 @@ first_of left top width height set n u v =
 
 -- the offsets that ink makes dark
 unfoldable pub ink_pixels : Ink → Pixels
-ink_pixels (first_pixels n) =
+ink_pixels (FirstPixels n) =
     first_of (pos 0 -ℤ pos bubble.across) (pos 0 -ℤ pos bubble.down) (bubble.across + bubble.across) (bubble.down + bubble.down) inner_ellipse n
-ink_pixels whole_box = bubble_box
+ink_pixels WholeBox = bubble_box
 
 -- a mark has at least 12 pixels more than the definite threshold; where there isn't room for them inside the outline,
 -- the whole box is dark and nothing is drawn
 abbrev pub draw_mark : Bool → Thresholds → Lcg → Ink × Lcg
-draw_mark true thresholds g = (whole_box, g)
+draw_mark true thresholds g = (WholeBox, g)
 draw_mark false thresholds g =
-    let more = draw (inner_pixels - thresholds.def - 11) g in (first_pixels (thresholds.def + 12 + more.0), more.1)
+    let more = draw (inner_pixels - thresholds.def - 11) g in (FirstPixels (thresholds.def + 12 + more.0), more.1)
 
 -- the ink of a bubble that is marked or not: a slip of the pen has at least 13 pixels fewer than the marginal threshold
 abbrev pub draw_ink : Thresholds → Bool → Lcg → Ink × Lcg
 draw_ink thresholds true g = draw_mark (nat_lt 612 thresholds.def) thresholds g
 draw_ink thresholds false g =
-    let some = draw (thresholds.marg - 12) g in (first_pixels (min inner_pixels some.0), some.1)
+    let some = draw (thresholds.marg - 12) g in (FirstPixels (min inner_pixels some.0), some.1)
 
 -- the ink of all bubbles of a page, by their marks
 abbrev pub draw_inks : Thresholds → List Bool → Lcg → List Ink × Lcg
@@ -53,7 +50,7 @@ draw_inks thresholds = draw_all (draw_ink thresholds)
 abbrev pub inked_bubble : PagePlan → List Ink → ℕ → Pixels
 inked_bubble plan inks n =
     let at = bubble_at plan n in
-    placed (pos (x_of at.col)) (pos (y_of plan.paper at.row)) (ink_pixels (slice_index_or inks n (first_pixels 0)))
+    placed (pos (x_of at.col)) (pos (y_of plan.paper at.row)) (ink_pixels (slice_index_or inks n (FirstPixels 0)))
 
 -- the paper: a print, and the ink of its bubbles
 unfoldable pub inked : PagePlan → List Ink → Pixels → Pixels

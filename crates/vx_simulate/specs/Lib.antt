@@ -4,3 +4,6 @@ pub mod Lie
 pub mod Ink
 pub mod Flips
 pub mod Simulated
+pub mod Rows
+pub mod Inside
+pub mod Flipped

@@ -4,6 +4,7 @@ use Rattle.rand_pcg.specs.Lcg.{Lcg}
 use Rattle.vx_grid.specs.declared.paper.Paper.{Paper}
 use Rattle.vx_grid.specs.declared.paper.Paper.TheVariants.{Letter, Legal}
 use Rattle.vx_grid.specs.Paper.{first_y}
+use Rattle.vx_grid.specs.Places.{IsWithin}
 use Rattle.vx_geom.specs.declared.shear.Shear.{Shear}
 use Rattle.vx_geom.specs.Slants.{whole_of}
 use Rattle.vx_simulate.specs.Draws.{draw}
@@ -24,6 +25,13 @@ shear_to paper a b u v = record {
   a = a;
   b = b;
 }
+
+-- a shear that may be drawn: slight slopes and a short way
+pub record IsShort (shear : Shear) : Type 0 where
+  pub a : IsWithin 64 shear.a
+  pub b : IsWithin 64 shear.b
+  pub right : IsWithin 100 shear.sx
+  pub down : IsWithin 100 shear.sy
 
 -- the columns where the first mark may come to lie: the first of them, and how many there are
 abbrev pub start_column : Paper → ℕ

@@ -8,6 +8,7 @@ use Rattle.vx_election_model.specs.Options.{options_of}
 use Rattle.vx_layout.specs.Flow.{contest_at}
 use Rattle.vx_layout.specs.declared.bubbles.Bubble.{Bubble}
 use Rattle.vx_layout.specs.declared.pages.PagePlan.{PagePlan}
+use Rattle.vx_simulate.specs.declared.marks.Drawn.{Drawn}
 use Rattle.vx_simulate.specs.Draws.{draw, draws, draw_all}
 
 -- a contest, by its place in the election's list, has a bubble on the page
@@ -17,11 +18,6 @@ has_bubble plan contest = list_any (λ (bubble : Bubble). bubble.contest == cont
 -- the contests that have a bubble on the page, in order
 abbrev pub contests_on : Election → PagePlan → List ℕ
 contests_on election plan = filter (has_bubble plan) (range_with_len 0 (length election.contests))
-
--- options that were drawn for a contest, perhaps one of them twice
-pub record Drawn : Type 0 where
-  pub contest : ℕ
-  pub options : List ℕ
 
 -- what is drawn for a contest: how many options, up to its seats, and then as many of its options
 abbrev pub draw_options : Election → ℕ → Lcg → Drawn × Lcg

@@ -1,30 +1,23 @@
 -- A simulated scan of a printed page. This project's own rule.
-use Rattle.std.specs.Prelude.{List, Bool}
+use Rattle.std.specs.Prelude.{◌≡◌}
 use Rattle.rand_pcg.specs.Lcg.{Lcg}
 use Rattle.vx_plane.specs.Plane.{Pixels, Page, page_of}
 use Rattle.vx_election_model.specs.declared.election.Election.{Election}
 use Rattle.vx_election_model.specs.Valid.{IsValid}
 use Rattle.vx_layout.specs.declared.pages.PagePlan.{PagePlan}
-use Rattle.vx_layout.specs.Printed.{PrintedPage, IsPlanned, print_of_page}
-use Rattle.vx_geom.specs.declared.shear.Shear.{Shear}
+use Rattle.vx_layout.specs.Printed.{PrintedPage, IsPlanned, print_of_page, bitmap_of}
 use Rattle.vx_geom.specs.Slants.{slant_of}
 use Rattle.vx_geom.specs.Seen.{seen}
 use Rattle.vx_margin.specs.Flips.{differ}
 use Rattle.vx_scan_model.specs.Fits.{FitsUpright}
+use Rattle.vx_simulate.specs.declared.simulation.Simulation.{Simulation}
 use Rattle.vx_simulate.specs.Marks.{draw_marks, marks_of}
 use Rattle.vx_simulate.specs.Lie.{frame_width, frame_height, draw_shear}
-use Rattle.vx_simulate.specs.Ink.{Ink, draw_inks, inked}
-use Rattle.vx_simulate.specs.Flips.{Flips, draw_flips, drawn_flips}
+use Rattle.vx_simulate.specs.Ink.{draw_inks, inked}
+use Rattle.vx_simulate.specs.Flips.{draw_flips, drawn_flips}
 
--- all that is drawn of a page
-pub record Simulation : Type 0 where
-  pub marks : List Bool
-  pub shear : Shear
-  pub inks : List Ink
-  pub flips : Flips
-
--- it is drawn in this order: marks, shear, ink, flips
-abbrev pub draw_page : Election → PagePlan → Lcg → Simulation × Lcg
+-- all that is drawn of a page, in this order: marks, shear, ink, flips
+unfoldable pub draw_page : Election → PagePlan → Lcg → Simulation × Lcg
 draw_page election plan g =
     let drawn = draw_marks election plan g in
     let marks = marks_of drawn.0 plan in
@@ -39,6 +32,11 @@ scan_of plan print it =
     let s = slant_of it.shear in
     page_of frame_width (frame_height plan.paper)
     (λ u v. differ (drawn_flips s plan it.flips u v) (seen s (inked plan it.inks print) u v))
+
+-- a page of pixels is the print of a planned page
+pub record IsPrintOf (election : Election) (plan : PagePlan) (page : Page) (printed : PrintedPage) : Type 0 where
+  pub planned : IsPlanned election printed plan
+  pub painted : page ≡ bitmap_of election plan printed
 
 -- every simulated scan of a printed page fits that page, with the marks that were drawn
 abbrev pub SimulatedScansFit : Type 0
