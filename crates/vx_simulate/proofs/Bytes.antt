@@ -1,8 +1,8 @@
 -- Laws of the bits of packed bytes: chosen by a mask, moved along, changed.
-use Rattle.std.proofs.Common.{◌≡◌, ◌≢◌, ◌⊎◌, ℕ, zero, suc, ◌+◌, ◌-◌, ◌*◌, ◌/◌, ◌%◌, ◌^◌, ◌<◌, ◌≤◌, ◌==◌, min, max, cond, nat_lt, Bool, true, false, not, List, length, get_or, set, bit_and, bit_or, refl, ap, ap₂, sym, subst, ◌∙◌, inl, inr, arith, pow_pos, shr-shr, w8, get_or-set_same, get_or-set_other}
+use Rattle.std.proofs.Common.{◌≡◌, ◌≢◌, ℕ, zero, suc, ◌+◌, ◌-◌, ◌*◌, ◌/◌, ◌%◌, ◌^◌, ◌<◌, ◌≤◌, ◌==◌, min, max, cond, nat_lt, Bool, true, false, List, length, get_or, set, bit_and, bit_or, refl, ap, ap₂, sym, ◌∙◌, inl, inr, arith, pow_pos, shr-shr, w8, get_or-set_same, get_or-set_other}
 use Rattle.std.specs.Int.{bit_at, bit_not}
 use Rattle.std.specs.Int.RustNames.{bit_xor}
-use Rattle.std.proofs.lemmas.Bool.{cases_lt, cases_eq}
+use Rattle.std.proofs.lemmas.Bool.{cases_lt}
 use Rattle.std.proofs.lemmas.Nat.Bits.{bit_at-lt, bit_at-zero, bit_at_and, bit_at_or, bit_at_xor, bit_at_not, bit_at_above, bit_at_cat_low, bit_at_cat_high}
 use Rattle.vx_bits.specs.Packed.{packed_pixel}
 use Rattle.vx_margin.specs.Flips.{differ}

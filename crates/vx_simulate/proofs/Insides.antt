@@ -1,5 +1,5 @@
 -- What lies inside the outline of a bubble, row by row, and ink there.
-use Rattle.std.proofs.Common.{◌≡◌, ◌⊎◌, ℕ, zero, suc, ◌+◌, ◌-◌, ◌*◌, ◌<◌, ◌≤◌, min, nat_lt, nat_le, Bool, true, false, ◌||◌, ◌&&◌, ℤ, pos, negsuc, nat_abs, ◌+ℤ◌, ◌-ℤ◌, ◌≤ℤ◌, ◌<ℤ◌, int_le, int_lt, refl, ap, ap₂, sym, ◌∙◌, inl, inr, arith, add-one}
+use Rattle.std.proofs.Common.{◌≡◌, ℕ, zero, suc, ◌+◌, ◌-◌, ◌<◌, ◌≤◌, min, nat_lt, nat_le, Bool, true, false, ◌||◌, ◌&&◌, ℤ, pos, negsuc, nat_abs, ◌+ℤ◌, ◌-ℤ◌, refl, ap, ap₂, sym, ◌∙◌, inl, inr, arith, add-one}
 use Rattle.std.proofs.lemmas.Int.{ints}
 use Rattle.std.specs.List.{list_all}
 use Rattle.std.proofs.lemmas.Bool.{cases_lt, and_parts}
@@ -9,7 +9,7 @@ use Rattle.vx_plane.specs.Count.{one_if, sum_from, count_in}
 use Rattle.vx_plane.proofs.Sums.{sum_from-more}
 use Rattle.vx_plane.proofs.Counts.{count_in-row_more, count_in-by_rows}
 use Rattle.vx_plane.proofs.Pages.{dark_at-inside, rectangle-inside, rectangle-sides, in_any-some, in_any-one, in_any-more}
-use Rattle.vx_layout.specs.Print.{inner_ellipse, bubble_box}
+use Rattle.vx_layout.specs.Print.{inner_ellipse}
 use Rattle.vx_simulate.specs.declared.painting.Stretch.{Stretch}
 use Rattle.vx_simulate.specs.declared.ink.Ink.TheVariants.{FirstPixels, WholeBox}
 use Rattle.vx_simulate.specs.declared.painting.TheConstants.{INSIDE}

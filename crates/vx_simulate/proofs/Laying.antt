@@ -1,5 +1,5 @@
 -- What is drawn of a page, one thing after the other.
-use Rattle.std.proofs.Common.{◌≡◌, ℕ, ◌*◌, Bool, List, length, refl, ap, ◌∙◌, arith}
+use Rattle.std.proofs.Common.{◌≡◌, ℕ, ◌*◌, Bool, List, length, ap, ◌∙◌, arith}
 use Rattle.std.specs.Prelude.{Result, IsErr, OnOk}
 use Rattle.std.specs.List.{range_with_len}
 use Rattle.std.proofs.lemmas.Result.{IfOk-from_err}

@@ -1,5 +1,5 @@
 -- What is drawn for the contests of a page.
-use Rattle.std.proofs.Common.{◌≡◌, ℕ, zero, suc, ◌+◌, ◌≤◌, ◌<◌, Bool, true, false, cond, List, [], ◌∷◌, ◌++◌, length, filter, refl, ap, sym, ◌∙◌, arith}
+use Rattle.std.proofs.Common.{◌≡◌, ℕ, ◌+◌, ◌≤◌, ◌<◌, Bool, true, false, cond, List, [], ◌∷◌, ◌++◌, length, filter, ap, ◌∙◌, arith}
 use Rattle.std.specs.List.{range_with_len}
 use Rattle.std.proofs.lemmas.List.Elements.{filter-append}
 use Rattle.rand_pcg.specs.Lcg.{Lcg}
@@ -7,7 +7,7 @@ use Rattle.vx_base.proofs.Ranges.{range-more}
 use Rattle.vx_election_model.specs.declared.contest.Contest.{Contest}
 use Rattle.vx_election_model.specs.declared.election.Election.{Election}
 use Rattle.vx_election_model.specs.Options.{options_of}
-use Rattle.vx_election_model.specs.Valid.{IsContest, HasChoices, HasAnswers, HasCandidates, IsValid}
+use Rattle.vx_election_model.specs.Valid.{IsContest, HasChoices, IsValid}
 use Rattle.vx_layout.specs.Flow.{contest_at, no_contest}
 use Rattle.vx_simulate.specs.Draws.{draw_all}
 use Rattle.vx_simulate.proofs.OneMore.{all-append}

@@ -1,7 +1,6 @@
 -- One draw more after those that were drawn.
 use Rattle.std.proofs.Common.{◌≡◌, ℕ, zero, suc, ◌+◌, ◌<◌, List, [], ◌∷◌, ◌++◌, take, get_or, length, refl, sym, ap, ◌∙◌, arith}
 use Rattle.std.proofs.lemmas.List.{take_more}
-use Rattle.std.proofs.Math.Seq.{take-suc}
 use Rattle.std.specs.List.{range_with_len}
 use Rattle.vx_base.proofs.Ranges.{range-more}
 use Rattle.rand_pcg.specs.Lcg.{Lcg}

@@ -1,5 +1,5 @@
 -- The ink of a page never leaves its paper.
-use Rattle.std.proofs.Common.{◌≡◌, ℕ, ◌<◌, true, List, length, ℤ, ap, sym, ◌∙◌}
+use Rattle.std.proofs.Common.{◌≡◌, ℕ, true, List, length, ℤ, ap, sym, ◌∙◌}
 use Rattle.std.specs.Prelude.{All}
 use Rattle.vx_base.proofs.Booleans.{or-cases}
 use Rattle.vx_plane.specs.Plane.{Pixels, Page, page_of, dark_at, in_any}

@@ -4,7 +4,7 @@ use Rattle.std.specs.Prelude.{slice_index_or}
 use Rattle.std.proofs.lemmas.Int.{ints}
 use Rattle.std.proofs.lemmas.Bool.{cases_lt}
 use Rattle.vx_base.proofs.Booleans.{and-left, or-cases}
-use Rattle.vx_plane.specs.Plane.{Pixels, page_of, dark_at, in_any, any_of, nowhere}
+use Rattle.vx_plane.specs.Plane.{Pixels, page_of, dark_at, any_of, nowhere}
 use Rattle.vx_plane.proofs.Pages.{rectangle-sides, in_any-some, any_of-some, dark_at-inside, dark_at-beside, dark_at-under}
 use Rattle.vx_grid.specs.declared.paper.Paper.{Paper}
 use Rattle.vx_grid.specs.declared.paper.Paper.TheVariants.{Letter, Legal}
@@ -67,6 +67,10 @@ pub first-low : (paper : Paper) → 60 ≤ first_y paper
 first-low Letter = omega arith
 first-low Legal = omega arith
 
+last-low : (paper : Paper) → 40 ≤ last_row paper
+last-low Letter = omega arith
+last-low Legal = omega arith
+
 mark-on_page : (paper : Paper) (c r : ℕ) (x y : ℤ) → c ≤ 33 → r ≤ last_row paper → IsInMark paper c r x y → IsOnPage page_width (page_height paper) x y
 mark-on_page paper c r x y column row m =
     let height = height-is paper in
@@ -98,13 +102,14 @@ code-box-on_page paper n x y few h =
     let sides = rectangle-sides (pos (x_of c) -ℤ pos 14) (pos (y_of paper r) -ℤ pos 10) 28 20 x y h in
     let column : c ≤ 30 = omega arith in
     let row : r ≤ first_code_row paper + 2 = omega arith in
+    let many = last-low paper in
     let height = height-is paper in
     let first = first-low paper in
     record {
       left = omega (arith, ints, sides.0);
       right = omega (arith, ints, sides.1, column);
       top = omega (arith, ints, sides.2, first);
-      bottom = omega (arith, ints, sides.3, row, height, first);
+      bottom = omega (arith, ints, sides.3, row, height, first, many);
     }
 
 -- the box of a bubble on the grid lies there

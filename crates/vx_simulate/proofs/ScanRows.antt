@@ -1,5 +1,5 @@
 -- How a row of a scan comes of the packed rows of its paper.
-use Rattle.std.proofs.Common.{◌≡◌, ◌≢◌, ◌⊎◌, ℕ, zero, suc, ◌+◌, ◌-◌, ◌*◌, ◌/◌, ◌%◌, ◌<◌, ◌≤◌, ◌==◌, cond, nat_lt, Bool, true, false, List, take, drop, length, get_or, set, ℤ, pos, nat_abs, ◌+ℤ◌, ◌-ℤ◌, ◌≤ℤ◌, refl, ap, ap₂, sym, subst, ◌∙◌, inl, inr, arith, length-set, get_or-set_other, get_or-take, get_or-drop}
+use Rattle.std.proofs.Common.{◌≡◌, ℕ, zero, suc, ◌+◌, ◌-◌, ◌*◌, ◌/◌, ◌%◌, ◌<◌, ◌≤◌, ◌==◌, cond, nat_lt, Bool, true, false, List, take, drop, length, get_or, set, pos, nat_abs, ◌+ℤ◌, ◌-ℤ◌, ◌≤ℤ◌, refl, ap, ap₂, sym, ◌∙◌, inl, inr, arith, length-set, get_or-set_other, get_or-take, get_or-drop}
 use Rattle.std.specs.Int.{bit_at}
 use Rattle.std.specs.Int.RustNames.{bit_xor}
 use Rattle.std.proofs.lemmas.Int.{ints}
@@ -15,7 +15,7 @@ use Rattle.vx_geom.specs.Seen.{seen}
 use Rattle.vx_margin.specs.Flips.{differ}
 use Rattle.vx_simulate.specs.Lie.{IsShort}
 use Rattle.vx_simulate.specs.declared.strips.Strip.{Strip}
-use Rattle.vx_simulate.specs.Rows.{shown, row_of, row_in, AreStrips, ShowsRow}
+use Rattle.vx_simulate.specs.Rows.{row_of, row_in, AreStrips, ShowsRow}
 use Rattle.vx_simulate.proofs.Bytes.{changed-bit, written-here, written-elsewhere}
 use Rattle.vx_simulate.proofs.Columns.{short-right}
 

@@ -1,5 +1,5 @@
 -- How a scan comes of a page, its ink and its flips.
-use Rattle.std.proofs.Common.{◌≡◌, ℕ, ◌||◌, Bool, List, length, ℤ, pos, refl, ap, sym, ◌∙◌}
+use Rattle.std.proofs.Common.{◌≡◌, ◌||◌, Bool, List, length, ℤ, pos, ap, ◌∙◌}
 use Rattle.vx_plane.specs.Plane.{Pixels, Page, page_of, dark_at, in_any}
 use Rattle.vx_plane.proofs.Pages.{page_of-same, dark_at-inside}
 use Rattle.vx_layout.specs.declared.pages.PagePlan.{PagePlan}

@@ -1,5 +1,5 @@
 -- Flips one at a time.
-use Rattle.std.specs.Prelude.{ℕ, ◌&&◌, not, List, slice_index_or, []}
+use Rattle.std.specs.Prelude.{◌&&◌, not}
 use Rattle.std.specs.Ordering.{int_eq}
 use Rattle.vx_plane.specs.Plane.{Pixels}
 use Rattle.vx_grid.specs.declared.paper.Paper.{Paper}

@@ -1,5 +1,5 @@
 -- The rows of a bubble's box, and what lies inside the outline in each.
-use Rattle.std.specs.Prelude.{ℕ, ◌+◌, Bool, false, ◌&&◌, nat_le, nat_lt, slice_index_or, ℤ, pos}
+use Rattle.std.specs.Prelude.{ℕ, ◌+◌, false, ◌&&◌, nat_le, nat_lt, slice_index_or, pos}
 use Rattle.vx_plane.specs.Plane.{Pixels}
 use Rattle.vx_simulate.specs.declared.painting.Stretch.{Stretch}
 use Rattle.vx_simulate.specs.declared.painting.TheConstants.{INSIDE}

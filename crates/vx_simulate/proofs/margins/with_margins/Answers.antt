@@ -1,5 +1,5 @@
-use Rattle.std.proofs.Common.{◌≡◌, ◌+◌, ◌*◌, ◌++◌, ◌<◌, List, [], length, replicate, ap, subst, sym, ◌∙◌, arith}
-use Rattle.vx_plane.specs.Plane.{Page, page_of, dark_at}
+use Rattle.std.proofs.Common.{◌≡◌, ◌+◌, ◌*◌, ◌++◌, List, length, replicate, ap, subst, sym, ◌∙◌, arith}
+use Rattle.vx_plane.specs.Plane.{Page, dark_at}
 use Rattle.vx_bits.specs.Packed.{stride_of, packed_page}
 use Rattle.vx_simulate.specs.Rows.{in_margins, margined, HoldsRows}
 use Rattle.vx_simulate.proofs.Margined.{holds-first, holds-more, held-all, light-above, length-margined, margined-row, page-held}

@@ -1,5 +1,4 @@
 use Rattle.std.proofs.Common.{◌≡◌, ap, ap₂, ◌∙◌}
-use Rattle.vx_plane.specs.Plane.{Page}
 use Rattle.vx_bits.specs.Packed.{packed_page}
 use Rattle.vx_simulate.proofs.painting.copied.Goals as goal
 

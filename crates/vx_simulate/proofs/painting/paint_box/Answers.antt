@@ -1,5 +1,5 @@
-use Rattle.std.proofs.Common.{◌≡◌, ◌-◌, ◌∙◌, ap₂, pos, arith}
-use Rattle.vx_plane.specs.Plane.{rectangle, painted, placed}
+use Rattle.std.proofs.Common.{◌-◌, pos, arith}
+use Rattle.vx_plane.specs.Plane.{rectangle, placed}
 use Rattle.vx_simulate.specs.declared.ink.Ink.TheVariants.{WholeBox}
 use Rattle.vx_simulate.specs.Ink.{ink_pixels}
 use Rattle.vx_simulate.proofs.Laid.{laid-same}

@@ -1,4 +1,4 @@
-use Rattle.std.proofs.Common.{◌≡◌, ◌<◌, List, refl, ap, ap₂, get_or, length, pos, ◌∙◌, arith}
+use Rattle.std.proofs.Common.{◌≡◌, List, refl, ap, ap₂, get_or, pos, ◌∙◌}
 use Rattle.vx_plane.specs.Plane.{painted, in_any, placed}
 use Rattle.vx_grid.specs.Grid.{x_of, y_of}
 use Rattle.vx_layout.specs.declared.bubbles.Bubble.{Bubble}

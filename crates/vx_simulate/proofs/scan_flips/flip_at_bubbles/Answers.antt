@@ -1,6 +1,6 @@
-use Rattle.std.proofs.Common.{◌≡◌, ◌<◌, List, ℕ, [], refl, ap, ap₂, get_or, length, ◌∙◌, arith}
+use Rattle.std.proofs.Common.{◌≡◌, ◌<◌, List, [], refl, ap, ap₂, get_or, length, ◌∙◌, arith}
 use Rattle.std.proofs.lemmas.List.{get_or_read}
-use Rattle.vx_plane.specs.Plane.{painted, in_any}
+use Rattle.vx_plane.specs.Plane.{painted}
 use Rattle.vx_grid.specs.Sizes.{bubble, zone_of}
 use Rattle.vx_layout.specs.declared.bubbles.Bubble.{Bubble}
 use Rattle.vx_scan_model.specs.Ink.{bubble_at}

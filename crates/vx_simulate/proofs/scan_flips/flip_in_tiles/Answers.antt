@@ -1,8 +1,8 @@
-use Rattle.std.proofs.Common.{◌≡◌, ◌<◌, ◌*◌, List, ℕ, [], refl, ap, get_or, pos, ◌∙◌, arith, ◌%◌, ◌/◌}
+use Rattle.std.proofs.Common.{◌≡◌, ◌*◌, [], refl, ap, get_or, pos, ◌∙◌, arith, ◌%◌, ◌/◌}
 use Rattle.std.proofs.lemmas.List.{get_or_read}
-use Rattle.vx_plane.specs.Plane.{painted, in_any}
+use Rattle.vx_plane.specs.Plane.{painted}
 use Rattle.vx_geom.specs.Slants.{slant_of}
-use Rattle.vx_simulate.specs.Flips.{tile_places, places_from, tile_columns, tile_rows}
+use Rattle.vx_simulate.specs.Flips.{tile_places, places_from}
 use Rattle.vx_simulate.specs.Flipped.{shown_frame, within}
 use Rattle.vx_simulate.proofs.Laid.{laid-none, next-within}
 use Rattle.vx_simulate.proofs.scan_flips.flip_in_tiles.Goals as goal

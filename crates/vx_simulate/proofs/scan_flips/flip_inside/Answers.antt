@@ -1,4 +1,4 @@
-use Rattle.std.proofs.Common.{◌≡◌, true, not, pos, ◌+ℤ◌, ap, sym, ◌∙◌, to_z-of_z}
+use Rattle.std.proofs.Common.{not, pos, ◌+ℤ◌, ap, sym, ◌∙◌, to_z-of_z}
 use Rattle.vx_grid.specs.declared.places.Point.{Point}
 use Rattle.vx_plane.specs.Count.{outside_of}
 use Rattle.vx_grid.specs.Regions.{frame_zone}

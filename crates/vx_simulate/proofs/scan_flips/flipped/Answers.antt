@@ -1,5 +1,5 @@
-use Rattle.std.proofs.Common.{length, ◌*◌, ap, ◌∙◌}
-use Rattle.vx_plane.specs.Plane.{union, in_any}
+use Rattle.std.proofs.Common.{length, ◌*◌}
+use Rattle.vx_plane.specs.Plane.{in_any}
 use Rattle.vx_geom.specs.Slants.{slant_of}
 use Rattle.vx_geom.specs.Seen.{seen}
 use Rattle.vx_simulate.specs.Lie.{frame_width, frame_height}

@@ -1,5 +1,5 @@
 use Rattle.std.proofs.Common.{◌≡◌, ◌<◌, sym, ◌∙◌, arith}
-use Rattle.vx_simulate.proofs.Zoned.{zones-one, zones-none, zones-none-more}
+use Rattle.vx_simulate.proofs.Zoned.{zones-one, zones-none}
 use Rattle.vx_simulate.proofs.scan_flips.is_in_any_zone.Goals as goal
 
 pub returns-then-is_in_box_zone : goal.returns-then-is_in_box_zone

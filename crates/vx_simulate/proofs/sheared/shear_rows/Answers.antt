@@ -1,4 +1,4 @@
-use Rattle.std.proofs.Common.{◌≡◌, ◌+◌, ◌*◌, ◌/◌, arith}
+use Rattle.std.proofs.Common.{◌≡◌, ◌*◌, ◌/◌, arith}
 use Rattle.vx_geom.specs.Slants.{slant_of}
 use Rattle.vx_simulate.proofs.ScanRows.{shows-at}
 use Rattle.vx_simulate.proofs.sheared.shear_rows.Goals as goal

@@ -1,11 +1,11 @@
-use Rattle.std.proofs.Common.{◌≡◌, ℕ, ◌+◌, ◌≤◌, List, ℤ, ap, ◌∙◌, arith, rules}
+use Rattle.std.proofs.Common.{◌≡◌, ◌+◌, ◌≤◌, List, ℤ, ap, ◌∙◌, arith, rules}
 use Rattle.std.proofs.lemmas.Result.{IfOk-weaker}
 use Rattle.vx_plane.specs.Plane.{Page, page_of, dark_at}
 use Rattle.vx_grid.specs.declared.paper.Paper.{Paper}
 use Rattle.vx_grid.specs.declared.paper.Paper.TheVariants.{Letter, Legal}
-use Rattle.vx_grid.specs.Paper.{page_width, page_height}
+use Rattle.vx_grid.specs.Paper.{page_height}
 use Rattle.vx_simulate.specs.declared.ink.Ink.{Ink}
-use Rattle.vx_simulate.specs.Lie.{frame_width, frame_height}
+use Rattle.vx_simulate.specs.Lie.{frame_height}
 use Rattle.vx_simulate.specs.Ink.{inked}
 use Rattle.vx_simulate.proofs.Papers.{paper-shows}
 use Rattle.vx_simulate.proofs.Scanning.{scan-is}

@@ -1,6 +1,5 @@
 use Rattle.std.proofs.Common.{◌≡◌, Bool, List, length, ap, sym, subst, ◌∙◌}
 use Rattle.std.proofs.lemmas.List.{length-map}
-use Rattle.rand_pcg.specs.Lcg.{Lcg}
 use Rattle.vx_simulate.specs.declared.ink.Ink.{Ink}
 use Rattle.vx_simulate.specs.declared.flips.Flips.{Flips}
 use Rattle.vx_simulate.specs.Marks.{draw_marks, is_marked}
