@@ -92,8 +92,7 @@ page-laid election plan g g1 g2 g3 g4 it marked from lie next ink after flip las
     let shear : it.shear ≡ (draw_shear plan.paper start).0 = lie ∙ ap (λ (s : Lcg). (draw_shear plan.paper s).0) from in
     let first : g2 ≡ (draw_shear plan.paper start).1 = next ∙ ap (λ (s : Lcg). (draw_shear plan.paper s).1) from in
     let second : it.inks ≡ (draw_inks election.thresholds marks g2).0 = ink ∙ ap (λ (m : List Bool). (draw_inks election.thresholds m g2).0) marked in
-    let third : g3 ≡ (draw_inks election.thresholds marks g2).1 = after ∙ ap (λ (m : List Bool). (draw_inks election.thresholds m g2).1) marked in
-    (
+    let third : g3 ≡ (draw_inks election.thresholds marks g2).1 = after ∙ ap (λ (m : List Bool). (draw_inks election.thresholds m g2).1) marked in (
       simulation-same _ _ _ _ _ _ _ _ marked shear
           (second-laid (draw_shear plan.paper) (draw_inks election.thresholds marks) (draw_flips plan) start g2 g3 g4 it.inks it.flips first second third flip last)
           (third-laid (draw_shear plan.paper) (draw_inks election.thresholds marks) (draw_flips plan) start g2 g3 g4 it.inks it.flips first second third flip last),

@@ -12,10 +12,10 @@ ghost use Rattle.vx_simulate.specs.Lie.{IsShort};
 ghost use Rattle.vx_simulate.specs.Simulated as simulated;
 ghost use Rattle.vx_simulate.specs.Simulated.{IsPrintOf, scan_of};
 
-use crate::scan_flips::flipped;
 use crate::laws::simulated_scans_fit;
 use crate::marks::Flags;
 use crate::painting::inked_paper;
+use crate::scan_flips::flipped;
 use crate::sheared::sheared_rows;
 use crate::simulation::{Simulation, draw_page};
 use rand_pcg::Pcg32;

@@ -132,8 +132,9 @@ fn pages_are_read_as_they_were_marked(rt: HostRuntime) -> Result<(), Fail> {
         let simulated = simulate_page(&rt, alloc, &mut rng, &election, plan)?;
         assert!(rt; simulated.marked.as_slice() == trial.marks.as_slice());
         assert_eq!(rt; rng.next_word(), trial.next);
-        let reading =
-            read_page(alloc, &election, &plans, &simulated.scan.view()).map_err(|_| "a fault")?;
+        let reading = read_page(alloc, &election, &plans, &simulated.scan.view()).map_err(
+            |_| "a fault",
+        )?;
         for (state, is_marked) in reading.states.as_slice().iter().zip(trial.marks) {
             assert_eq!(rt; *state, state_of(is_marked));
         }

@@ -22,12 +22,19 @@ frame-low Legal = omega arith
 pub sheared_rows-requires : goal.sheared_rows-requires
 sheared_rows-requires g c =
     let size : c.in_ok-paper.paper.height ≡ page_height c.args.plan.now.paper = ap (λ (p : Page). p.height) c.in_ok-paper.ensures ∙ ap (λ (p : Page). p.height) c.requires.whole in
-    let frame : c.in_ok-flips.flips.height ≡ frame_height c.args.plan.now.paper = ap (λ (p : Page). p.height) c.in_ok-flips.ensures in
-    (search rules, (c.requires.short, (
-      ap (λ (p : Page). p.width) c.in_ok-paper.ensures ∙ ap (λ (p : Page). p.width) c.requires.whole,
-      (omega (arith, size, page-low c.args.plan.now.paper),
-          (ap (λ (p : Page). p.width) c.in_ok-flips.ensures, omega (arith, size, frame, frame-low c.args.plan.now.paper))),
-    )))
+    let frame : c.in_ok-flips.flips.height ≡ frame_height c.args.plan.now.paper = ap (λ (p : Page). p.height) c.in_ok-flips.ensures in (
+      search rules,
+      (
+        c.requires.short,
+        (
+          ap (λ (p : Page). p.width) c.in_ok-paper.ensures ∙ ap (λ (p : Page). p.width) c.requires.whole,
+          (
+            omega (arith, size, page-low c.args.plan.now.paper),
+            (ap (λ (p : Page). p.width) c.in_ok-flips.ensures, omega (arith, size, frame, frame-low c.args.plan.now.paper)),
+          ),
+        ),
+      ),
+    )
 
 pub returns : goal.returns
 returns g c =
