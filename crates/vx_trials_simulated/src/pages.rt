@@ -1,9 +1,9 @@
 //! The first page of the town, simulated from a few seeds. What is expected was worked out from the
 //! rules of simulation by another program.
 
-ghost use Rattle.std.specs.Prelude.{◌≡◌, ◌<◌, IfOk};
+ghost use Rattle.std.specs.Prelude.{◌≡◌, IfOk};
 ghost use Rattle.vx_election_model.specs.Valid.{IsValid};
-ghost use Rattle.vx_layout.specs.Printed.{IsPlanned};
+ghost use Rattle.vx_layout.specs.Printed.{IsPlanned, code_of};
 ghost use Rattle.vx_scan_model.specs.Fits.{FitsUpright};
 ghost use Rattle.vx_simulate.specs.Simulated.{IsPrintOf};
 ghost use Rattle.vx_trials_simulated.specs.First.{first_card};
@@ -72,6 +72,20 @@ fn town_on(alloc: Global, paper: Paper) -> Result<Election, Fail>
     }
 }
 
+/// The code of a page of card 0.
+fn code_for(election: &Election, plan: &PagePlan) -> PageCode
+    ensures { result ≡ code_of election.now (first_card plan.now) }
+{
+    PageCode {
+        version: version_of(election.paper),
+        test: false,
+        kind: Kind::Precinct,
+        card: 0,
+        page: plan.page,
+        tag: tag_of(&election.digest),
+    }
+}
+
 /// A page of card 0 as it is printed.
 fn print_page(alloc: Global, election: &Election, plan: &PagePlan) -> Result<BitPage, Fail>
     requires valid { IsValid election.now }
@@ -79,14 +93,7 @@ fn print_page(alloc: Global, election: &Election, plan: &PagePlan) -> Result<Bit
     ensures { IfOk result (λ page. IsPrintOf election.now plan.now page (first_card plan.now)) }
 {
     planned_pages_can_be_printed();
-    let code = PageCode {
-        version: version_of(election.paper),
-        test: false,
-        kind: Kind::Precinct,
-        card: 0,
-        page: plan.page,
-        tag: tag_of(&election.digest),
-    };
+    let code = code_for(election, plan);
     Ok(paint(alloc, election, plan, &code)?)
 }
 
