@@ -1,6 +1,6 @@
 use Rattle.std.proofs.Common.{ap, sym, subst, ◌∙◌}
 use Rattle.vx_grid.specs.Paper.{page_width, page_height}
-use Rattle.vx_plane.specs.Plane.{Page, page_of}
+use Rattle.vx_plane.specs.Plane.{page_of}
 use Rattle.vx_code.specs.declared.code.PageCode.{PageCode}
 use Rattle.vx_code.specs.Code.{IsInRange, boxes_of}
 use Rattle.vx_layout.specs.Print.{print_of}
