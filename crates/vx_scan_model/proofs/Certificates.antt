@@ -34,11 +34,12 @@ use Rattle.vx_scan_model.specs.Border.{border_of}
 use Rattle.vx_scan_model.specs.Named.{named_plan, IsPrintedCode}
 use Rattle.vx_scan_model.specs.Reading.{is_allowed, box_count_of, code_read, scores_of, states_of, reading_on, reading_of_code, reading_of_border, upright_reading_of, told_turned, either_way, reading_of}
 use Rattle.vx_scan_model.specs.Fits.{FitsUpright, Fits, state_of_mark, Says}
+use Rattle.vx_scan_model.specs.Laws.{AreLaws, AreTurnedLaws}
 use Rattle.vx_scan_model.specs.Certificate.{CertifiesUpright, Certifies, ReadingsAreCertificates, SaysWhatFits, CertificatesSayWhatFits}
 use Rattle.vx_scan_model.proofs.Borders.{IsBorderOf-border_of}
 use Rattle.vx_scan_model.proofs.Plans.{named-printed, planned-named}
-use Rattle.vx_scan_model.proofs.Read.{AreLaws, shows-border, code-at, states-at}
-use Rattle.vx_scan_model.proofs.TurnedRead.{AreTurnedLaws, chain-at_marks, no-code}
+use Rattle.vx_scan_model.proofs.Read.{shows-border, code-at, states-at}
+use Rattle.vx_scan_model.proofs.TurnedRead.{chain-at_marks, no-code}
 
 same-reading : (a b : PageReading) → ◌≡◌ {A = Result PageReading PageFault} (Ok a) (Ok b) → a ≡ b
 same-reading a b e = cc

@@ -18,24 +18,23 @@ use Rattle.vx_grid.specs.Borders.{MarkPlaces}
 use Rattle.vx_grid.specs.Regions.{frame_zone}
 use Rattle.vx_grid.specs.Sizes as sizes
 use Rattle.vx_grid.specs.Sizes.{zone_of, window_of}
-use Rattle.vx_border.specs.Laws.{CornerIsFollowed, FollowedGrows}
 use Rattle.vx_fit.specs.Fit.{place_of}
 use Rattle.vx_score.specs.Score.{state_of}
 use Rattle.vx_code.specs.declared.code.PageCode.{PageCode}
-use Rattle.vx_code.specs.Code.{tag_of, place_of_box, boxes_of, version_of, IsShown, Shows, CodesAreGivenBack}
+use Rattle.vx_code.specs.Code.{tag_of, place_of_box, boxes_of, version_of, IsShown, Shows}
 use Rattle.vx_election_model.specs.declared.election.Election.{Election}
 use Rattle.vx_election_model.specs.Valid.{IsValid}
 use Rattle.vx_layout.specs.declared.pages.PagePlan.{PagePlan}
 use Rattle.vx_layout.specs.Plan.{plan_of}
 use Rattle.vx_layout.specs.Pages.{IsOnGrid}
-use Rattle.vx_layout.specs.Printed.{PrintedPage, code_of, print_of_page, KeepsClear, PrintedKeepClear, PrintedHaveCodes, PrintedHavePaper}
+use Rattle.vx_layout.specs.Printed.{PrintedPage, code_of, print_of_page, KeepsClear}
 use Rattle.vx_geom.specs.Slants.{Slant, slant_of}
 use Rattle.vx_geom.specs.Seen.{seen}
 use Rattle.vx_margin.specs.Marks.{image_of, LiesNear}
 use Rattle.vx_margin.specs.Flips.{flips, flips_in, differ}
 use Rattle.vx_margin.specs.Shown.{ShowsMarks, ShowsBorder, count_round}
 use Rattle.vx_margin.specs.Chains.{LieAtMarks}
-use Rattle.vx_margin.specs.Laws.{TimingMarksAreMarks, BordersAreFound, GridPlacesLieNear, WindowsHold, HoldsWindow, FindsBorder}
+use Rattle.vx_margin.specs.Laws.{HoldsWindow, FindsBorder}
 use Rattle.vx_scan_model.specs.declared.fault.PageFault.TheVariants.{FrameSize, OtherElection}
 use Rattle.vx_base.specs.Results.{◌>>=◌}
 use Rattle.vx_base.proofs.Numbers.{equal-yes, equal-no}
@@ -44,23 +43,11 @@ use Rattle.vx_scan_model.specs.Named.{named_plan, plan_on_card, plan_unless}
 use Rattle.vx_scan_model.specs.Reading.{is_allowed, box_count_of, code_read, bubble_score, scores_of, states_of, reading_on, reading_of_code, reading_of_border, upright_reading_of}
 use Rattle.vx_scan_model.specs.Ink.{added_to, bubble_at, HasInk}
 use Rattle.vx_scan_model.specs.Fits.{bubble_flips, code_flips, FitsUpright, state_of_mark, IsReadUpright}
+use Rattle.vx_scan_model.specs.Laws.{AreLaws}
 use Rattle.vx_scan_model.proofs.Borders.{IsBorderOf-border_of}
 use Rattle.vx_scan_model.proofs.Printed.{many_rows, frame-printed, place-columns, place-rows}
 use Rattle.vx_scan_model.proofs.Inks.{zone-ink, box-ink, box-full, box-empty}
 use Rattle.vx_scan_model.proofs.Found.{IsFoundNear, found-near}
-
--- the laws that this stands on
-pub record AreLaws : Type 0 where
-  pub marks_are : TimingMarksAreMarks
-  pub found : BordersAreFound
-  pub places : GridPlacesLieNear
-  pub windows : WindowsHold
-  pub clear : PrintedKeepClear
-  pub codes : PrintedHaveCodes
-  pub paper : PrintedHavePaper
-  pub given_back : CodesAreGivenBack
-  pub corner : CornerIsFollowed
-  pub grows : FollowedGrows
 
 -- a place of the paper in the frame zone has what is printed there
 as-printed : (print paper : Bool) → (print ≡ true → paper ≡ true) → ((paper && not print) ≡ true → ⊥) → paper ≡ print

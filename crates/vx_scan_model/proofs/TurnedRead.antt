@@ -20,7 +20,7 @@ use Rattle.vx_count.specs.Turned.{turned, turned_page, IsWhole}
 use Rattle.vx_border.specs.declared.following.BorderFault.{BorderFault}
 use Rattle.vx_border.specs.Border.{IsBorder, IsBorderOf}
 use Rattle.vx_fit.specs.Fit.{place_of}
-use Rattle.vx_code.specs.Code.{boxes_of, place_of_box, reserved_place, bit_of, NoBitIsRefused}
+use Rattle.vx_code.specs.Code.{boxes_of, place_of_box, reserved_place, bit_of}
 use Rattle.vx_election_model.specs.declared.election.Election.{Election}
 use Rattle.vx_election_model.specs.Valid.{IsValid}
 use Rattle.vx_layout.specs.declared.pages.PagePlan.{PagePlan}
@@ -32,22 +32,15 @@ use Rattle.vx_grid.specs.Places.{point_at}
 use Rattle.vx_mark_model.specs.Corner.{IsInCornerRegion}
 use Rattle.vx_margin.specs.Chains.{IsChain, LieAtMarks}
 use Rattle.vx_margin.specs.Turned.{IsTurned, slant_turned}
-use Rattle.vx_margin.specs.Laws.{FollowedAreChains, TurnedChainsLieAtMarks, TurnedWindowsHold}
 use Rattle.vx_scan_model.specs.declared.fault.PageFault.TheVariants.{FrameSize, Border, Code}
 use Rattle.vx_scan_model.specs.Border.{border_of}
 use Rattle.vx_scan_model.specs.Reading.{is_allowed, box_count_of, code_read, reading_of_code, reading_of_border, upright_reading_of, told_turned, either_way, reading_of}
 use Rattle.vx_scan_model.specs.Fits.{FitsUpright, Fits, IsReadAs, IsReadUpright}
+use Rattle.vx_scan_model.specs.Laws.{AreLaws, AreTurnedLaws}
 use Rattle.vx_scan_model.proofs.Borders.{IsBorderOf-border_of}
 use Rattle.vx_scan_model.proofs.Printed.{many_rows, place-columns, place-rows}
 use Rattle.vx_scan_model.proofs.Inks.{reserved-blank}
-use Rattle.vx_scan_model.proofs.Read.{AreLaws, shows-border, upright-read}
-
--- the further laws that this stands on
-pub record AreTurnedLaws : Type 0 where
-  pub chains : FollowedAreChains
-  pub at_marks : TurnedChainsLieAtMarks
-  pub windows : TurnedWindowsHold
-  pub no_bit : NoBitIsRefused
+use Rattle.vx_scan_model.proofs.Read.{shows-border, upright-read}
 
 -- a place of a frame, or one outside
 by_frame : {P : Type 0} (w h : ℕ) (u v : ℤ) → (pos 0 ≤ℤ u → u <ℤ pos w → pos 0 ≤ℤ v → v <ℤ pos h → P) → ((u <ℤ pos 0) ⊎ (pos w ≤ℤ u) ⊎ (v <ℤ pos 0) ⊎ (pos h ≤ℤ v) → P) → P
@@ -188,7 +181,7 @@ module _ (laws : AreLaws) (more : AreTurnedLaws) (election : Election) (valid : 
       }
 
   -- the scan isn't read as it lies
-  upright-fault : IsFault (upright_reading_of election scan)
+  pub upright-fault : IsFault (upright_reading_of election scan)
   unfolding upright_reading_of
   upright-fault =
       by_test (is_allowed election.paper scan) (subst (λ (p : Paper). IsFault (reading_of_border election scan (border_of p scan))) of_paper

@@ -1,6 +1,6 @@
 -- A scan that fits a printed page with its marks: the bounds within which it is read as that page. This project's
 -- own bounds.
-use Rattle.std.specs.Prelude.{◌≡◌, ◌⊎◌, ◌<◌, ◌≤◌, ℕ, ℤ, pos, List, map, length, Bool, true, false, Ok}
+use Rattle.std.specs.Prelude.{◌≡◌, ◌⊎◌, ◌<◌, ◌≤◌, ℕ, ℤ, pos, List, map, length, Bool, true, false, Ok, Err}
 use Rattle.vx_plane.specs.Plane.{Pixels, Page, page_of, nowhere, rectangle}
 use Rattle.vx_grid.specs.declared.places.Point.{Point}
 use Rattle.vx_grid.specs.declared.state.State.{State}
@@ -23,6 +23,7 @@ use Rattle.vx_geom.specs.Seen.{seen}
 use Rattle.vx_margin.specs.Marks.{mark_image}
 use Rattle.vx_margin.specs.Flips.{flips_in, flips_on}
 use Rattle.vx_margin.specs.Shown.{count_at, count_round, IsInStartRegion, ShowsZone}
+use Rattle.vx_scan_model.specs.declared.fault.PageFault.{PageFault}
 use Rattle.vx_scan_model.specs.declared.reading.PageReading.{PageReading}
 use Rattle.vx_election_model.specs.Valid.{IsValid}
 use Rattle.vx_scan_model.specs.Reading.{is_allowed, upright_reading_of, reading_of}
@@ -100,6 +101,13 @@ abbrev pub UprightScansAreRead : Type 0
 UprightScansAreRead =
     (election : Election) (scan : Page) (printed : PrintedPage) (plan : PagePlan) (marks : List Bool) → IsValid election
     → FitsUpright election scan printed plan marks → IsReadUpright election scan printed marks
+
+-- a scan that fits a printed page with some marks when it is turned by 180 degrees has a fault as it lies
+abbrev pub TurnedPagesAreNone : Type 0
+TurnedPagesAreNone =
+    (election : Election) (scan : Page) (printed : PrintedPage) (plan : PagePlan) (marks : List Bool) → IsValid election
+    → IsWhole scan → FitsUpright election (turned_page scan) printed plan marks
+    → (fault : PageFault) × (upright_reading_of election scan ≡ Err fault)
 
 -- every scan that fits a printed page with its marks, as it lies or turned, is read as that page with those marks
 abbrev pub FittingScansAreRead : Type 0

@@ -5,4 +5,5 @@ pub mod Named
 pub mod Faults
 pub mod Ink
 pub mod Fits
+pub mod Laws
 pub mod Certificate

@@ -4,7 +4,8 @@ ghost use Rattle.vx_scan_model.specs.Border.{BorderIsGiven, EachScanHasItsBorder
 ghost use Rattle.vx_scan_model.specs.Certificate.{ReadingsAreCertificates, CertificatesSayWhatFits, PlacesAreTested};
 ghost use Rattle.vx_scan_model.specs.Named.{NamedStandOnGrid, CodesNamePrintedPages};
 ghost use Rattle.vx_scan_model.specs.Ink.{BubblesAreOutlined};
-ghost use Rattle.vx_scan_model.specs.Fits.{FittingScansAreRead, FitsOnePage, ShearedPrintsFit, CleanPrintsFit};
+ghost use Rattle.vx_scan_model.specs.Fits.{TurnedPagesAreNone, FittingScansAreRead, FitsOnePage, ShearedPrintsFit, CleanPrintsFit};
+ghost use Rattle.vx_scan_model.specs.Laws.{AreLaws, AreTurnedLaws};
 
 use vx_border::{a_list_is_followed, borders_are_one};
 use vx_code::{codes_are_given_back, no_bit_is_refused};
@@ -36,11 +37,11 @@ pub fn every_scan_has_its_border()
     a_list_is_followed();
 }
 
-/// Every scan that fits a printed page with its marks, as it lies or turned, is read as that page: its
-/// marked bubbles are Marked and all others Clear. So a scan fits at most one page, with one set of marks.
-pub fn fitting_scans_are_read()
-    ensures read { FittingScansAreRead }
-    ensures one { FitsOnePage }
+/// The laws of the crates below by which a scan that fits as it lies is read, and the further ones by which one
+/// that fits when it is turned isn't read as it lies.
+fn laws_below()
+    ensures upright { AreLaws }
+    ensures turned { AreTurnedLaws }
 {
     a_list_is_followed();
     codes_are_given_back();
@@ -54,6 +55,22 @@ pub fn fitting_scans_are_read()
     followed_places_are_chains();
     turned_chains_lie_at_marks();
     turned_windows_hold();
+}
+
+/// Where a scan fits a printed page with some marks when it is turned by 180 degrees, it has a fault as it lies.
+pub fn turned_pages_are_none_as_they_lie()
+    ensures { TurnedPagesAreNone }
+{
+    laws_below();
+}
+
+/// Every scan that fits a printed page with its marks, as it lies or turned, is read as that page: its
+/// marked bubbles are Marked and all others Clear. So a scan fits at most one page, with one set of marks.
+pub fn fitting_scans_are_read()
+    ensures read { FittingScansAreRead }
+    ensures one { FitsOnePage }
+{
+    laws_below();
 }
 
 /// The bubbles of a page that a code names stand on the grid of the election's paper, and are fewer than
@@ -91,19 +108,8 @@ pub fn readings_are_certificates()
 pub fn certificates_say_what_fits()
     ensures { CertificatesSayWhatFits }
 {
-    a_list_is_followed();
-    codes_are_given_back();
-    no_bit_is_refused();
-    planned_pages_can_be_printed();
-    printed_pages_keep_clear();
-    timing_marks_are_marks();
-    borders_are_found();
-    grid_places_lie_near();
-    windows_hold();
+    laws_below();
     corner_chains_lie_at_marks();
-    followed_places_are_chains();
-    turned_chains_lie_at_marks();
-    turned_windows_hold();
     turned_twice_is_as_before();
 }
 

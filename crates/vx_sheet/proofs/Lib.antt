@@ -6,3 +6,4 @@ pub mod Paired
 pub mod Short
 pub mod Planned
 pub mod Kept
+pub mod Within

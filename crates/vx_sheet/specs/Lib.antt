@@ -5,3 +5,4 @@ pub mod Laws
 pub mod Came
 pub mod Lines
 pub mod Shows
+pub mod Spans

@@ -1,7 +1,8 @@
-ghost use Rattle.std.specs.Prelude.{◌≡◌, ◌++◌, IfOk, OnOk};
+ghost use Rattle.std.specs.Prelude.{◌≡◌, ◌≤◌, ◌++◌, IfOk, OnOk};
 ghost use Rattle.std.specs.List.{flat_map, range_with_len};
 ghost use Rattle.std.specs.Option.{option_copied};
 ghost use Rattle.vx_sheet.specs.Sheet as sheet;
+ghost use Rattle.vx_sheet.specs.Spans.{AreWithin};
 
 use std::alloc::{AllocError, Global};
 use vx_grid::{State, States};
@@ -99,6 +100,73 @@ fn is_on(plan: &CardPlan, front: &PageReading, back: &PageReading, contest: u32)
     has_bubble(contest, bubbles_on(plan, front)) || has_bubble(contest, bubbles_on(plan, back))
 }
 
+/// Contests have numbers from `least` to `greatest`.
+#[derive(Clone, Copy)]
+pub(crate) struct Span {
+    pub(crate) least: u32,
+    pub(crate) greatest: u32,
+}
+
+/// The span that takes in a contest besides.
+fn reaching(span: Span, contest: u32) -> Span
+    ensures least { result.least ≤ span.least }
+    ensures greatest { span.greatest ≤ result.greatest }
+    ensures from { result.least ≤ contest }
+    ensures to { contest ≤ result.greatest }
+{
+    Span {
+        least: span.least.min(contest),
+        greatest: span.greatest.max(contest),
+    }
+}
+
+/// The span that takes in the contests of some bubbles besides.
+fn widened(span: Span, bubbles: &[Bubble]) -> Span
+    ensures within { AreWithin result bubbles.now }
+    ensures least { result.least ≤ span.least }
+    ensures greatest { span.greatest ≤ result.greatest }
+{
+    let mut wide = span;
+    for bubble in bubbles {
+        wide = reaching(wide, bubble.contest);
+    }
+    wide
+}
+
+/// The span of the contests that have a bubble on either page.
+fn span_of(plan: &CardPlan, front: &PageReading, back: &PageReading) -> Span
+    ensures front { AreWithin result (sheet.bubbles_on plan.now front.now) }
+    ensures back { AreWithin result (sheet.bubbles_on plan.now back.now) }
+{
+    let none = Span {
+        least: u32::MAX,
+        greatest: 0,
+    };
+    let one = widened(none, bubbles_on(plan, front));
+    widened(one, bubbles_on(plan, back))
+}
+
+/// Whether a contest has a bubble on either page, whose contests are of a span; one outside has none.
+fn is_there(
+    plan: &CardPlan,
+    front: &PageReading,
+    back: &PageReading,
+    span: Span,
+    contest: u32,
+) -> bool
+    requires front { AreWithin span (sheet.bubbles_on plan.now front.now) }
+    requires back { AreWithin span (sheet.bubbles_on plan.now back.now) }
+    ensures { result ≡ sheet.is_on plan.now front.now back.now contest }
+{
+    if contest < span.least {
+        return false;
+    }
+    if span.greatest < contest {
+        return false;
+    }
+    is_on(plan, front, back, contest)
+}
+
 /// Adds what a contest was read as, if it has a bubble on either page.
 fn add_marks(
     alloc: Global,
@@ -106,11 +174,14 @@ fn add_marks(
     plan: &CardPlan,
     front: &PageReading,
     back: &PageReading,
+    span: Span,
     contest: u32,
 ) -> Result<(), AllocError>
+    requires front { AreWithin span (sheet.bubbles_on plan.now front.now) }
+    requires back { AreWithin span (sheet.bubbles_on plan.now back.now) }
     ensures { OnOk result (list.new.items ≡ list.old.items ++ sheet.marks_if_on plan.now front.now back.now contest) }
 {
-    if is_on(plan, front, back, contest) {
+    if is_there(plan, front, back, span, contest) {
         list.push(marks_of(alloc, plan, front, back, contest)?)?;
     }
     Ok(())
@@ -130,8 +201,9 @@ pub(crate) fn marks_on(
         ≡ flat_map (sheet.marks_if_on plan.now front.now back.now) (range_with_len 0 sheet.contest_limit)) }
 {
     let mut list = Vec::new(alloc);
+    let span = span_of(plan, front, back);
     for contest in 0..CONTEST_LIMIT {
-        add_marks(alloc, &mut list, plan, front, back, contest)?;
+        add_marks(alloc, &mut list, plan, front, back, span, contest)?;
     }
     Ok(ContestMarksList::from_vec(list))
 }

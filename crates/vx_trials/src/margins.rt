@@ -139,6 +139,11 @@ fn a_page_is_read_up_to_the_last_corner(rt: HostRuntime) -> Result<(), Fail> {
         read_on(alloc, Paper::Letter, &past)?.as_slice(),
         b"page 1 fault 2.1 NoCorner\n".as_slice()
     );
+    // Upside down it has its marks as it lies, and reserved rows where its code would be.
+    assert_eq!(rt;
+        read_on(alloc, Paper::Letter, &turned(alloc, &past)?)?.as_slice(),
+        b"page 1 fault 3.1 BadPair 0 0 0\n".as_slice()
+    );
     Ok(())
 }
 

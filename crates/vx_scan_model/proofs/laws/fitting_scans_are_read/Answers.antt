@@ -1,31 +1,10 @@
 use Rattle.vx_scan_model.specs.Fits.{FittingScansAreRead}
-use Rattle.vx_scan_model.proofs.Read.{AreLaws}
-use Rattle.vx_scan_model.proofs.TurnedRead.{AreTurnedLaws, fits-read}
+use Rattle.vx_scan_model.proofs.TurnedRead.{fits-read}
 use Rattle.vx_scan_model.proofs.Once.{fits-one}
 use Rattle.vx_scan_model.proofs.laws.fitting_scans_are_read.Goals as goal
-use Rattle.vx_scan_model.proofs.laws.fitting_scans_are_read.Goals.{After-turned_windows_hold}
-
-read : After-turned_windows_hold → FittingScansAreRead
-read c = λ election scan printed plan marks valid whole fits.
-    let laws : AreLaws = record {
-      marks_are = c.timing_marks_are_marks.ensures;
-      found = c.borders_are_found.ensures;
-      places = c.grid_places_lie_near.ensures;
-      windows = c.windows_hold.ensures;
-      clear = c.printed_pages_keep_clear.ensures;
-      codes = c.planned_pages_can_be_printed.ensures.codes;
-      paper = c.planned_pages_can_be_printed.ensures.paper;
-      given_back = c.codes_are_given_back.ensures;
-      corner = c.a_list_is_followed.ensures.corner;
-      grows = c.a_list_is_followed.ensures.grows;
-    } in
-    let more : AreTurnedLaws = record {
-      chains = c.followed_places_are_chains.ensures;
-      at_marks = c.turned_chains_lie_at_marks.ensures;
-      windows = c.turned_windows_hold.ensures;
-      no_bit = c.no_bit_is_refused.ensures;
-    } in
-    fits-read laws more election valid scan whole printed plan marks fits
 
 pub returns : goal.returns
-returns c = record { read = read c; one = fits-one (read c) }
+returns c =
+    let read : FittingScansAreRead = λ election scan printed plan marks valid whole fits.
+    fits-read c.laws_below.ensures.upright c.laws_below.ensures.turned election valid scan whole printed plan marks fits in
+    record { read = read; one = fits-one read }
