@@ -1,10 +1,12 @@
-//! Trials of the counting machine: a second machine, written plainly, that looks through the kept events
-//! from the front at each question, answers as the center does over histories that are drawn. Nothing
-//! stands on it.
+//! Trials of counting: a second machine, written plainly, that looks through the kept events from the front
+//! at each question, answers as the center does over histories that are drawn; whole reports beside those
+//! that another program made; what a shared center answers to calls of two passes. Nothing stands on it.
 #![tactic(auto)]
 
 #[cfg(test)]
 mod alike;
+#[cfg(test)]
+mod calls;
 #[cfg(test)]
 mod drawing;
 #[cfg(test)]
@@ -13,5 +15,7 @@ mod finals;
 mod histories;
 #[cfg(test)]
 mod machine;
+#[cfg(test)]
+mod reports;
 #[cfg(test)]
 mod worked;

@@ -16,7 +16,7 @@ use vx_json::Text;
 use vx_rules::{ContestMarks, ContestMarksList, SheetMarks};
 
 /// A town with one contest of two candidates.
-const TOWN: &str =
+pub(crate) const TOWN: &str =
     r#"{"title":"Town","date":"2024-11-05","districts":[{"id":"d","name":"Town"}],"precincts":[{"id":"p","name":"North"}],"contests":[{"id":"mayor","type":"candidate","districtId":"d","title":"Mayor","seats":1,"candidates":[{"id":"a","name":"Ada"},{"id":"b","name":"Bo"}]}],"ballotStyles":[{"id":"s","precincts":["p"],"districts":["d"]}]}"#;
 
 fn key(alloc: Global, number: u32) -> Result<Key, OutOfMemory> {

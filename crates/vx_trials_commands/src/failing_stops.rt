@@ -2,8 +2,8 @@
 //! then holds, the same count gives the records of one that wasn't stopped.
 
 use crate::failing::reading_calls;
-use crate::fronts::{Act, same_records};
-use crate::trials::{COUNTS, Day, Trial, make_day, run_over, run_trial};
+use crate::failing_fronts::{Act, same_records};
+use crate::failing_trials::{COUNTS, Day, Trial, make_day, run_over, run_trial};
 use std::alloc::{AllocError, Global};
 use std::process::Abort;
 use std::test::Fail;

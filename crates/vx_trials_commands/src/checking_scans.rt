@@ -5,11 +5,8 @@ use std::test::Fail;
 use std::thread::Threads;
 use vx_app::run;
 use vx_base::Bytes;
-use vx_io::{Calls, KeeperCalls, MemInputs, MemKeeper, MemSink, NamedBytes, Records, Words};
-
-/// The town's definition.
-const TOWN: &str =
-    r#"{"title":"Town","date":"2024-11-05","districts":[{"id":"d","name":"Town"}],"precincts":[{"id":"p","name":"North"}],"contests":[{"id":"mayor","type":"candidate","districtId":"d","title":"Mayor","seats":1,"candidates":[{"id":"a","name":"Ada"},{"id":"b","name":"Bo"}]}],"ballotStyles":[{"id":"s","precincts":["p"],"districts":["d"]}]}"#;
+use vx_io::{Calls, KeeperCalls, MemInputs, MemKeeper, MemSink, NamedBytes, Records};
+use vx_town::{TOWN, words_of};
 
 /// How many bytes a printed page has: a header of 13, and 213 for each of 2200 rows.
 const PAGE: usize = 468_613;
@@ -25,17 +22,6 @@ const ROW: usize = 213;
 pub(crate) struct Answer {
     pub(crate) status: String,
     pub(crate) text: Vec<u8>,
-}
-
-/// The words of a command.
-fn words_of(alloc: Global, line: &[&str]) -> Result<Words, AllocError> {
-    let mut words = Words::new(alloc);
-    for word in line {
-        if words.count() < 100 {
-            words.push(word)?;
-        }
-    }
-    Ok(words)
 }
 
 /// Runs a command over the town's definition as `e`, scans as `s` and readings as `r`.

@@ -2,8 +2,8 @@
 //! was done before the call; a refused append may have kept its record. The call behind the last one
 //! is never made.
 
-use crate::fronts::{Act, are_same, stand_of};
-use crate::trials::{COUNTS, Day, JOURNALS, READERS, Trial, make_day, run_trial};
+use crate::failing_fronts::{Act, are_same, stand_of};
+use crate::failing_trials::{COUNTS, Day, JOURNALS, READERS, Trial, make_day, run_trial};
 use std::process::Abort;
 use std::test::Fail;
 use std::thread::Threads;

@@ -1,6 +1,9 @@
+//! Reports of a few sheets, byte by byte beside those that another program made.
+
 ghost use Rattle.std.specs.Prelude.{◌≡◌, IfOk, OnOk};
 ghost use Rattle.vx_election_model.specs.Valid.{IsValid};
 
+use crate::worked::TOWN;
 use std::alloc::Global;
 use std::test::Fail;
 use vx_base::OutOfMemory;
@@ -16,11 +19,7 @@ const MOMENT: &str = "2024-11-06T08:00:00Z";
 
 const DEVICE: &str = "00000000-0000-4000-8000-000000000001";
 
-/// A town with one contest of two candidates.
-const TOWN: &str =
-    r#"{"title":"Town","date":"2024-11-05","districts":[{"id":"d","name":"Town"}],"precincts":[{"id":"p","name":"North"}],"contests":[{"id":"mayor","type":"candidate","districtId":"d","title":"Mayor","seats":1,"candidates":[{"id":"a","name":"Ada"},{"id":"b","name":"Bo"}]}],"ballotStyles":[{"id":"s","precincts":["p"],"districts":["d"]}]}"#;
-
-/// Its report where both were marked on one sheet, and a station gave the contest to Bo; made by
+/// The town's report where both were marked on one sheet, and a station gave the contest to Bo; made by
 /// another program.
 const REPORT: &str =
     r#"{"@type":"CVR.CastVoteRecordReport","CVR":[{"@type":"CVR.CVR","BallotSheetId":"1","BallotStyleId":"s","BallotStyleUnitId":"precinct-p","BatchId":"b1","CVRSnapshot":[{"@id":"snapshot-b1-1","@type":"CVR.CVRSnapshot","CVRContest":[{"@type":"CVR.CVRContest","CVRContestSelection":[{"@type":"CVR.CVRContestSelection","ContestSelectionId":"selection-mayor-1","SelectionPosition":[{"@type":"CVR.SelectionPosition","HasIndication":"yes","IsAllocable":"yes","NumberVotes":1}]}],"ContestId":"contest-mayor","Overvotes":0,"Status":[],"Undervotes":0,"WriteIns":0}],"Type":"modified"}],"CurrentSnapshotId":"snapshot-b1-1","ElectionId":"election","UniqueId":"b1-1"}],"Election":[{"@id":"election","@type":"CVR.Election","Candidate":[{"@id":"candidate-mayor-0","@type":"CVR.Candidate","Name":"Ada"},{"@id":"candidate-mayor-1","@type":"CVR.Candidate","Name":"Bo"}],"Contest":[{"@id":"contest-mayor","@type":"CVR.CandidateContest","ContestSelection":[{"@id":"selection-mayor-0","@type":"CVR.CandidateSelection","CandidateIds":["candidate-mayor-0"]},{"@id":"selection-mayor-1","@type":"CVR.CandidateSelection","CandidateIds":["candidate-mayor-1"]}],"Name":"Mayor","VotesAllowed":1}],"ElectionScopeId":"scope","Name":"Town"}],"GeneratedDate":"2024-11-06T08:00:00Z","GpUnit":[{"@id":"scope","@type":"CVR.GpUnit","Name":"Town","Type":"other"},{"@id":"precinct-p","@type":"CVR.GpUnit","Name":"North","Type":"precinct"}],"ReportGeneratingDeviceIds":["device-00000000-0000-4000-8000-000000000001"],"ReportingDevice":[{"@id":"device-00000000-0000-4000-8000-000000000001","@type":"CVR.ReportingDevice"}],"Version":"1.0.0"}

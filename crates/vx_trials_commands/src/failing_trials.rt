@@ -1,10 +1,11 @@
 //! The commands that are tried, what they do in order, and what they are run over.
 
-use crate::fronts::Act::{self, Append, Lines, Page};
+use crate::failing_fronts::Act::{self, Append, Lines, Page};
+use crate::rows::ONE_SHEET;
 use std::test::Fail;
 use std::thread::Threads;
 use vx_io::Records;
-use vx_town::{Answer, Failing, Held, TOWN, TOWN_HEADER, attempt, records_of};
+use vx_town::{Answer, Failing, Held, TOWN, attempt, records_of};
 
 /// A command, the records before it, behind how many acts it takes each of its inputs, whether it
 /// reads the journal, its acts in order, and how it ends where nothing fails.
@@ -21,10 +22,7 @@ pub(crate) struct Trial {
     pub(crate) ends: &'static str,
 }
 
-/// A journal with a blank sheet.
-const ONE_SHEET: &[&str] = &[TOWN_HEADER, "1 add b1 1 0 1 precinct 0:cc"];
-
-/// A script that decides its contest.
+/// A script that decides the contest of a blank sheet.
 const SCRIPT: &[u8] = b"claim 1 b1 1\nselect 1 b1 1 mayor 1\n\nrelease 1 b1 1\n";
 
 /// The words of an export.

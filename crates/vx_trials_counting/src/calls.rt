@@ -1,8 +1,11 @@
+//! What a shared center answers to three calls of two passes, worked by hand.
+
 ghost use Rattle.std.specs.Prelude.{◌≡◌, ◌-◌, ◌<◌, IfOk};
 ghost use Rattle.vx_election_model.specs.Valid.{IsValid};
 ghost use Rattle.vx_events.specs.Fits.{Fits};
-ghost use Rattle.vx_trials_shared.specs.Same.{IsSame, MayCall};
+ghost use Rattle.vx_trials_counting.specs.Same.{IsSame, MayCall};
 
+use crate::worked::TOWN;
 use std::alloc::Global;
 use std::process::Abort;
 use std::sync::Wait;
@@ -16,10 +19,6 @@ use vx_json::Text;
 use vx_records::encode;
 use vx_rules::{ContestMarks, ContestMarksList, SheetMarks};
 use vx_shared::{Entry, Pass, Receipt, SharedCenter};
-
-/// A town with one contest of two candidates.
-pub const TOWN: &str =
-    r#"{"title":"Town","date":"2024-11-05","districts":[{"id":"d","name":"Town"}],"precincts":[{"id":"p","name":"North"}],"contests":[{"id":"mayor","type":"candidate","districtId":"d","title":"Mayor","seats":1,"candidates":[{"id":"a","name":"Ada"},{"id":"b","name":"Bo"}]}],"ballotStyles":[{"id":"s","precincts":["p"],"districts":["d"]}]}"#;
 
 fn key(alloc: Global) -> Result<Key, OutOfMemory> {
     Ok(Key {

@@ -1,5 +1,0 @@
-//! Tests of reports: whole texts beside those that another program made.
-#![tactic(auto)]
-
-#[cfg(test)]
-mod reports;
