@@ -17,6 +17,3 @@ mod words;
 
 pub use deciding::{SCRIPT_LIMIT, decide};
 pub use laws::decide_keeps_journals;
-
-#[cfg(test)]
-mod tests;

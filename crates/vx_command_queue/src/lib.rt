@@ -10,6 +10,3 @@ mod queueing;
 mod walk;
 
 pub use queueing::queue;
-
-#[cfg(test)]
-mod tests;

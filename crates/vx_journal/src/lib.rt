@@ -22,6 +22,3 @@ pub use keeping::{begin_journal, keep_event};
 pub use laws::{headers_begin_journals, journals_grow, journals_in_order, journals_stay};
 pub use reading::read_journal;
 pub use replaying::replay;
-
-#[cfg(test)]
-mod tests;

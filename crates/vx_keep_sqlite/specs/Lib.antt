@@ -1,1 +1,2 @@
+pub mod OnFile
 pub mod Refusals

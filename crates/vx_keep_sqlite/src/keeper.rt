@@ -4,44 +4,49 @@ ghost use Rattle.vx_io.specs.Keeping.{has_failed};
 ghost use Rattle.vx_io.specs.Outside.{Appends, CountsFaults, IsCountOf, IsRecordAt, MayAppend};
 
 use crate::refusal::told;
-use crate::table::Place;
+use crate::table::{Table, append_to, count_in, fetch_from};
 use std::alloc::AllocError;
 use std::marker::Model;
 use std::rt::HostRuntime;
 use vx_base::Bytes;
 use vx_io::{Keeper, KeeperError};
 
-/// A journal in a file that SQLite reads. It tells nothing of its records, and counts its faults:
-/// after the first each later call is one more.
+/// A journal in a file that SQLite reads. It tells nothing of its records; it keeps to the path that it
+/// was made with, and counts its faults: after the first each later call is one more.
 #[derive(Drop)]
 pub struct SqliteKeeper<'r> {
-    place: Place<'r>,
+    rt: &'r HostRuntime,
+    path: String,
+    table: Option<Table>,
     faults: u64,
 }
 
 impl<'r> Model for SqliteKeeper<'r> {
-    ghost use Rattle.std.specs.Prelude.{ℕ};
+    ghost use Rattle.std.specs.Prelude.{string_bytes};
+    ghost use Rattle.vx_keep_sqlite.specs.OnFile.{OnFile};
 
-    ghost Value = { ℕ };
+    ghost Value = { OnFile };
 
-    ghost view = { λ keeper. keeper.faults };
+    ghost view = { λ keeper. record { path = string_bytes keeper.path; faults = keeper.faults } };
 }
 
 impl<'r> SqliteKeeper<'r> {
     /// The keeper of the file at a path, which is opened at the first call. It takes memory for the
     /// path alone.
     pub fn new(rt: &'r HostRuntime, path: &str) -> Result<SqliteKeeper<'r>, AllocError>
-        ensures { IfOk result (λ keeper. keeper ≡ 0) }
+        ensures { IfOk result (λ keeper. keeper ≡ record { path = path.now; faults = 0 }) }
     {
         Ok(SqliteKeeper {
-            place: Place::new(rt, path)?,
+            rt,
+            path: String::from_str(rt.alloc(), path)?,
+            table: None,
             faults: 0,
         })
     }
 
     /// Whether there was a fault, after which the file isn't used again.
     fn has_given_up(&self) -> bool
-        ensures { result ≡ nat_lt 0 self.now }
+        ensures { result ≡ nat_lt 0 self.now.faults }
     {
         self.faults > 0
     }
@@ -60,18 +65,19 @@ fn count_fault(faults: &mut u64, failed: bool)
 impl Keeper for SqliteKeeper<'_> {
     ghost held = { λ _. None };
 
-    ghost faults = { λ keeper. keeper };
+    ghost faults = { λ keeper. keeper.faults };
 
     fn count(&mut self) -> Result<u64, KeeperError>
         ensures count { IfOk result (IsCountOf None) }
-        ensures cause { CountsFaults (has_failed result) self.old self.new }
-        ensures counted { self.new ≡ (if has_failed result then raised self.old else self.old) }
-        ensures given_up { 0 < self.old → result ≡ Err KeeperError.Failed }
+        ensures cause { CountsFaults (has_failed result) self.old.faults self.new.faults }
+        ensures counted { self.new.faults ≡ (if has_failed result then raised self.old.faults else self.old.faults) }
+        ensures given_up { 0 < self.old.faults → result ≡ Err KeeperError.Failed }
+        ensures path { self.new.path ≡ self.old.path }
     {
         let counted = if self.has_given_up() {
             Err(KeeperError::Failed)
         } else {
-            told(self.place.count())
+            told(count_in(self.rt, self.path.as_str(), &mut self.table))
         };
         count_fault(&mut self.faults, counted == Err(KeeperError::Failed));
         counted
@@ -80,15 +86,16 @@ impl Keeper for SqliteKeeper<'_> {
     fn fetch(&mut self, index: u64, into: &mut Bytes) -> Result<(), KeeperError>
         ensures fetched { OnOk result (IsRecordAt None index into.new) }
         ensures refused { OnErr result (into.new ≡ []) }
-        ensures cause { CountsFaults (has_failed result) self.old self.new }
-        ensures counted { self.new ≡ (if has_failed result then raised self.old else self.old) }
-        ensures given_up { 0 < self.old → result ≡ Err KeeperError.Failed }
+        ensures cause { CountsFaults (has_failed result) self.old.faults self.new.faults }
+        ensures counted { self.new.faults ≡ (if has_failed result then raised self.old.faults else self.old.faults) }
+        ensures given_up { 0 < self.old.faults → result ≡ Err KeeperError.Failed }
+        ensures path { self.new.path ≡ self.old.path }
     {
         into.clear();
         let fetched = if self.has_given_up() {
             Err(KeeperError::Failed)
         } else {
-            told(self.place.fetch(index, into))
+            told(fetch_from(self.rt, self.path.as_str(), &mut self.table, index, into))
         };
         if fetched.is_err() {
             into.clear();
@@ -100,14 +107,15 @@ impl Keeper for SqliteKeeper<'_> {
     fn append(&mut self, body: &[u8]) -> Result<(), KeeperError>
         ensures appended { OnOk result (Appends None None body.now) }
         ensures failed { result ≡ Err KeeperError.Failed → MayAppend None None body.now }
-        ensures cause { CountsFaults (has_failed result) self.old self.new }
-        ensures counted { self.new ≡ (if has_failed result then raised self.old else self.old) }
-        ensures given_up { 0 < self.old → result ≡ Err KeeperError.Failed }
+        ensures cause { CountsFaults (has_failed result) self.old.faults self.new.faults }
+        ensures counted { self.new.faults ≡ (if has_failed result then raised self.old.faults else self.old.faults) }
+        ensures given_up { 0 < self.old.faults → result ≡ Err KeeperError.Failed }
+        ensures path { self.new.path ≡ self.old.path }
     {
         let kept = if self.has_given_up() {
             Err(KeeperError::Failed)
         } else {
-            told(self.place.append(body))
+            told(append_to(self.rt, self.path.as_str(), &mut self.table, body))
         };
         count_fault(&mut self.faults, kept == Err(KeeperError::Failed));
         kept

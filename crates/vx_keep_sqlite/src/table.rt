@@ -2,7 +2,6 @@ ghost use Rattle.std.specs.Prelude.{◌≡◌, ◌+ℤ◌, pos, IfOk, OnErr, OnO
 
 use sqlite::types::ValueRef;
 use sqlite::{Connection, Error, ErrorCode, File, FileStore, params};
-use std::alloc::AllocError;
 use std::rt::HostRuntime;
 use vx_base::Bytes;
 
@@ -97,46 +96,46 @@ impl Table {
     }
 }
 
-/// Where the journal is, and the open file once a call has opened it.
-#[derive(Drop)]
-pub(crate) struct Place<'r> {
-    rt: &'r HostRuntime,
-    path: String,
-    table: Option<Table>,
+/// The open file; it is opened, or made, at the first call.
+fn opened<'t>(
+    rt: &HostRuntime,
+    path: &str,
+    table: &'t mut Option<Table>,
+) -> Result<&'t mut Table, Error> {
+    if table.is_none() {
+        *table = Some(Table::open(rt, path)?);
+    }
+    table
+        .as_mut()
+        .ok_or(Error::SqliteFailure(ErrorCode::CannotOpen))
 }
 
-impl<'r> Place<'r> {
-    /// Opens nothing.
-    pub(crate) fn new(rt: &'r HostRuntime, path: &str) -> Result<Place<'r>, AllocError> {
-        Ok(Place {
-            rt,
-            path: String::from_str(rt.alloc(), path)?,
-            table: None,
-        })
-    }
+/// How many records there are in the file at the path.
+pub(crate) fn count_in(
+    rt: &HostRuntime,
+    path: &str,
+    table: &mut Option<Table>,
+) -> Result<u64, Error> {
+    opened(rt, path, table)?.count()
+}
 
-    /// The open file; it is opened at the first call.
-    fn table(&mut self) -> Result<&mut Table, Error> {
-        if self.table.is_none() {
-            self.table = Some(Table::open(self.rt, self.path.as_str())?);
-        }
-        self.table
-            .as_mut()
-            .ok_or(Error::SqliteFailure(ErrorCode::CannotOpen))
-    }
+/// Copies the record at an index of the file at the path behind what is there.
+pub(crate) fn fetch_from(
+    rt: &HostRuntime,
+    path: &str,
+    table: &mut Option<Table>,
+    index: u64,
+    into: &mut Bytes,
+) -> Result<(), Error> {
+    opened(rt, path, table)?.fetch(index, into)
+}
 
-    /// How many records there are.
-    pub(crate) fn count(&mut self) -> Result<u64, Error> {
-        self.table()?.count()
-    }
-
-    /// Copies the record at an index behind what is there.
-    pub(crate) fn fetch(&mut self, index: u64, into: &mut Bytes) -> Result<(), Error> {
-        self.table()?.fetch(index, into)
-    }
-
-    /// Adds a record at the end.
-    pub(crate) fn append(&mut self, body: &[u8]) -> Result<(), Error> {
-        self.table()?.append(body)
-    }
+/// Adds a record at the end of the file at the path.
+pub(crate) fn append_to(
+    rt: &HostRuntime,
+    path: &str,
+    table: &mut Option<Table>,
+    body: &[u8],
+) -> Result<(), Error> {
+    opened(rt, path, table)?.append(body)
 }

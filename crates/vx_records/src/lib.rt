@@ -24,6 +24,3 @@ mod sheets;
 pub use decoding::{JournalFault, decode, header_digest};
 pub use encoding::{encode, header};
 pub use laws::{headers_are_read, records_are_read, refusals_are_small};
-
-#[cfg(test)]
-mod tests;

@@ -24,6 +24,3 @@ pub use laws::{either_page_may_come_first, paired_sheets_can_be_added, sheets_fi
 pub use lines::{push_counted, push_lines};
 pub use pairing::pair;
 pub use reading::{PageRead, read_sheet};
-
-#[cfg(test)]
-mod tests;

@@ -1,6 +1,7 @@
 //! Trials of counting: a second machine, written plainly, that looks through the kept events from the front
 //! at each question, answers as the center does over histories that are drawn; whole reports beside those
-//! that another program made; what a shared center answers to calls of two passes. Nothing stands on it.
+//! that another program made; what a shared center answers to calls of two passes; journals that are read or
+//! stopped; sheets of two readings. Nothing stands on it.
 #![tactic(auto)]
 
 #[cfg(test)]
@@ -14,8 +15,12 @@ mod finals;
 #[cfg(test)]
 mod histories;
 #[cfg(test)]
+mod journals;
+#[cfg(test)]
 mod machine;
 #[cfg(test)]
 mod reports;
+#[cfg(test)]
+mod sheets;
 #[cfg(test)]
 mod worked;

@@ -7,4 +7,6 @@ mod grammar;
 #[cfg(test)]
 mod records;
 #[cfg(test)]
+mod spellings;
+#[cfg(test)]
 mod words;

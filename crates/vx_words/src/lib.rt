@@ -22,6 +22,3 @@ pub use command::Command;
 pub use fault::UsageFault;
 pub use laws::words_spell_one_command;
 pub use parsing::parse;
-
-#[cfg(test)]
-mod tests;

@@ -1,4 +1,3 @@
-use crate::{JournalFault, decode, encode, header, header_digest};
 use std::alloc::Global;
 use std::test::Fail;
 use vx_base::OutOfMemory;
@@ -6,6 +5,7 @@ use vx_election::read_election;
 use vx_events::{Decision, Event, Key, Options, WriteInName};
 use vx_grid::{Kind, State, States};
 use vx_json::Text;
+use vx_records::{JournalFault, decode, encode, header, header_digest};
 use vx_rules::{ContestMarks, ContestMarksList, SheetMarks};
 
 /// A definition, whose SHA-256 another program gave.

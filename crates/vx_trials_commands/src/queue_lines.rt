@@ -1,14 +1,10 @@
-use crate::queue;
 use std::alloc::Global;
 use std::test::Fail;
 use vx_base::Bytes;
 use vx_command::status_of;
+use vx_command_queue::queue;
 use vx_io::{Calls, KeeperCalls, MemInputs, MemKeeper, MemSink, NamedBytes, Records};
-
-const TOWN: &str =
-    r#"{"title":"Town","date":"2024-11-05","districts":[{"id":"d","name":"Town"}],"precincts":[{"id":"p","name":"North"}],"contests":[{"id":"mayor","type":"candidate","districtId":"d","title":"Mayor","seats":1,"candidates":[{"id":"a","name":"Ada"},{"id":"b","name":"Bo"}]}],"ballotStyles":[{"id":"s","precincts":["p"],"districts":["d"]}]}"#;
-
-const HEADER: &str = "1 election 16cbf4c3a45dae96ed01a82ac6d66a24812b6309d97421e2dc4282725ade6e70";
+use vx_town::{TOWN, TOWN_HEADER};
 
 /// What `queue` writes over these records, and then its status.
 fn written(alloc: Global, records: &[&str]) -> Result<String, Fail> {
@@ -39,22 +35,22 @@ fn contests_wait_until_they_are_decided(rt: HostRuntime) -> Result<(), Fail> {
     let rows: [(&[&str], &str); 6] = [
         (&[], "waiting 0\nok"),
         (
-            &[HEADER, blank],
+            &[TOWN_HEADER, blank],
             "wait b1 1 mayor BlankBallot holder -\nwaiting 1\nok",
         ),
         (
-            &[HEADER, blank, over, claim],
+            &[TOWN_HEADER, blank, over, claim],
             "wait b1 1 mayor BlankBallot holder 9999\nwait a2 999999 mayor Overvote holder -\nwaiting 2\nok",
         ),
         (
-            &[HEADER, blank, over, claim, decided],
+            &[TOWN_HEADER, blank, over, claim, decided],
             "wait a2 999999 mayor Overvote holder -\nwaiting 1\nok",
         ),
         (
-            &[HEADER, "1 add b1 1 0 1 precinct 0:gc"],
+            &[TOWN_HEADER, "1 add b1 1 0 1 precinct 0:gc"],
             "wait b1 1 mayor MarginalMark holder -\nwaiting 1\nok",
         ),
-        (&[HEADER, claim], "journal 1 2 no sheet"),
+        (&[TOWN_HEADER, claim], "journal 1 2 no sheet"),
     ];
     for (records, expected) in &rows {
         let text = written(rt.alloc(), records)?;

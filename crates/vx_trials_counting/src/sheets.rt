@@ -1,10 +1,10 @@
-use super::*;
 use std::alloc::{AllocError, Global};
 use std::test::Fail;
 use vx_code::PageCode;
 use vx_grid::{Border, Kind, Paper, Point, State, States};
 use vx_layout::{Bubble, Bubbles, CardPlan, PagePlan, PagePlans, TextLines};
 use vx_scan_model::{PageReading, Scores};
+use vx_sheet::{SheetFault, pair};
 
 /// A page with the bubbles of one contest.
 fn page(alloc: Global, page: u32, contest: u32, options: u32) -> Result<PagePlan, AllocError> {

@@ -1,14 +1,12 @@
-use crate::{ReplayFault, begin_journal, keep_event, read_journal, replay};
+use crate::worked::TOWN;
 use std::alloc::Global;
 use std::test::Fail;
 use vx_election::read_election;
 use vx_events::{Event, Key};
 use vx_io::{KeeperCalls, MemKeeper, Records};
+use vx_journal::{ReplayFault, begin_journal, keep_event, read_journal, replay};
 use vx_json::Text;
 use vx_refusals::Reply;
-
-const TOWN: &str =
-    r#"{"title":"Town","date":"2024-11-05","districts":[{"id":"d","name":"Town"}],"precincts":[{"id":"p","name":"North"}],"contests":[{"id":"mayor","type":"candidate","districtId":"d","title":"Mayor","seats":1,"candidates":[{"id":"a","name":"Ada"},{"id":"b","name":"Bo"}]}],"ballotStyles":[{"id":"s","precincts":["p"],"districts":["d"]}]}"#;
 
 /// The first record of the town's journal, with a sum that another program gave.
 const HEADER: &str = "1 election 16cbf4c3a45dae96ed01a82ac6d66a24812b6309d97421e2dc4282725ade6e70";

@@ -1,14 +1,10 @@
-use crate::decide;
 use std::alloc::Global;
 use std::test::Fail;
 use vx_base::Bytes;
 use vx_command::status_of;
+use vx_command_decide::decide;
 use vx_io::{Calls, KeeperCalls, MemInputs, MemKeeper, MemSink, NamedBytes, Records};
-
-const TOWN: &str =
-    r#"{"title":"Town","date":"2024-11-05","districts":[{"id":"d","name":"Town"}],"precincts":[{"id":"p","name":"North"}],"contests":[{"id":"mayor","type":"candidate","districtId":"d","title":"Mayor","seats":1,"candidates":[{"id":"a","name":"Ada"},{"id":"b","name":"Bo"}]}],"ballotStyles":[{"id":"s","precincts":["p"],"districts":["d"]}]}"#;
-
-const HEADER: &str = "1 election 16cbf4c3a45dae96ed01a82ac6d66a24812b6309d97421e2dc4282725ade6e70";
+use vx_town::{TOWN, TOWN_HEADER};
 
 /// What `decide` writes of a script over these records, its status, and the records from `from` on.
 fn written(alloc: Global, records: &[&str], script: &[u8], from: usize) -> Result<String, Fail> {
@@ -53,7 +49,7 @@ fn the_first_line_that_is_refused_ends_a_script(rt: HostRuntime) -> Result<(), F
     for (script, expected) in &rows {
         let text = written(rt.alloc(), &[], script, 0)?;
         let mut whole = String::from_str(rt.alloc(), expected)?;
-        whole.push_str(HEADER)?;
+        whole.push_str(TOWN_HEADER)?;
         assert_eq!(rt; text.as_str(), whole.as_str());
     }
     Ok(())
@@ -61,7 +57,7 @@ fn the_first_line_that_is_refused_ends_a_script(rt: HostRuntime) -> Result<(), F
 
 #[test]
 fn what_stands_before_a_refused_line_is_kept(rt: HostRuntime) -> Result<(), Fail> {
-    let records = [HEADER, "1 add b1 1 0 1 precinct 0:gc"];
+    let records = [TOWN_HEADER, "1 add b1 1 0 1 precinct 0:gc"];
     let rows: [(&[u8], &str); 5] = [
         (
             b"claim 7 b1 1\n\nselect 7 b1 1 mayor 1 1\nrelease 7 b1 1",

@@ -1,6 +1,6 @@
-use crate::{Command, UsageFault, parse};
 use std::test::Fail;
 use vx_io::Words;
+use vx_words::{Command, UsageFault, parse};
 
 /// The words of a line, and behind them so many scans.
 fn words_of(rt: &HostRuntime, line: &[&str], scans: u32) -> Result<Words, Fail> {
