@@ -28,7 +28,7 @@ pub(crate) fn draws(
     ensures numbers { IfOk result (λ numbers. numbers.items ≡ (draws_of.draws many bound rng.old).0) }
     ensures next { OnOk result (rng.new ≡ (draws_of.draws many bound rng.old).1) }
 {
-    let mut numbers = Vec::new(alloc);
+    let mut numbers = Vec::with_capacity(alloc, many as usize)?;
     for n in 0..many {
         numbers.push(draw(rng, bound))?;
     }
@@ -58,7 +58,7 @@ pub(crate) fn draw_places(
     ensures places { IfOk result (λ places. places.items ≡ (draws_of.draw_places many width height rng.old).0) }
     ensures next { OnOk result (rng.new ≡ (draws_of.draw_places many width height rng.old).1) }
 {
-    let mut places = Vec::new(alloc);
+    let mut places = Vec::with_capacity(alloc, many as usize)?;
     for n in 0..many {
         places.push(draw_place(rng, width, height))?;
     }

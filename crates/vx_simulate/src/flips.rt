@@ -47,7 +47,7 @@ fn draw_lists(
     ensures next { OnOk result (rng.new
         ≡ (draw_all (λ (n : ℕ). places_of many width height) (range_with_len 0 lists) rng.old).1) }
 {
-    let mut drawn = Vec::new(alloc);
+    let mut drawn = Vec::with_capacity(alloc, lists)?;
     for n in 0..lists {
         let places = draw_places(rng, alloc, many, width, height)?;
         drawn.push(ListOf::from_vec(places))?;

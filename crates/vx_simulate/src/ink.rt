@@ -70,7 +70,7 @@ pub(crate) fn draw_inks(
     ensures inks { IfOk result (λ inks. inks.items ≡ (ink.draw_inks thresholds marks.now rng.old).0) }
     ensures next { OnOk result (rng.new ≡ (ink.draw_inks thresholds marks.now rng.old).1) }
 {
-    let mut inks = Vec::new(alloc);
+    let mut inks = Vec::with_capacity(alloc, marks.len())?;
     for marked in marks {
         inks.push(draw_ink(rng, thresholds, *marked))?;
     }

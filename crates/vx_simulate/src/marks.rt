@@ -132,7 +132,7 @@ fn is_marked(drawn: &[Drawn], bubble: Bubble) -> bool
 fn marks_of(alloc: Global, drawn: &[Drawn], plan: &PagePlan) -> Result<Vec<bool>, OutOfMemory>
     ensures { IfOk result (λ marked. marked.items ≡ marks.marks_of drawn.now plan.now) }
 {
-    let mut marked = Vec::new(alloc);
+    let mut marked = Vec::with_capacity(alloc, plan.bubbles.len())?;
     for bubble in plan.bubbles.as_slice() {
         marked.push(is_marked(drawn, *bubble))?;
     }
