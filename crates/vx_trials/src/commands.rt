@@ -2,7 +2,7 @@
 
 use crate::readings::BORDER;
 use crate::town::{TOWN, on_legal};
-use std::alloc::AllocError;
+use std::alloc::{AllocError, Global};
 use std::test::Fail;
 use std::thread::Threads;
 use vx_app::run;
@@ -31,17 +31,46 @@ struct Answer {
     text: Vec<u8>,
 }
 
-/// The files of a command: the town's election as `e`, on legal paper as `l`, one that is refused as
-/// `b`, one scan as `s` and a small one as `t`.
+/// Inputs of a few bytes: an election that is refused, a small scan, none, and bitmaps that leave their
+/// grammar, each with a cause of its own, or with an image before it.
+const FEW: [(&str, &[u8]); 12] = [
+    ("b", b"[]"),
+    ("t", SMALL),
+    ("none", b""),
+    ("p", b"P"),
+    ("header", b"P4"),
+    ("zero", b"P4 0 5"),
+    ("wide", b"P4 4097 10\n"),
+    ("cut", b"P4 8 1\n"),
+    ("two", b"P1 2 1 12"),
+    ("plain", b"P1 1 1 1 1"),
+    ("behind", b"P1 1 1 11"),
+    ("second", b"P4 8 1\n\xffx"),
+];
+
+/// The town's definition with a name that is too long for its row.
+fn long_named(alloc: Global) -> Result<String, Fail> {
+    let (front, behind) = TOWN.split_once("Ada").ok_or("no such name")?;
+    let name = "Maximilian Alexander of the Long Street by the Old Town Gat";
+    Ok(format!(in alloc; "{front}{name}{behind}")?)
+}
+
+/// The files of a command: the town's election as `e`, on legal paper as `l`, with a name that is too
+/// long as `w`, inputs of a few bytes, one scan as `s`, and it without its last byte as `c`.
 fn files_with<R: AllocGlobal>(rt: &R, scan: &[u8]) -> Result<NamedBytes, Fail> {
     let alloc = rt.alloc();
     let mut files = NamedBytes::new(alloc);
     files.push("e", Bytes::from_slice(alloc, TOWN.as_bytes())?)?;
     let legal = on_legal(alloc, TOWN)?;
     files.push("l", Bytes::from_slice(alloc, legal.as_bytes())?)?;
-    files.push("b", Bytes::from_slice(alloc, b"[]")?)?;
+    let long = long_named(alloc)?;
+    files.push("w", Bytes::from_slice(alloc, long.as_bytes())?)?;
+    for (name, bytes) in FEW {
+        files.push(name, Bytes::from_slice(alloc, bytes)?)?;
+    }
     files.push("s", Bytes::from_slice(alloc, scan)?)?;
-    files.push("t", Bytes::from_slice(alloc, SMALL)?)?;
+    let cut = scan.get(..scan.len().saturating_sub(1)).unwrap_or(scan);
+    files.push("c", Bytes::from_slice(alloc, cut)?)?;
     Ok(files)
 }
 
@@ -173,19 +202,93 @@ const USAGE: [&[&str]; 21] = [
     &["read", "e", "s", "-t"],
 ];
 
-/// Commands that end before they write, with the status that each ends with.
-const EARLY: [(&[&str], &str); 8] = [
-    (&["print", "f", "0", "precinct"], "no input 1"),
-    (&["read", "f", "s"], "no input 1"),
-    (&["print", "b", "0", "precinct"], "election 3 "),
-    (&["read", "b", "s"], "election 3 "),
-    (&["print", "e", "1", "test-absentee"], "layout 1 4 1"),
+/// The words of an export of an election that isn't there, and of one that is refused.
+const EXPORT_OF_NONE: &[&str] = &[
+    "export",
+    "f",
+    "2024-11-06T08:00:00Z",
+    "00000000-0000-4000-8000-000000000001",
+];
+
+const EXPORT_OF_REFUSED: &[&str] = &[
+    "export",
+    "b",
+    "2024-11-06T08:00:00Z",
+    "00000000-0000-4000-8000-000000000001",
+];
+
+/// What `read` writes of an image that is too small for a page.
+const DOT: &str = "page 1 fault 1 FrameSize 1 1\n";
+
+const SPECK: &str = "page 1 fault 1 FrameSize 8 1\n";
+
+/// What `count` writes of a sheet whose first image is too small.
+const UNREAD: &str = "sheet b1 1 unread 1 1 FrameSize 8 1\n";
+
+/// Commands on inputs of a few bytes, with the status that each ends with and what it has written.
+const EARLY: [(&[&str], &str, &str); 48] = [
+    // Nothing has the election's name, or it is refused.
+    (&["print", "f", "0", "precinct"], "no input 1", ""),
+    (&["read", "f", "s"], "no input 1", ""),
+    (&["check", "f", "s", "t"], "no input 1", ""),
+    (&["count", "f", "b1", "1", "s"], "no input 1", ""),
+    (&["decide", "f", "s"], "no input 1", ""),
+    (&["queue", "f"], "no input 1", ""),
+    (EXPORT_OF_NONE, "no input 1", ""),
+    (&["print", "b", "0", "precinct"], "election 3 ", ""),
+    (&["read", "b", "s"], "election 3 ", ""),
+    (&["check", "b", "u", "u"], "election 3 ", ""),
+    (&["count", "b", "b1", "1", "u"], "election 3 ", ""),
+    (&["decide", "b", "u"], "election 3 ", ""),
+    (&["queue", "b"], "election 3 ", ""),
+    (EXPORT_OF_REFUSED, "election 3 ", ""),
+    // A card can't be laid out, which `decide` and `queue` don't ask.
+    (&["print", "e", "1", "test-absentee"], "layout 1 4 1", ""),
     (
         &["print", "e", "1023", "test-provisional"],
         "layout 1023 4 1",
+        "",
     ),
-    (&["read", "e", "u"], "no input 2"),
-    (&["read", "e", "e"], "pbm 2 1 0"),
+    (&["print", "w", "0", "precinct"], "layout 0 2 mayor 59", ""),
+    (&["print", "w", "1", "precinct"], "layout 1 4 1", ""),
+    (&["read", "w", "u"], "layout 0 2 mayor 59", ""),
+    (&["check", "w", "u", "u"], "layout 0 2 mayor 59", ""),
+    (&["count", "w", "b1", "1", "u"], "layout 0 2 mayor 59", ""),
+    (&["decide", "w", "u"], "no input 2", ""),
+    (&["queue", "w"], "ok", "waiting 0\n"),
+    // A scan leaves the grammar of bitmaps, after the images that it has.
+    (&["read", "e", "u"], "no input 2", ""),
+    (&["read", "e", "e"], "pbm 2 1 0", ""),
+    (&["read", "e", "none"], "ok", ""),
+    (&["read", "e", "p"], "pbm 2 1 0", ""),
+    (&["read", "e", "header"], "pbm 2 2 2", ""),
+    (&["read", "e", "zero"], "pbm 2 2 3", ""),
+    (&["read", "e", "wide"], "pbm 2 3 4097 10", ""),
+    (&["read", "e", "cut"], "pbm 2 4 0 1", ""),
+    (&["read", "e", "two"], "pbm 2 5 8", ""),
+    (&["read", "e", "plain"], "ok", DOT),
+    (&["read", "e", "behind"], "pbm 2 6 8", DOT),
+    (&["read", "e", "second"], "pbm 2 1 8", SPECK),
+    (&["read", "e", "t", "cut"], "pbm 3 4 0 1", SPECK),
+    // `check` walks all of its scans before it takes the readings.
+    (&["check", "e", "u", "t"], "no input 2", ""),
+    (&["check", "e", "second", "u"], "pbm 2 1 8", ""),
+    (&["check", "e", "t", "u"], "no input 3", ""),
+    (&["check", "e", "none", "none"], "ok", ""),
+    (&["check", "e", "t", "none"], "not certified pages 0 1", ""),
+    // `count` tells the sheets whose images stand before the place; a single image waits for its second.
+    (
+        &["count", "e", "b1", "1", "none"],
+        "ok",
+        "counted 0 added 0 repeated 0 unread\n",
+    ),
+    (&["count", "e", "b1", "1", "behind"], "pbm 4 6 8", ""),
+    (&["count", "e", "b1", "1", "t", "second"], "pbm 5 1 8", UNREAD),
+    (&["count", "e", "b1", "1", "t", "t", "u"], "no input 6", UNREAD),
+    (&["count", "e", "b1", "1", "u"], "no input 4", ""),
+    // A script is taken behind the journal.
+    (&["decide", "e", "u"], "no input 2", ""),
+    (&["decide", "e", "t"], "decision line 1 bad", ""),
 ];
 
 #[test]
@@ -195,10 +298,10 @@ fn words_are_a_command_or_usage(rt: HostRuntime) -> Result<(), Fail> {
         assert_eq!(rt; answer.status.as_str(), "usage", "{line:?}");
         assert!(rt; answer.text.is_empty(), "{line:?}");
     }
-    for (line, status) in EARLY {
+    for (line, status, text) in EARLY {
         let answer = attempt(&rt, SMALL, line, &[], &[], WHOLE)?;
         assert_eq!(rt; answer.status.as_str(), status, "{line:?}");
-        assert!(rt; answer.text.is_empty(), "{line:?}");
+        assert_eq!(rt; answer.text.as_slice(), text.as_bytes(), "{line:?}");
     }
     for kind in ["absentee", "provisional", "test-precinct", "test-absentee"] {
         let answer = attempt(&rt, SMALL, &["print", "e", "0", kind], &[], &[], WHOLE)?;
@@ -249,7 +352,7 @@ fn push_block(text: &mut String, number: u32, side: u32) -> Result<(), AllocErro
 
 /// Reads while calls of the inputs fail, with the status and how many images' texts stand. Calls 1
 /// and 2 are of the election, two more of each scan.
-const READS: [(&[&str], &[u64], &str, usize); 8] = [
+const READS: [(&[&str], &[u64], &str, usize); 9] = [
     (&["read", "e", "s"], &[3], "read fault", 0),
     (&["read", "e", "s"], &[4], "read fault", 0),
     (&["read", "e", "s"], &[5], "ok", 2),
@@ -258,6 +361,8 @@ const READS: [(&[&str], &[u64], &str, usize); 8] = [
     (&["read", "e", "s", "t"], &[6], "read fault", 2),
     (&["read", "e", "s", "t", "s", "x"], &[], "no input 5", 5),
     (&["read", "e", "s", "t", "e", "s"], &[], "pbm 4 1 0", 3),
+    // The scan without its last byte.
+    (&["read", "e", "c"], &[], "pbm 2 4 468599 468600", 1),
 ];
 
 #[test]

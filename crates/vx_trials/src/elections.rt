@@ -196,12 +196,17 @@ fn each_rule_of_each_member(rt: HostRuntime) -> Result<(), Fail> {
 
 #[test]
 fn what_is_no_definition(rt: HostRuntime) -> Result<(), Fail> {
-    for (text, wanted) in [
+    for (short, wanted) in [
         ("{\"title\":\"T\"}", "2 date"),
         ("[]", "3 "),
         ("{", "1"),
         ("", "1"),
+        // Lists within lists: 100 are read, 200 aren't.
+        ("~[100~~]100~", "3 "),
+        ("~[200~~]200~", "1"),
     ] {
+        let mut text = String::new(rt.alloc());
+        push_expanded(rt.alloc(), &mut text, short)?;
         assert_eq!(rt; answer(rt.alloc(), text.as_bytes())?.as_str(), wanted);
     }
     assert_eq!(rt; answer(rt.alloc(), &[34, 255, 34])?.as_str(), "1");
