@@ -1,4 +1,5 @@
 use std::alloc::Global;
+use std::process::Abort;
 use std::test::Fail;
 use vx_base::Bytes;
 use vx_command::status_of;
@@ -33,24 +34,70 @@ fn written(alloc: Global, records: &[&str], script: &[u8], from: usize) -> Resul
     Ok(text)
 }
 
+/// Scripts whose first line is none: another word, a value out of its range, a word too many or too few,
+/// bytes that are no text.
+const BAD: [&[u8]; 32] = [
+    b" ",
+    b"claim",
+    b"claim 1 b1",
+    b"claim 1 b1 1 1",
+    b"Claim 1 b1 1",
+    b"claim  1 b1 1",
+    b"claim 1 b1  1\n",
+    b" claim 1 b1 1",
+    b"claim 1 b1 1 ",
+    b"claim 1 b1 1\r\n",
+    b"claim\t1 b1 1",
+    b"\xef\xbb\xbfclaim 1 b1 1",
+    b"claim 1 b\xff 1\n",
+    b"claim 0 b1 1",
+    b"claim 01 b1 1",
+    b"claim 10000 b1 1",
+    b"claim -1 b1 1",
+    b"claim 1 b.1 1",
+    b"claim 1 b1 0",
+    b"claim 1 b1 1000000",
+    b"claim 1 b1 99999999999999999999",
+    b"accept 1 b1 1",
+    b"accept 1 b1 1 judge\n",
+    b"accept 1 b1 1 0",
+    b"overvote 1 b1 1 mayor 0",
+    b"select 1 b1 1 mayor -",
+    b"select 1 b1 1 mayor 0,1",
+    b"select 1 b1 1 mayor 1000",
+    b"name 1 b1 1 mayor 1000 candidate 0",
+    b"name 1 b1 1 mayor 0 candidate 1000",
+    b"name 1 b1 1 mayor 0 words Zoe",
+    b"name 1 b1 1 mayor 0 text Zo\te",
+];
+
+/// A script over no record leaves the header alone, and writes so.
+fn assert_writes<R: AllocGlobal + Abort>(
+    rt: &R,
+    script: &[u8],
+    expected: &str,
+) -> Result<(), Fail> {
+    let alloc = rt.alloc();
+    let text = written(alloc, &[], script, 0)?;
+    let whole = format!(in alloc; "{expected}\n{TOWN_HEADER}")?;
+    assert_eq!(rt; text.as_str(), whole.as_str(), "{script:?}");
+    Ok(())
+}
+
 #[test]
 fn the_first_line_that_is_refused_ends_a_script(rt: HostRuntime) -> Result<(), Fail> {
-    let rows: [(&[u8], &str); 9] = [
-        (b"", "ok\n"),
-        (b"\n\n", "ok\n"),
-        (b"claim 0 b1 1", "decision line 1 bad\n"),
-        (b"claim 1 b1 1\r\n", "decision line 1 bad\n"),
-        (b"claim 1 b1  1\n", "decision line 1 bad\n"),
-        (b"\nclaim 1 b1 1 \n", "decision line 2 bad\n"),
-        (b"claim 1 b\xff 1\n", "decision line 1 bad\n"),
-        (b"\nclaim 1 b1 1\n", "decision line 2 2 no sheet\n"),
-        (b"accept 1 b1 1 judge\n", "decision line 1 bad\n"),
+    for script in BAD {
+        assert_writes(&rt, script, "decision line 1 bad")?;
+    }
+    let rows: [(&[u8], &str); 5] = [
+        (b"", "ok"),
+        (b"\n\n", "ok"),
+        (b"\nclaim 1 b1 1 \n", "decision line 2 bad"),
+        (b"\nclaim 1 b1 1\n", "decision line 2 2 no sheet"),
+        (b"name 1 b1 1 mayor 0 text ", "decision line 1 bad"),
     ];
-    for (script, expected) in &rows {
-        let text = written(rt.alloc(), &[], script, 0)?;
-        let mut whole = String::from_str(rt.alloc(), expected)?;
-        whole.push_str(TOWN_HEADER)?;
-        assert_eq!(rt; text.as_str(), whole.as_str());
+    for (script, expected) in rows {
+        assert_writes(&rt, script, expected)?;
     }
     Ok(())
 }

@@ -26,7 +26,7 @@ pub(crate) struct Trial {
 const SCRIPT: &[u8] = b"claim 1 b1 1\nselect 1 b1 1 mayor 1\n\nrelease 1 b1 1\n";
 
 /// The words of an export.
-const EXPORT: &[&str] = &[
+pub(crate) const EXPORT: &[&str] = &[
     "export",
     "e",
     "2024-11-06T08:00:00Z",

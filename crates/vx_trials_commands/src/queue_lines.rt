@@ -6,6 +6,9 @@ use vx_command_queue::queue;
 use vx_io::{Calls, KeeperCalls, MemInputs, MemKeeper, MemSink, NamedBytes, Records};
 use vx_town::{TOWN, TOWN_HEADER};
 
+/// The town's header without its last digit.
+const SHORT: &str = "1 election 16cbf4c3a45dae96ed01a82ac6d66a24812b6309d97421e2dc4282725ade6e7";
+
 /// What `queue` writes over these records, and then its status.
 fn written(alloc: Global, records: &[&str]) -> Result<String, Fail> {
     let mut files = NamedBytes::new(alloc);
@@ -32,7 +35,7 @@ fn contests_wait_until_they_are_decided(rt: HostRuntime) -> Result<(), Fail> {
     let over = "1 add a2 999999 0 1 test-other 0:mm";
     let claim = "1 claim 9999 b1 1";
     let decided = "1 accept 9999 b1 1 0";
-    let rows: [(&[&str], &str); 6] = [
+    let rows: [(&[&str], &str); 10] = [
         (&[], "waiting 0\nok"),
         (
             &[TOWN_HEADER, blank],
@@ -51,6 +54,10 @@ fn contests_wait_until_they_are_decided(rt: HostRuntime) -> Result<(), Fail> {
             "wait b1 1 mayor MarginalMark holder -\nwaiting 1\nok",
         ),
         (&[TOWN_HEADER, claim], "journal 1 2 no sheet"),
+        (&[""], "journal 0 bad 0"),
+        (&[SHORT], "journal 0 bad 74"),
+        (&[TOWN_HEADER, "1 claim 1 b1 1 "], "journal 1 bad 14"),
+        (&[TOWN_HEADER, "1 add b1 1 5 1 precinct"], "journal 1 unfit"),
     ];
     for (records, expected) in &rows {
         let text = written(rt.alloc(), records)?;

@@ -1,5 +1,6 @@
 //! What the three commands leave.
 
+use crate::failing_trials::EXPORT;
 use crate::rows::{BLANK, ONE_SHEET, Row, assert_rows, make_scan};
 use std::alloc::{AllocError, Global};
 use std::test::Fail;
@@ -81,6 +82,14 @@ fn a_journal_of_another_election_stays(rt: HostRuntime) -> Result<(), Fail> {
         refused(&["count", "e", "b1", "1", "s"], OTHER, status),
         refused(&["decide", "e", "d"], OTHER, status),
         refused(&["queue", "e"], OTHER, status),
+        refused(EXPORT, OTHER, status),
+        // It is read behind the election, and before the other inputs.
+        refused(&["count", "u", "b1", "1", "s"], OTHER, "no input 1"),
+        refused(&["queue", "d"], OTHER, "election 1"),
+        refused(&["count", "e", "b1", "1", "u"], OTHER, status),
+        refused(&["decide", "e", "u"], OTHER, status),
+        refused(&["decide", "e", "u"], ONE_SHEET, "no input 2"),
+        refused(&["count", "e", "b1", "1", "d"], ONE_SHEET, "pbm 4 1 0"),
     ];
     assert_rows(&rt, scan.as_slice(), SCRIPT, &rows)
 }

@@ -37,26 +37,78 @@ fn read_as(alloc: Global, records: &[&str]) -> Result<String, Fail> {
     Ok(text)
 }
 
+/// A header with a digit too many.
+const LONG: &str = "1 election 16cbf4c3a45dae96ed01a82ac6d66a24812b6309d97421e2dc4282725ade6e700";
+
+/// The record of a blank sheet, of one with a marginal mark, and of a claim.
+const SHEET: &str = "1 add b1 1 0 1 precinct 0:cc";
+
+const MARGINAL: &str = "1 add b1 1 0 1 precinct 0:gc";
+
+const CLAIM: &str = "1 claim 1 b1 1";
+
+/// Journals and what they are read as: how many events, or which record stops the reading, and why.
+const JOURNALS: [(&[&str], &str); 31] = [
+    (&[], "0 events"),
+    (&[HEADER], "0 events"),
+    (&[HEADER, SHEET], "1 events"),
+    (&[HEADER, SHEET, CLAIM], "2 events"),
+    // The first record is no header, or another election's.
+    (&[""], "0 bad 0"),
+    (&[SHORT], "0 bad 74"),
+    (&[LONG], "0 bad 75"),
+    (&[SHEET], "0 bad 2"),
+    (&["1 election 16CBf4"], "0 bad 13"),
+    (&[OTHER, SHEET], "0 other election"),
+    (&[OTHER, ""], "0 other election"),
+    // A later one is no event's.
+    (&[HEADER, ""], "1 bad 0"),
+    (&[HEADER, "1 claim 01 b1 1"], "1 bad 8"),
+    (&[HEADER, "1 claim 1 b1 1 "], "1 bad 14"),
+    (&[HEADER, HEADER], "1 bad 2"),
+    (&[HEADER, SHEET, "1 claim 1 b1 1\n"], "2 bad 14"),
+    // It doesn't fit the election: its card, its states, its contest.
+    (&[HEADER, "1 add b1 1 5 1 precinct"], "1 unfit"),
+    (&[HEADER, "1 add b1 1 1 1 precinct 0:cc"], "1 unfit"),
+    (&[HEADER, "1 add b1 1 0 1 precinct 0:c"], "1 unfit"),
+    (&[HEADER, "1 add b1 1 0 1 precinct 0:ccc"], "1 unfit"),
+    (&[HEADER, "1 add b1 1 0 1 precinct 1:cc"], "1 unfit"),
+    // The machine refuses it.
+    (&[HEADER, SHEET, SHEET], "2 1 repeated 0"),
+    (&[HEADER, CLAIM], "1 2 no sheet"),
+    (&[HEADER, SHEET, CLAIM, "1 claim 2 b1 1"], "3 3 held by 1"),
+    (&[HEADER, SHEET, "1 release 1 b1 1"], "2 4 not held"),
+    (
+        &[HEADER, SHEET, CLAIM, "1 accept 1 b1 1 499"],
+        "3 5 not on sheet 499",
+    ),
+    (
+        &[HEADER, SHEET, CLAIM, "1 select 1 b1 1 0 0,2,999"],
+        "3 6 not an option 2",
+    ),
+    (
+        &[HEADER, SHEET, CLAIM, "1 select 1 b1 1 0 0,1"],
+        "3 7 over seats 2 1",
+    ),
+    (
+        &[HEADER, MARGINAL, CLAIM, "1 accept 1 b1 1 0"],
+        "3 8 still marginal 0",
+    ),
+    (
+        &[HEADER, SHEET, CLAIM, "1 name 1 b1 1 0 0 candidate 0"],
+        "3 9 no write-in 0",
+    ),
+    (
+        &[HEADER, SHEET, CLAIM, "1 release 1 b1 1", CLAIM, ""],
+        "5 bad 0",
+    ),
+];
+
 #[test]
 fn journals_are_read_or_stopped(rt: HostRuntime) -> Result<(), Fail> {
-    let sheet = "1 add b1 1 0 1 precinct 0:cc";
-    let rows: [(&[&str], &str); 12] = [
-        (&[], "0 events"),
-        (&[HEADER], "0 events"),
-        (&[HEADER, sheet], "1 events"),
-        (&[HEADER, sheet, "1 claim 1 b1 1"], "2 events"),
-        (&[HEADER, sheet, sheet], "2 1 repeated 0"),
-        (&[HEADER, "1 add b1 1 5 1 precinct"], "1 unfit"),
-        (&[HEADER, "1 claim 01 b1 1"], "1 bad 8"),
-        (&[HEADER, "1 claim 1 b1 1 "], "1 bad 14"),
-        (&[HEADER, HEADER], "1 bad 2"),
-        (&[""], "0 bad 0"),
-        (&[SHORT], "0 bad 74"),
-        (&[OTHER, sheet], "0 other election"),
-    ];
-    for (records, expected) in &rows {
+    for (records, expected) in JOURNALS {
         let read = read_as(rt.alloc(), records)?;
-        assert_eq!(rt; read.as_str(), *expected);
+        assert_eq!(rt; read.as_str(), expected);
     }
     Ok(())
 }
@@ -87,7 +139,7 @@ fn a_journal_is_begun_once_and_keeps_what_is_done(rt: HostRuntime) -> Result<(),
     let mut keeper = keeper_of(alloc, &[])?;
     assert_eq!(rt; asked(alloc, &mut keeper, &claim)?, Some(Reply::NoSheet));
     assert_eq!(rt; keeper.records().len(), 1);
-    let mut keeper = keeper_of(alloc, &[HEADER, "1 add b1 1 0 1 precinct 0:cc"])?;
+    let mut keeper = keeper_of(alloc, &[HEADER, SHEET])?;
     assert_eq!(rt; asked(alloc, &mut keeper, &claim)?, Some(Reply::Done));
     assert_eq!(rt; keeper.records().len(), 3);
     Ok(())
