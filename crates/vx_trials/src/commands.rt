@@ -33,7 +33,7 @@ struct Answer {
 
 /// Inputs of a few bytes: an election that is refused, a small scan, none, and bitmaps that leave their
 /// grammar, each with a cause of its own, or with an image before it.
-const FEW: [(&str, &[u8]); 12] = [
+const FEW: [(&str, &[u8]); 13] = [
     ("b", b"[]"),
     ("t", SMALL),
     ("none", b""),
@@ -41,6 +41,7 @@ const FEW: [(&str, &[u8]); 12] = [
     ("header", b"P4"),
     ("zero", b"P4 0 5"),
     ("wide", b"P4 4097 10\n"),
+    ("tall", b"P4 1 4097\n"),
     ("cut", b"P4 8 1\n"),
     ("two", b"P1 2 1 12"),
     ("plain", b"P1 1 1 1 1"),
@@ -226,7 +227,7 @@ const SPECK: &str = "page 1 fault 1 FrameSize 8 1\n";
 const UNREAD: &str = "sheet b1 1 unread 1 1 FrameSize 8 1\n";
 
 /// Commands on inputs of a few bytes, with the status that each ends with and what it has written.
-const EARLY: [(&[&str], &str, &str); 48] = [
+const EARLY: [(&[&str], &str, &str); 49] = [
     // Nothing has the election's name, or it is refused.
     (&["print", "f", "0", "precinct"], "no input 1", ""),
     (&["read", "f", "s"], "no input 1", ""),
@@ -264,6 +265,7 @@ const EARLY: [(&[&str], &str, &str); 48] = [
     (&["read", "e", "header"], "pbm 2 2 2", ""),
     (&["read", "e", "zero"], "pbm 2 2 3", ""),
     (&["read", "e", "wide"], "pbm 2 3 4097 10", ""),
+    (&["read", "e", "tall"], "pbm 2 3 1 4097", ""),
     (&["read", "e", "cut"], "pbm 2 4 0 1", ""),
     (&["read", "e", "two"], "pbm 2 5 8", ""),
     (&["read", "e", "plain"], "ok", DOT),
