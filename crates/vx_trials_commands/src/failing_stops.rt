@@ -54,7 +54,7 @@ fn assert_restarts<R: Threads + Sync + AllocGlobal + Abort>(
     let stopped = run_stopped(rt, day, trial, calls.as_slice())?;
     assert_status(rt, &stopped, "keeper fault");
     let again = run_over(rt, day, &stopped.records, trial.words, Failing::NONE)?;
-    assert_status(rt, &again, "ok");
+    assert_status(rt, &again, trial.ends);
     assert!(rt; same_records(&again, whole), "{call}");
     Ok(())
 }

@@ -33,8 +33,8 @@ pub(crate) const EXPORT: &[&str] = &[
     "00000000-0000-4000-8000-000000000001",
 ];
 
-/// Commands that only read their inputs.
-pub(crate) const READERS: [Trial; 3] = [
+/// Commands that only read their inputs. The last two end where an input leaves its form.
+pub(crate) const READERS: [Trial; 5] = [
     Trial {
         words: &["print", "e", "0", "precinct"],
         before: &[],
@@ -59,12 +59,28 @@ pub(crate) const READERS: [Trial; 3] = [
         acts: &[Lines(1), Lines(1)],
         ends: "ok",
     },
+    Trial {
+        words: &["read", "e", "t", "d", "s"],
+        before: &[],
+        takes: &[0, 0, 1],
+        reads_journal: false,
+        acts: &[Lines(1)],
+        ends: "pbm 3 1 0",
+    },
+    Trial {
+        words: &["check", "e", "s", "f"],
+        before: &[],
+        takes: &[0, 0, 0],
+        reads_journal: false,
+        acts: &[Lines(1)],
+        ends: "not certified pages 1 2",
+    },
 ];
 
 /// Counts. The first begins a journal; its second scan is one small image, the first of a sheet that
 /// can't be read, so that the sheets behind it go across scans, and the last image is alone. The second
-/// finds its first sheet there.
-pub(crate) const COUNTS: [Trial; 2] = [
+/// finds its first sheet there. The third ends at an input that is no bitmap, while an image waits.
+pub(crate) const COUNTS: [Trial; 3] = [
     Trial {
         words: &["count", "e", "b1", "2", "s", "t", "s", "s"],
         before: &[],
@@ -89,6 +105,14 @@ pub(crate) const COUNTS: [Trial; 2] = [
         reads_journal: true,
         acts: &[Lines(1), Append, Lines(2), Lines(1)],
         ends: "ok",
+    },
+    Trial {
+        words: &["count", "e", "b1", "1", "s", "t", "d", "s"],
+        before: &[],
+        takes: &[0, 1, 3, 3],
+        reads_journal: true,
+        acts: &[Append, Append, Lines(2)],
+        ends: "pbm 6 1 0",
     },
 ];
 
@@ -151,13 +175,15 @@ pub(crate) struct Day {
     pub(crate) readings: Vec<u8>,
 }
 
-/// The day's files: the town's election, both pages of its card, a small image, readings, a script.
-pub(crate) fn files_of(day: &Day) -> [(&str, &[u8]); 5] {
+/// The day's files: the town's election, both pages of its card, a small image, readings, those of one page
+/// that couldn't be read, a script.
+pub(crate) fn files_of(day: &Day) -> [(&str, &[u8]); 6] {
     [
         ("e", TOWN.as_bytes()),
         ("s", day.scan.as_slice()),
         ("t", b"P4\n8 1\n\0"),
         ("r", day.readings.as_slice()),
+        ("f", b"page 1 fault 2.1 NoCorner"),
         ("d", SCRIPT),
     ]
 }
