@@ -285,8 +285,16 @@ const EARLY: [(&[&str], &str, &str); 49] = [
         "counted 0 added 0 repeated 0 unread\n",
     ),
     (&["count", "e", "b1", "1", "behind"], "pbm 4 6 8", ""),
-    (&["count", "e", "b1", "1", "t", "second"], "pbm 5 1 8", UNREAD),
-    (&["count", "e", "b1", "1", "t", "t", "u"], "no input 6", UNREAD),
+    (
+        &["count", "e", "b1", "1", "t", "second"],
+        "pbm 5 1 8",
+        UNREAD,
+    ),
+    (
+        &["count", "e", "b1", "1", "t", "t", "u"],
+        "no input 6",
+        UNREAD,
+    ),
     (&["count", "e", "b1", "1", "u"], "no input 4", ""),
     // A script is taken behind the journal.
     (&["decide", "e", "u"], "no input 2", ""),
