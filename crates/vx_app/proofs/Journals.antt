@@ -7,7 +7,6 @@ use Rattle.vx_election_model.specs.declared.election.Election.{Election}
 use Rattle.vx_events.specs.declared.event.Event.{Event}
 use Rattle.vx_command.specs.Acts.{Answer, Outcome, records_of}
 use Rattle.vx_command.specs.Done.{Held, IsDone, Taken}
-use Rattle.vx_command.specs.Elections.{election_in}
 use Rattle.vx_command_count.specs.Laws.{CountKeepsJournals}
 use Rattle.vx_command_count.specs.Outcome.{count_outcome}
 use Rattle.vx_command_decide.specs.Laws.{DecideKeepsJournals}
@@ -15,10 +14,10 @@ use Rattle.vx_command_decide.specs.Outcome.{decide_outcome}
 use Rattle.vx_journal.specs.Laws.{HoldsJournal, IsJournal, JournalsStay, StaysJournal}
 use Rattle.vx_journal.specs.Replay.{replay_of}
 use Rattle.vx_words.specs.declared.command.Command.{Command}
-use Rattle.vx_words.specs.declared.command.Command.TheVariants.{Print, Read, Check, Count, Decide, Queue, Export}
+use Rattle.vx_words.specs.declared.command.Command.TheVariants.{Print, Read, Check, Count, Decide, Queue, Export, Demo}
 use Rattle.vx_words.specs.Words.{IsSound}
 use Rattle.vx_app.specs.Outcome.{appends, outcome_of}
-use Rattle.vx_app.specs.Journals.{AreRuns, HoldsMore, IsRun, Run, RunsLeaveJournals, election_named}
+use Rattle.vx_app.specs.Journals.{AreRuns, HoldsMore, IsRun, Run, RunsLeaveJournals, IsFor}
 use Rattle.vx_app.proofs.Growing.{longer}
 
 was_read : {A E : Type 0} (r : Result A E) → IsOk r → (x : A) × (r ≡ Ok x)
@@ -53,7 +52,7 @@ module _ (election : Election) (records : List (List ℕ)) (events : List Event)
       }
 
 module _ (count : CountKeepsJournals) (decide : DecideKeepsJournals) (stays : JournalsStay) where
-  pub kept-over : (command : Command) (device : List ℕ) (files : Files) (election : Election) (records : List (List ℕ)) (events : List Event) (taken taken_now : Taken) (held_now : Held) (answer : Answer) → IsSound device command → election_in (files (election_named command)) ≡ Ok election → replay_of election records ≡ Ok events → (appends command ≡ false → held_now ≡ Some records) → IsDone (outcome_of command files records) taken taken_now (Some records) held_now answer → HoldsMore election events held_now
+  pub kept-over : (command : Command) (device : List ℕ) (files : Files) (election : Election) (records : List (List ℕ)) (events : List Event) (taken taken_now : Taken) (held_now : Held) (answer : Answer) → IsSound device command → IsFor command files election → replay_of election records ≡ Ok events → (appends command ≡ false → held_now ≡ Some records) → IsDone (outcome_of command files records) taken taken_now (Some records) held_now answer → HoldsMore election events held_now
   kept-over (Print name card kind test) device files election records events taken taken_now held_now answer sound for_it is held done = unchanged election records events is held_now (held refl)
   kept-over (Read name scans) device files election records events taken taken_now held_now answer sound for_it is held done = unchanged election records events is held_now (held refl)
   kept-over (Check name scans readings) device files election records events taken taken_now held_now answer sound for_it is held done = unchanged election records events is held_now (held refl)
@@ -65,6 +64,7 @@ module _ (count : CountKeepsJournals) (decide : DecideKeepsJournals) (stays : Jo
       (decide name script files records election for_it (is_ok (replay_of election records) events is)) done
   kept-over (Queue name) device files election records events taken taken_now held_now answer sound for_it is held done = unchanged election records events is held_now (held refl)
   kept-over (Export name moment named) device files election records events taken taken_now held_now answer sound for_it is held done = unchanged election records events is held_now (held refl)
+  kept-over (Demo seed sheets) device files election records events taken taken_now held_now answer sound for_it is held done = unchanged election records events is held_now (held refl)
 
   -- over one run, and over all
   over-run : (election : Election) (records : List (List ℕ)) (one : Run) → IsJournal election records → IsRun election records one → IsJournal election one.left

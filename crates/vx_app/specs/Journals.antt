@@ -9,19 +9,24 @@ use Rattle.vx_command.specs.Elections.{election_in}
 use Rattle.vx_journal.specs.Laws.{IsJournal}
 use Rattle.vx_journal.specs.Replay.{replay_of}
 use Rattle.vx_words.specs.declared.command.Command.{Command}
-use Rattle.vx_words.specs.declared.command.Command.TheVariants.{Print, Read, Check, Count, Decide, Queue, Export}
+use Rattle.vx_words.specs.declared.command.Command.TheVariants.{Print, Read, Check, Count, Decide, Queue, Export, Demo}
 use Rattle.vx_words.specs.Words.{Spells}
 use Rattle.vx_app.specs.Outcome.{appends, outcome_of}
 
--- the name of the election that a command is for
-abbrev pub election_named : Command → List ℕ
-election_named (Print election card kind test) = election
-election_named (Read election scans) = election
-election_named (Check election scans readings) = election
-election_named (Count election batch workers scans) = election
-election_named (Decide election script) = election
-election_named (Queue election) = election
-election_named (Export election moment device) = election
+-- the election under a name
+abbrev pub IsNamed : List ℕ → Files → Election → Type 0
+IsNamed name files election = election_in (files name) ≡ Ok election
+
+-- a command is for the election under the name that it was given; `demo` has one of its own, and may be run beside any
+abbrev pub IsFor : Command → Files → Election → Type 0
+IsFor (Print name card kind test) = IsNamed name
+IsFor (Read name scans) = IsNamed name
+IsFor (Check name scans readings) = IsNamed name
+IsFor (Count name batch workers scans) = IsNamed name
+IsFor (Decide name script) = IsNamed name
+IsFor (Queue name) = IsNamed name
+IsFor (Export name moment device) = IsNamed name
+IsFor (Demo seed sheets) = λ files election. Unit {0}
 
 -- a keeper holds a journal of an election that keeps these events, and perhaps more behind them
 pub record HoldsMore (election : Election) (events : List Event) (held : Held) : Type 0 where
@@ -44,7 +49,7 @@ pub record Run : Type 0 where
 -- it is a run for an election over records, whatever it answered: so far as `run` promises of its acts and its keeper
 pub record IsRun (election : Election) (records : List (List ℕ)) (some : Run) : Type 0 where
   pub spelled : Spells some.words some.command
-  pub for_it : election_in (some.files (election_named some.command)) ≡ Ok election
+  pub for_it : IsFor some.command some.files election
   pub done : IsDone (outcome_of some.command some.files records) some.taken some.taken_now (Some records) (Some some.left) some.answer
   pub held : appends some.command ≡ false → Some some.left ≡ Some records
 

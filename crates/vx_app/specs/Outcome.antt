@@ -9,8 +9,9 @@ use Rattle.vx_command_count.specs.Outcome.{count_outcome}
 use Rattle.vx_command_decide.specs.Outcome.{decide_outcome}
 use Rattle.vx_command_queue.specs.Outcome.{queue_outcome}
 use Rattle.vx_command_export.specs.Outcome.{export_outcome}
+use Rattle.vx_command_demo.specs.Outcome.{demo_outcome}
 use Rattle.vx_words.specs.declared.command.Command.{Command}
-use Rattle.vx_words.specs.declared.command.Command.TheVariants.{Print, Read, Check, Count, Decide, Queue, Export}
+use Rattle.vx_words.specs.declared.command.Command.TheVariants.{Print, Read, Check, Count, Decide, Queue, Export, Demo}
 
 -- what a command does, by the files and the records of the journal
 abbrev pub outcome_of : Command → Files → List (List ℕ) → Outcome
@@ -22,12 +23,14 @@ outcome_of (Count election batch workers scans) files records = count_outcome el
 outcome_of (Decide election script) files records = decide_outcome election script files records
 outcome_of (Queue election) files records = queue_outcome election files records
 outcome_of (Export election moment device) files records = export_outcome election moment device files records
+outcome_of (Demo seed sheets) files records = demo_outcome seed sheets
 
 -- a command that has an act of the keeper
 abbrev pub uses_keeper : Command → Bool
 uses_keeper (Print election card kind test) = false
 uses_keeper (Read election scans) = false
 uses_keeper (Check election scans readings) = false
+uses_keeper (Demo seed sheets) = false
 uses_keeper command = true
 
 -- a command that appends to the journal

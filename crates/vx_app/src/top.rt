@@ -2,7 +2,6 @@ ghost use Rattle.std.specs.Prelude.{◌≡◌, ◌≢◌, ◌↔◌, true, false
 ghost use Rattle.vx_io.specs.Outside.{Files};
 ghost use Rattle.vx_command.specs.Devices.{LeavesInputs, LeavesKeeper, LeavesSink, writes_nothing};
 ghost use Rattle.vx_command.specs.Done.{IsDone};
-ghost use Rattle.vx_command.specs.Elections.{election_in};
 ghost use Rattle.vx_command.specs.Status.{answer_of};
 ghost use Rattle.vx_command_check.specs.Margin.{CheckSaysWhatFits};
 ghost use Rattle.vx_command_count.specs.Margin.{CountKeepsWhatFits};
@@ -16,7 +15,7 @@ ghost use Rattle.vx_words.specs.declared.command.Command.{Command as CommandOf};
 ghost use Rattle.vx_words.specs.Words.{IsSound, NoCommand, Spells};
 ghost use Rattle.vx_app.specs.Outcome.{appends, outcome_of, takes_first, uses_keeper};
 ghost use Rattle.vx_app.specs.Counting.{IsCount};
-ghost use Rattle.vx_app.specs.Journals.{HoldsMore, election_named};
+ghost use Rattle.vx_app.specs.Journals.{HoldsMore, IsFor};
 
 use std::alloc::Global;
 use std::thread::Threads;
@@ -24,6 +23,7 @@ use vx_command::{Halt, Status, acts_in_order, status_of};
 use vx_command_check::{certified_pages_say_what_fits, check};
 use vx_command_count::{count, count_keeps_journals, fitting_sheets_are_kept};
 use vx_command_decide::{decide, decide_keeps_journals};
+use vx_command_demo::demo;
 use vx_command_export::{export, exports_write_what_was_kept};
 use vx_command_print::{Ballot, print};
 use vx_command_queue::queue;
@@ -121,6 +121,7 @@ fn obey<R: Threads + Sync, I: Inputs, S: Sink, K: Keeper, G: Gate>(
             out,
             keeper,
         ),
+        Command::Demo { seed, sheets } => demo(rt, alloc, seed, sheets, out),
     }
 }
 
@@ -224,7 +225,7 @@ pub fn run<R: Threads + Sync, I: Inputs, S: Sink, K: Keeper>(
     // and perhaps more behind them.
     ensures journal_kept { (files : Files) → I.held inputs.old ≡ Some files →
         (command : CommandOf) → Spells words.now command →
-        (election : Election) → election_in (files (election_named command)) ≡ Ok election →
+        (election : Election) → IsFor command files election →
         (records : List (List ℕ)) → K.held keeper.old ≡ Some records →
         (events : List Event) → replay_of election records ≡ Ok events →
         HoldsMore election events (K.held keeper.new) }

@@ -79,6 +79,7 @@ fn told(rt: &HostRuntime, words: &Words) -> Result<String, Fail> {
                 device.as_str()
             )?
         }
+        Ok(Command::Demo { seed, sheets }) => format!(in rt.alloc(); "demo {seed} {sheets}")?,
         Err(UsageFault::Usage) => String::from_str(rt.alloc(), "usage")?,
         Err(UsageFault::OutOfMemory) => String::from_str(rt.alloc(), "no memory")?,
     })
@@ -144,6 +145,19 @@ const LINES: &[(&[&str], &str)] = &[
         ],
         "export e 2024-11-06T08:00:00Z 00000000-0000-4000-8000-00000000000a",
     ),
+    (&["demo", "7", "10"], "demo 7 10"),
+    (&["demo", "0", "1000"], "demo 0 1000"),
+    (
+        &["demo", "18446744073709551615", "1"],
+        "demo 18446744073709551615 1",
+    ),
+    (&["demo", "18446744073709551616", "1"], "usage"),
+    (&["demo", "7", "1001"], "usage"),
+    (&["demo", "7", "0"], "usage"),
+    (&["demo", "07", "1"], "usage"),
+    (&["demo", "+7", "1"], "usage"),
+    (&["demo", "7"], "usage"),
+    (&["demo", "7", "1", "more"], "usage"),
     (&["export", "e", "2023-02-29T00:00:00Z", DEVICE], "usage"),
     (&["export", "e", "2024-02-30T00:00:00Z", DEVICE], "usage"),
     (&["export", "e", "2024-11-06T08:00:60Z", DEVICE], "usage"),

@@ -1,5 +1,5 @@
 -- Commands, made of the words behind their names.
-use Rattle.std.proofs.Common.{◌≡◌, ◌+◌, ◌≤◌, ◌<◌, ℕ, Bool, true, false, List, [], ◌∷◌, length, map, drop, get_or, Some, None, refl, sym, ap, subst, ◌∙◌, arith}
+use Rattle.std.proofs.Common.{◌≡◌, ◌+◌, ◌≤◌, ◌<◌, ◌^◌, ℕ, Bool, true, false, List, [], ◌∷◌, length, map, drop, get_or, Some, None, refl, sym, ap, subst, ◌∙◌, arith}
 use Rattle.std.specs.Prelude.{◌≢◌, All, codes, is_some, slice_get}
 use Rattle.std.specs.Borrow.{Bor}
 use Rattle.std.specs.Fmt.{decimal}
@@ -10,11 +10,11 @@ use Rattle.vx_grid.specs.declared.kind.Kind.TheVariants.{Other}
 use Rattle.vx_grid.specs.Kinds.{kind_word}
 use Rattle.vx_events.specs.Fits.{is_batch}
 use Rattle.vx_words.specs.declared.command.Command.{Command}
-use Rattle.vx_words.specs.declared.command.Command.TheVariants.{Print, Read, Check, Count, Decide, Queue, Export}
+use Rattle.vx_words.specs.declared.command.Command.TheVariants.{Print, Read, Check, Count, Decide, Queue, Export, Demo}
 use Rattle.vx_words.specs.Moments.{is_moment}
 use Rattle.vx_words.specs.Devices.{device_of}
 use Rattle.vx_words.specs.Words.{IsArgument, NoCommand, Spells}
-use Rattle.vx_words.proofs.Spellings.{check_spelled, count_spelled, decide_spelled, export_spelled, no_device, no_workers, other_name, print_spelled, read_spelled}
+use Rattle.vx_words.proofs.Spellings.{check_spelled, count_spelled, decide_spelled, demo_spelled, export_spelled, no_device, no_sheets, no_workers, other_name, print_spelled, read_spelled}
 
 -- what the text past the end of a slice is
 abbrev pub nowhere : Bor (List ℕ)
@@ -87,6 +87,21 @@ export_made (a ∷ b ∷ c ∷ []) none named three are good known =
     export_spelled (codes "export" ∷ a.now ∷ b.now ∷ c.now ∷ []) b.now c.now named (record { first = refl; enough = omega arith; no_more = omega arith; arguments = are }) refl refl good known
 export_made (a ∷ b ∷ c ∷ d ∷ more) none named three are good known = absurd (omega (arith, three))
 
+pub demo_made :
+    (words : List (Bor (List ℕ))) (none : Bor (List ℕ)) (seed sheets : ℕ) → 2 ≤ length words → length words < 3 → All IsArgument (shown words)
+    → seed < 2 ^ 64 → (get_or words 0 none).now ≡ decimal seed → 1 ≤ sheets → sheets ≤ 1000 → (get_or words 1 none).now ≡ decimal sheets
+    → Spells (codes "demo" ∷ shown words) (Demo seed sheets)
+demo_made [] none seed sheets least most are small is_seed some few is = absurd (omega (arith, least))
+demo_made (a ∷ []) none seed sheets least most are small is_seed some few is = absurd (omega (arith, least))
+demo_made (a ∷ b ∷ []) none seed sheets least most are small is_seed some few is =
+    demo_spelled (codes "demo" ∷ a.now ∷ b.now ∷ []) a.now b.now seed sheets (record { first = refl; enough = omega arith; no_more = omega arith; arguments = are }) refl refl small is_seed some few is
+demo_made (a ∷ b ∷ c ∷ more) none seed sheets least most are small is_seed some few is = absurd (omega (arith, most))
+
+pub no_sheets_made : (words : List (Bor (List ℕ))) (none : Bor (List ℕ)) (sheets : ℕ) → 2 ≤ length words → (get_or words 1 none).now ≡ decimal sheets → sheets ≡ 0 → NoCommand (codes "demo" ∷ shown words)
+no_sheets_made [] none sheets least is zero_is = absurd (omega (arith, least))
+no_sheets_made (a ∷ []) none sheets least is zero_is = absurd (omega (arith, least))
+no_sheets_made (a ∷ b ∷ more) none sheets least is zero_is = no_sheets (codes "demo" ∷ a.now ∷ b.now ∷ shown more) b.now sheets refl refl is zero_is
+
 -- words behind `export` are an election, a moment and a device's word
 record IsExport (words : List (List ℕ)) : Type 0 where
   election : List ℕ
@@ -113,6 +128,7 @@ exported behind (Check election scans readings) spelled = absurd (other_name (co
 exported behind (Count election batch workers scans) spelled = absurd (other_name (codes "export" ∷ behind) (codes "export") (Count election batch workers scans) refl spelled (λ same. absurd (omega (arith, same))))
 exported behind (Decide election script) spelled = absurd (other_name (codes "export" ∷ behind) (codes "export") (Decide election script) refl spelled (λ same. absurd (omega (arith, same))))
 exported behind (Queue election) spelled = absurd (other_name (codes "export" ∷ behind) (codes "export") (Queue election) refl spelled (λ same. absurd (omega (arith, same))))
+exported behind (Demo seed sheets) spelled = absurd (other_name (codes "export" ∷ behind) (codes "export") (Demo seed sheets) refl spelled (λ same. absurd (omega (arith, same))))
 
 pub not_three : (words : List (Bor (List ℕ))) → (length words ≡ 3 → ⊥) → NoCommand (codes "export" ∷ shown words)
 not_three words other = λ command spelled.

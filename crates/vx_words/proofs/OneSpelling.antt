@@ -8,7 +8,7 @@ use Rattle.vx_grid.specs.declared.kind.Kind.{Kind}
 use Rattle.vx_grid.specs.declared.kind.Kind.TheVariants.{Precinct, Absentee, Provisional, Other}
 use Rattle.vx_grid.specs.Kinds.{kind_word}
 use Rattle.vx_words.specs.declared.command.Command.{Command}
-use Rattle.vx_words.specs.declared.command.Command.TheVariants.{Print, Read, Check, Count, Decide, Queue, Export}
+use Rattle.vx_words.specs.declared.command.Command.TheVariants.{Print, Read, Check, Count, Decide, Queue, Export, Demo}
 use Rattle.vx_words.specs.Devices.{device_of}
 use Rattle.vx_words.specs.Words.{words_with, IsSound, WordsSpellOneCommand}
 
@@ -45,18 +45,20 @@ known None = []
 known (Some device) = device
 
 -- the command that words spell, if they spell one: by the first letters of the first word
-abbrev command_at : ℕ → ℕ → List (List ℕ) → Command
-command_at first second words =
+abbrev command_at : ℕ → ℕ → ℕ → List (List ℕ) → Command
+command_at first second third words =
     if first == 112 then Print (get_or words 1 []) (digits_value 10 (get_or words 2 [])) (kind_in (get_or words 3 [])) (is_for_test (get_or words 3 []))
     else (if first == 114 then Read (get_or words 1 []) (drop 2 words)
+    else (if third == 109 then Demo (digits_value 10 (get_or words 1 [])) (digits_value 10 (get_or words 2 []))
     else (if first == 100 then Decide (get_or words 1 []) (get_or words 2 [])
     else (if first == 113 then Queue (get_or words 1 [])
     else (if first == 101 then Export (get_or words 1 []) (get_or words 2 []) (known (device_of (get_or words 3 [])))
     else (if second == 104 then Check (get_or words 1 []) (get_or words 2 []) (get_or words 3 [])
-    else Count (get_or words 1 []) (get_or words 2 []) (digits_value 10 (get_or words 3 [])) (drop 4 words))))))
+    else Count (get_or words 1 []) (get_or words 2 []) (digits_value 10 (get_or words 3 [])) (drop 4 words)))))))
 
 abbrev command_in : List (List ℕ) → Command
-command_in words = command_at (get_or (get_or words 0 []) 0 0) (get_or (get_or words 0 []) 1 0) words
+command_in words =
+    command_at (get_or (get_or words 0 []) 0 0) (get_or (get_or words 0 []) 1 0) (get_or (get_or words 0 []) 2 0) words
 
 -- a command is the one that its words spell
 command_back : (device : List ℕ) (command : Command) → IsSound device command → command_in (words_with device command) ≡ command
@@ -72,6 +74,9 @@ command_back device (Count election batch workers scans) sound =
 command_back device (Decide election script) sound = refl
 command_back device (Queue election) sound = refl
 command_back device (Export election moment named) sound = ap (λ (o : Option (List ℕ)). Export election moment (known o)) sound.is_named
+command_back device (Demo seed sheets) sound =
+    ap (λ (n : ℕ). Demo n (digits_value 10 (decimal sheets))) (decimal_is_IsNumeral seed sound.seed_in_range).1
+    ∙ ap (λ (n : ℕ). Demo seed n) (decimal_is_IsNumeral sheets (omega (arith, sound.few_sheets))).1
 
 pub spelled_once : WordsSpellOneCommand
 spelled_once words a b first second =

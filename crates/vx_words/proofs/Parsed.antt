@@ -8,7 +8,7 @@ use Rattle.clap.specs.declared.parser.matches.ArgMatches.{ArgMatches}
 use Rattle.clap.specs.declared.error.kind.ErrorKind.{ErrorKind}
 use Rattle.clap.specs.declared.error.kind.ErrorKind.TheVariants as kind
 use Rattle.vx_words.specs.declared.command.Command.{Command}
-use Rattle.vx_words.specs.declared.command.Command.TheVariants.{Print, Read, Check, Count, Decide, Queue, Export}
+use Rattle.vx_words.specs.declared.command.Command.TheVariants.{Print, Read, Check, Count, Decide, Queue, Export, Demo}
 use Rattle.vx_words.specs.declared.fault.UsageFault.{UsageFault}
 use Rattle.vx_words.specs.declared.fault.UsageFault.TheVariants.{Usage, OutOfMemory}
 use Rattle.vx_words.specs.Words.{IsArgument, Reads, Spells}
@@ -38,6 +38,7 @@ called_by_name (Count election batch workers scans) = refl
 called_by_name (Decide election script) = refl
 called_by_name (Queue election) = refl
 called_by_name (Export election moment named) = refl
+called_by_name (Demo seed sheets) = refl
 
 spelled_taken : (words : List Text) → All IsArgument words → length words < 2 ^ 32 → (command : Command) → Spells words command → takes line words ≡ true
 spelled_taken [] are few command spelled = absurd (omega (arith, two_words [] command spelled))

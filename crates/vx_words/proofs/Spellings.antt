@@ -11,12 +11,12 @@ use Rattle.std.specs.Fmt.{decimal}
 use Rattle.std.specs.Str.Parse.{digits_value}
 use Rattle.std.proofs.lemmas.Fmt.{decimal_is_IsNumeral}
 use Rattle.vx_base.specs.Numeral.{StartsNumeral}
-use Rattle.vx_base.proofs.Numerals.{decimal_starts}
+use Rattle.vx_words.proofs.Seeds.{decimal_starts}
 use Rattle.vx_grid.specs.declared.kind.Kind.{Kind}
 use Rattle.vx_grid.specs.declared.kind.Kind.TheVariants.{Precinct, Absentee, Provisional, Other}
 use Rattle.vx_grid.specs.Kinds.{kind_word}
 use Rattle.vx_words.specs.declared.command.Command.{Command}
-use Rattle.vx_words.specs.declared.command.Command.TheVariants.{Print, Read, Check, Count, Decide, Queue, Export}
+use Rattle.vx_words.specs.declared.command.Command.TheVariants.{Print, Read, Check, Count, Decide, Queue, Export, Demo}
 use Rattle.vx_words.specs.declared.fault.UsageFault.{UsageFault}
 use Rattle.vx_words.specs.declared.fault.UsageFault.TheVariants.{Usage, OutOfMemory}
 use Rattle.vx_events.specs.Fits.{is_batch}
@@ -47,7 +47,7 @@ all_arguments words from i past are =
     subst Are (take_all (i - from) (drop from words) (omega (arith, length-drop from words))) are
 
 -- numbers and kinds may be arguments
-number_is_argument : (n : ℕ) → n < 2 ^ 32 → IsArgument (decimal n)
+number_is_argument : (n : ℕ) → n < 2 ^ 64 → IsArgument (decimal n)
 number_is_argument n few =
     let starts : StartsNumeral (decimal n) = decimal_starts n few in
     record { some = starts.some; no_option = λ is. absurd (omega (arith, is, starts.low)) }
@@ -71,6 +71,7 @@ name_of (Count election batch workers scans) = codes "count"
 name_of (Decide election script) = codes "decide"
 name_of (Queue election) = codes "queue"
 name_of (Export election moment device) = codes "export"
+name_of (Demo seed sheets) = codes "demo"
 
 abbrev pub least_of : Command → ℕ
 least_of (Print election card kind test) = 4
@@ -80,6 +81,7 @@ least_of (Count election batch workers scans) = 5
 least_of (Decide election script) = 3
 least_of (Queue election) = 2
 least_of (Export election moment device) = 4
+least_of (Demo seed sheets) = 3
 
 abbrev pub most_of : Command → ℕ
 most_of (Read election scans) = 66
@@ -126,6 +128,13 @@ named device (Export election moment known) sound = record {
   arguments = All-cons IsArgument election (moment ∷ device ∷ []) sound.is_argument
       (All-cons IsArgument moment (device ∷ []) sound.moment_is_argument
       (All-cons IsArgument device [] sound.device_is_argument (All-nil IsArgument)));
+}
+named device (Demo seed sheets) sound = record {
+  first = refl;
+  enough = omega arith;
+  no_more = omega arith;
+  arguments = All-cons IsArgument (decimal seed) (decimal sheets ∷ []) (number_is_argument seed sound.seed_in_range)
+      (All-cons IsArgument (decimal sheets) [] (number_is_argument sheets (omega (arith, sound.few_sheets))) (All-nil IsArgument));
 }
 
 pub spelled_named : (words : List (List ℕ)) (command : Command) → Spells words command → HasName words (name_of command) (least_of command) (most_of command)
@@ -258,14 +267,15 @@ there (Some x) not_none = (x, refl)
 pub no_command :
     (words : List (List ℕ)) → (HasName words (codes "print") 4 4 → ⊥) → (HasName words (codes "read") 3 66 → ⊥)
     → (HasName words (codes "check") 4 4 → ⊥) → (HasName words (codes "count") 5 68 → ⊥) → (HasName words (codes "decide") 3 3 → ⊥)
-    → (HasName words (codes "queue") 2 2 → ⊥) → (HasName words (codes "export") 4 4 → ⊥) → NoCommand words
-no_command words print read check count decide queue export (Print election card kind test) spelled = print (spelled_named words (Print election card kind test) spelled)
-no_command words print read check count decide queue export (Read election scans) spelled = read (spelled_named words (Read election scans) spelled)
-no_command words print read check count decide queue export (Check election scans readings) spelled = check (spelled_named words (Check election scans readings) spelled)
-no_command words print read check count decide queue export (Count election batch workers scans) spelled = count (spelled_named words (Count election batch workers scans) spelled)
-no_command words print read check count decide queue export (Decide election script) spelled = decide (spelled_named words (Decide election script) spelled)
-no_command words print read check count decide queue export (Queue election) spelled = queue (spelled_named words (Queue election) spelled)
-no_command words print read check count decide queue export (Export election moment device) spelled = export (spelled_named words (Export election moment device) spelled)
+    → (HasName words (codes "queue") 2 2 → ⊥) → (HasName words (codes "export") 4 4 → ⊥) → (HasName words (codes "demo") 3 3 → ⊥) → NoCommand words
+no_command words print read check count decide queue export demo (Print election card kind test) spelled = print (spelled_named words (Print election card kind test) spelled)
+no_command words print read check count decide queue export demo (Read election scans) spelled = read (spelled_named words (Read election scans) spelled)
+no_command words print read check count decide queue export demo (Check election scans readings) spelled = check (spelled_named words (Check election scans readings) spelled)
+no_command words print read check count decide queue export demo (Count election batch workers scans) spelled = count (spelled_named words (Count election batch workers scans) spelled)
+no_command words print read check count decide queue export demo (Decide election script) spelled = decide (spelled_named words (Decide election script) spelled)
+no_command words print read check count decide queue export demo (Queue election) spelled = queue (spelled_named words (Queue election) spelled)
+no_command words print read check count decide queue export demo (Export election moment device) spelled = export (spelled_named words (Export election moment device) spelled)
+no_command words print read check count decide queue export demo (Demo seed sheets) spelled = demo (spelled_named words (Demo seed sheets) spelled)
 
 -- no other command is named so
 pub other_name : (words : List (List ℕ)) (called : List ℕ) (command : Command) → slice_get words 0 ≡ Some called → Spells words command → (get_or (name_of command) 1 0 ≡ get_or called 1 0 → ⊥) → ⊥
@@ -287,6 +297,44 @@ no_workers words word workers first at_3 is none (Check election scans readings)
 no_workers words word workers first at_3 is none (Decide election script) spelled = other_name words (codes "count") (Decide election script) first spelled (λ same. absurd (omega (arith, same)))
 no_workers words word workers first at_3 is none (Queue election) spelled = other_name words (codes "count") (Queue election) first spelled (λ same. absurd (omega (arith, same)))
 no_workers words word workers first at_3 is none (Export election moment device) spelled = other_name words (codes "count") (Export election moment device) first spelled (λ same. absurd (omega (arith, same)))
+no_workers words word workers first at_3 is none (Demo seed sheets) spelled = other_name words (codes "count") (Demo seed sheets) first spelled (λ same. absurd (omega (arith, same)))
+
+-- no other command's name has that third letter
+other_third : (words : List (List ℕ)) (command : Command) → slice_get words 0 ≡ Some (codes "demo") → Spells words command → (get_or (name_of command) 2 0 ≡ 109 → ⊥) → ⊥
+other_third words command first spelled differs =
+    let own : slice_get words 0 ≡ Some (name_of command) = (spelled_named words command spelled).first in
+    let same : name_of command ≡ codes "demo" = cc in
+    differs (ap (λ (name : List ℕ). get_or name 2 0) same)
+
+-- the word of no sheets is no number of sheets
+pub no_sheets : (words : List (List ℕ)) (word : List ℕ) (sheets : ℕ) → slice_get words 0 ≡ Some (codes "demo") → slice_get words 2 ≡ Some word → word ≡ decimal sheets → sheets ≡ 0 → NoCommand words
+no_sheets words word sheets first at_2 is none (Demo seed others) spelled =
+    let shown : slice_get words 2 ≡ Some (decimal others) = ap (λ (w : List (List ℕ)). slice_get w 2) spelled.words_are in
+    let same : decimal sheets ≡ decimal others = cc in
+    let equal : sheets ≡ others = sym (decimal_is_IsNumeral sheets (omega (arith, none))).1 ∙ ap (digits_value 10) same ∙ (decimal_is_IsNumeral others (omega (arith, spelled.sound.few_sheets))).1 in
+    omega (arith, equal, none, spelled.sound.some_sheet)
+no_sheets words word sheets first at_2 is none (Print election card kind test) spelled = other_third words (Print election card kind test) first spelled (λ same. absurd (omega (arith, same)))
+no_sheets words word sheets first at_2 is none (Read election scans) spelled = other_third words (Read election scans) first spelled (λ same. absurd (omega (arith, same)))
+no_sheets words word sheets first at_2 is none (Check election scans readings) spelled = other_third words (Check election scans readings) first spelled (λ same. absurd (omega (arith, same)))
+no_sheets words word sheets first at_2 is none (Count election batch workers scans) spelled = other_third words (Count election batch workers scans) first spelled (λ same. absurd (omega (arith, same)))
+no_sheets words word sheets first at_2 is none (Decide election script) spelled = other_third words (Decide election script) first spelled (λ same. absurd (omega (arith, same)))
+no_sheets words word sheets first at_2 is none (Queue election) spelled = other_third words (Queue election) first spelled (λ same. absurd (omega (arith, same)))
+no_sheets words word sheets first at_2 is none (Export election moment named) spelled = other_third words (Export election moment named) first spelled (λ same. absurd (omega (arith, same)))
+
+-- the words of a demo
+pub demo_spelled :
+    (words : List (List ℕ)) (first second : List ℕ) (seed sheets : ℕ) → HasName words (codes "demo") 3 3
+    → slice_get words 1 ≡ Some first → slice_get words 2 ≡ Some second → seed < 2 ^ 64 → first ≡ decimal seed → 1 ≤ sheets → sheets ≤ 1000 → second ≡ decimal sheets
+    → Spells words (Demo seed sheets)
+demo_spelled [] first second seed sheets called at_1 at_2 small is_seed some few is = absurd (omega (arith, called.enough))
+demo_spelled (a ∷ []) first second seed sheets called at_1 at_2 small is_seed some few is = absurd (omega (arith, called.enough))
+demo_spelled (a ∷ b ∷ []) first second seed sheets called at_1 at_2 small is_seed some few is = absurd (omega (arith, called.enough))
+demo_spelled (name ∷ b ∷ c ∷ []) first second seed sheets called at_1 at_2 small is_seed some few is = record {
+  device = [];
+  words_are = (let start = called.first in cc);
+  sound = record { seed_in_range = small; some_sheet = some; few_sheets = few };
+}
+demo_spelled (a ∷ b ∷ c ∷ d ∷ more) first second seed sheets called at_1 at_2 small is_seed some few is = absurd (omega (arith, called.no_more))
 
 -- a word that names no device is no device of an export
 pub no_device : (words : List (List ℕ)) (word : List ℕ) → HasName words (codes "export") 4 4 → slice_get words 3 ≡ Some word → is_some (device_of word) ≡ false → NoCommand words
@@ -300,6 +348,7 @@ no_device words word called at_3 none (Check election scans readings) spelled = 
 no_device words word called at_3 none (Count election batch workers scans) spelled = other_name words (codes "export") (Count election batch workers scans) called.first spelled (λ same. absurd (omega (arith, same)))
 no_device words word called at_3 none (Decide election script) spelled = other_name words (codes "export") (Decide election script) called.first spelled (λ same. absurd (omega (arith, same)))
 no_device words word called at_3 none (Queue election) spelled = other_name words (codes "export") (Queue election) called.first spelled (λ same. absurd (omega (arith, same)))
+no_device words word called at_3 none (Demo seed sheets) spelled = other_name words (codes "export") (Demo seed sheets) called.first spelled (λ same. absurd (omega (arith, same)))
 
 -- a word that names a device
 pub some_device : (word : List ℕ) → is_some (device_of word) ≡ true → (named : List ℕ) × (device_of word ≡ Some named)
@@ -314,6 +363,7 @@ name_is_argument (Count election batch workers scans) = record { some = lit< tt;
 name_is_argument (Decide election script) = record { some = lit< tt; no_option = λ is. absurd (omega (arith, is)) }
 name_is_argument (Queue election) = record { some = lit< tt; no_option = λ is. absurd (omega (arith, is)) }
 name_is_argument (Export election moment named) = record { some = lit< tt; no_option = λ is. absurd (omega (arith, is)) }
+name_is_argument (Demo seed sheets) = record { some = lit< tt; no_option = λ is. absurd (omega (arith, is)) }
 
 with_name : (words : List (List ℕ)) (name : List ℕ) → slice_get words 0 ≡ Some name → IsArgument name → All IsArgument (drop 1 words) → All IsArgument words
 with_name [] name first is are = All-nil IsArgument
@@ -340,3 +390,4 @@ two_words words command spelled = enough command (spelled_named words command sp
     enough (Decide election script) are = omega (arith, are)
     enough (Queue election) are = omega (arith, are)
     enough (Export election moment named) are = omega (arith, are)
+    enough (Demo seed sheets) are = omega (arith, are)

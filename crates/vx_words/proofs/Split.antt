@@ -247,7 +247,7 @@ abbrev pub and_form : App → Text → App
 and_form made name = with_subcommand made (form name)
 
 pub grown :
-    and_form (and_form (and_form (and_form (and_form (and_form (and_form start (codes "print")) (codes "read")) (codes "check")) (codes "count")) (codes "decide")) (codes "queue")) (codes "export")
+    and_form (and_form (and_form (and_form (and_form (and_form (and_form (and_form start (codes "print")) (codes "read")) (codes "check")) (codes "count")) (codes "decide")) (codes "queue")) (codes "export")) (codes "demo")
     ≡ line
 unfolding line
 grown = refl

@@ -1,12 +1,12 @@
 -- Which words are which command: this program's own positions and spellings.
-use Rattle.std.specs.Prelude.{⊤, Bool, false, ◌≡◌, ◌≢◌, ◌≤◌, ◌<◌, All, ℕ, List, ◌∷◌, [], length, slice_index, true, codes, Some, slice_get, Result, Ok, Err, drop}
+use Rattle.std.specs.Prelude.{⊤, Bool, false, ◌≡◌, ◌≢◌, ◌≤◌, ◌<◌, ◌^◌, All, ℕ, List, ◌∷◌, [], length, slice_index, true, codes, Some, slice_get, Result, Ok, Err, drop}
 use Rattle.std.specs.Fmt.{decimal}
 use Rattle.vx_grid.specs.declared.kind.Kind.{Kind}
 use Rattle.vx_grid.specs.declared.kind.Kind.TheVariants.{Other}
 use Rattle.vx_grid.specs.Kinds.{kind_word}
 use Rattle.vx_events.specs.Fits.{is_batch}
 use Rattle.vx_words.specs.declared.command.Command.{Command}
-use Rattle.vx_words.specs.declared.command.Command.TheVariants.{Print, Read, Check, Count, Decide, Queue, Export}
+use Rattle.vx_words.specs.declared.command.Command.TheVariants.{Print, Read, Check, Count, Decide, Queue, Export, Demo}
 use Rattle.vx_words.specs.declared.fault.UsageFault.{UsageFault}
 use Rattle.vx_words.specs.declared.fault.UsageFault.TheVariants.{Usage, OutOfMemory}
 use Rattle.vx_words.specs.Moments.{is_moment}
@@ -22,6 +22,7 @@ words_with device (Count election batch workers scans) = codes "count" ∷ elect
 words_with device (Decide election script) = codes "decide" ∷ election ∷ script ∷ []
 words_with device (Queue election) = codes "queue" ∷ election ∷ []
 words_with device (Export election moment named) = codes "export" ∷ election ∷ moment ∷ device ∷ []
+words_with device (Demo seed sheets) = codes "demo" ∷ decimal seed ∷ decimal sheets ∷ []
 
 -- a word that may be an argument: it isn't empty and doesn't begin with `-`
 pub record IsArgument (word : List ℕ) : Type 0 where
@@ -61,6 +62,12 @@ pub record IsSoundExport (election moment device named : List ℕ) : Type 0 wher
   pub device_is_argument : IsArgument device
   pub is_named : device_of device ≡ Some named
 
+-- a seed, and 1 to 1,000 sheets
+pub record IsSoundDemo (seed sheets : ℕ) : Type 0 where
+  pub seed_in_range : seed < 2 ^ 64
+  pub some_sheet : 1 ≤ sheets
+  pub few_sheets : sheets ≤ 1000
+
 -- the parts of a command are in their ranges
 abbrev pub IsSound : List ℕ → Command → Type 0
 IsSound device (Print election card kind test) = IsSoundPrint election card kind
@@ -70,6 +77,7 @@ IsSound device (Count election batch workers scans) = IsSoundCount election batc
 IsSound device (Decide election script) = All IsArgument (election ∷ script ∷ [])
 IsSound device (Queue election) = IsArgument election
 IsSound device (Export election moment named) = IsSoundExport election moment device named
+IsSound device (Demo seed sheets) = IsSoundDemo seed sheets
 
 -- The words are this command. It has one spelling, but for the word that names a device, which has several.
 pub record Spells (words : List (List ℕ)) (command : Command) : Type 0 where

@@ -48,4 +48,11 @@ pub enum Command {
         /// A UUID in lower case, with hyphens.
         device: Text,
     },
+    /// Simulate, read and check sheets of the demo election.
+    Demo {
+        /// What all that is drawn is drawn from.
+        seed: u64,
+        /// How many sheets, from 1 to 1000.
+        sheets: u32,
+    },
 }

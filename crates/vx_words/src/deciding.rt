@@ -6,6 +6,7 @@ ghost use Rattle.vx_words.specs.Words.{Decides, HasName};
 use crate::arguments::has_name;
 use crate::kinds::kind_and_test;
 use crate::moment::{is_device, is_moment};
+use crate::seed::read_seed;
 use vx_base::read_number;
 use vx_events::is_batch;
 use vx_io::Words;
@@ -52,6 +53,22 @@ fn is_export(words: &Words) -> bool
     true
 }
 
+fn is_demo(words: &Words) -> bool
+    requires { HasName words.now (codes "demo") 3 3 }
+    ensures { Decides words.now result }
+{
+    let Some(_seed) = read_seed(words.word(1)) else {
+        return false;
+    };
+    let Some(sheets) = read_number(words.word(2), 1000) else {
+        return false;
+    };
+    if sheets == 0 {
+        return false;
+    }
+    true
+}
+
 /// Whether the words spell a command. It takes no memory.
 pub fn is_command(words: &Words) -> bool
     ensures { Decides words.now result }
@@ -76,6 +93,9 @@ pub fn is_command(words: &Words) -> bool
     }
     if has_name(words, "queue", 2, 2) {
         return true;
+    }
+    if has_name(words, "demo", 3, 3) {
+        return is_demo(words);
     }
     false
 }

@@ -17,6 +17,7 @@ mod making;
 mod moment;
 mod parsing;
 mod reading;
+mod seed;
 
 pub use command::Command;
 pub use fault::UsageFault;

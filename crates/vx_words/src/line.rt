@@ -39,5 +39,6 @@ pub fn command_line<'a>(alloc: Global) -> Result<Command<'a>, AllocError>
     let line = with_form(alloc, line, "count")?;
     let line = with_form(alloc, line, "decide")?;
     let line = with_form(alloc, line, "queue")?;
-    with_form(alloc, line, "export")
+    let line = with_form(alloc, line, "export")?;
+    with_form(alloc, line, "demo")
 }

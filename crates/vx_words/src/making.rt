@@ -8,6 +8,7 @@ use crate::command::Command;
 use crate::fault::UsageFault;
 use crate::kinds::kind_and_test;
 use crate::moment::{device_of, is_moment};
+use crate::seed::read_seed;
 use std::alloc::Global;
 use vx_base::read_number;
 use vx_events::is_batch;
@@ -143,6 +144,26 @@ fn export_of(alloc: Global, arguments: &[&str]) -> Result<Command, UsageFault>
     })
 }
 
+/// `demo SEED SHEETS`.
+fn demo_of(arguments: &[&str]) -> Result<Command, UsageFault>
+    requires { All IsArgument (map (λ word. word.now) arguments.now) }
+    ensures { Reads (codes "demo" ∷ map (λ word. word.now) arguments.now) result }
+{
+    let [seed, sheets] = arguments else {
+        return Err(UsageFault::Usage);
+    };
+    let Some(seed) = read_seed(seed) else {
+        return Err(UsageFault::Usage);
+    };
+    let Some(sheets) = read_number(sheets, 1000) else {
+        return Err(UsageFault::Usage);
+    };
+    if sheets == 0 {
+        return Err(UsageFault::Usage);
+    }
+    Ok(Command::Demo { seed, sheets })
+}
+
 /// The command with a name, of the words behind it.
 pub fn command_of(alloc: Global, name: &str, arguments: &[&str]) -> Result<Command, UsageFault>
     requires { All IsArgument (map (λ word. word.now) arguments.now) }
@@ -168,6 +189,9 @@ pub fn command_of(alloc: Global, name: &str, arguments: &[&str]) -> Result<Comma
     }
     if name == "export" {
         return export_of(alloc, arguments);
+    }
+    if name == "demo" {
+        return demo_of(arguments);
     }
     Err(UsageFault::Usage)
 }

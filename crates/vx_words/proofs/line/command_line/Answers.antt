@@ -21,4 +21,5 @@ returns c =
     let four = c.in_ok-line-4.ensures ∙ ap (with (codes "count")) three in
     let five = c.in_ok-line-5.ensures ∙ ap (with (codes "decide")) four in
     let six = c.in_ok-line-6.ensures ∙ ap (with (codes "queue")) five in
-    IfOk-weaker c.with_form-7.result _ _ (λ made is. is ∙ ap (with (codes "export")) six ∙ grown) c.with_form-7.ensures
+    let seven = c.in_ok-line-7.ensures ∙ ap (with (codes "export")) six in
+    IfOk-weaker c.with_form-8.result _ _ (λ made is. is ∙ ap (with (codes "demo")) seven ∙ grown) c.with_form-8.ensures

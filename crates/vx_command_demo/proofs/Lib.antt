@@ -1,0 +1,7 @@
+pub mod Drawn
+pub mod Signed
+pub mod Adding
+pub mod Made
+pub mod Within
+pub mod Held
+pub mod Tried

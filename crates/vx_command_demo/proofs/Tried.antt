@@ -1,0 +1,80 @@
+-- Two pages of a sheet, and one sheet more.
+use Rattle.std.proofs.Common.{◌≡◌, ℕ, ◌+◌, ◌-◌, ◌%◌, List, [], ◌∷◌, sym, ap, ap₂, ◌∙◌, arith}
+use Rattle.std.specs.Prelude.{Option, None, Some, Result, slice_get, take}
+use Rattle.std.specs.List.{range_with_len}
+use Rattle.rand_pcg.specs.Lcg.{Lcg}
+use Rattle.vx_election_model.specs.declared.election.Election.{Election}
+use Rattle.vx_layout.specs.declared.pages.PagePlan.{PagePlan}
+use Rattle.vx_layout.specs.declared.plan.CardPlan.{CardPlan}
+use Rattle.vx_scan_model.specs.declared.reading.PageReading.{PageReading}
+use Rattle.vx_scan_model.specs.declared.fault.PageFault.{PageFault}
+use Rattle.vx_sheet.specs.Came.{sheet_read}
+use Rattle.vx_simulate.specs.Draws.{draw_all}
+use Rattle.vx_command_demo.specs.declared.sums.PageSums.{PageSums}
+use Rattle.vx_command_demo.specs.declared.sums.ReasonSums.{ReasonSums}
+use Rattle.vx_command_demo.specs.declared.counted.Counted.{Counted}
+use Rattle.vx_command_demo.specs.Trials.{Trial, first_sheet, try_card, try_page, try_sheet}
+use Rattle.vx_command_demo.specs.Sums.{page_sums, read_as}
+use Rattle.vx_command_demo.specs.Adding.{both, both_pages, counted_of, nothing, reasons_read}
+use Rattle.vx_command_demo.proofs.Adding.{counted-push, of_two, one-sheet, same-counted}
+use Rattle.vx_command_demo.proofs.Drawn.{number-more}
+
+pub two-counted : (election : Election) (card : ℕ) (front back : PagePlan) (g rng : Lcg) (a b pages : PageSums) (reasons : ReasonSums) (read other : Result PageReading PageFault)
+    → rng ≡ (try_page election card front g).1
+    → a ≡ page_sums election ((try_page election card front g).0 ∷ []) → b ≡ page_sums election ((try_page election card back rng).0 ∷ [])
+    → pages ≡ both_pages a b
+    → read ≡ read_as election (try_page election card front g).0 → other ≡ read_as election (try_page election card back rng).0
+    → reasons ≡ reasons_read election (sheet_read election 1 read other)
+    → ◌≡◌ {A = Counted} (record { pages = pages; reasons = reasons }) (counted_of election ((draw_all (try_page election card) (front ∷ back ∷ []) g).0 ∷ []))
+two-counted election card front back g rng a b pages reasons read other at is_a is_b sums is_read is_other held =
+    let one : Trial = (try_page election card front g).0 in
+    let two : Trial = (try_page election card back (try_page election card front g).1).0 in
+    let then_b : b ≡ page_sums election (two ∷ []) = is_b ∙ ap (λ (r : Lcg). page_sums election ((try_page election card back r).0 ∷ [])) at in
+    let then_other : other ≡ read_as election two = is_other ∙ ap (λ (r : Lcg). read_as election (try_page election card back r).0) at in
+    same-counted (record { pages = pages; reasons = reasons }) (of_two election one two)
+    (sums ∙ ap₂ both_pages is_a then_b)
+    (held ∙ ap₂ (λ (x y : Result PageReading PageFault). reasons_read election (sheet_read election 1 x y)) is_read then_other)
+    ∙ sym (one-sheet election one two)
+
+pub sheet-more : (election : Election) (plans : List CardPlan) (start rng next : Lcg) (n : ℕ) (counted more now : Counted)
+    → counted ≡ counted_of election (draw_all (try_sheet election plans) (range_with_len 1 n) start).0
+    → rng ≡ (draw_all (try_sheet election plans) (range_with_len 1 n) start).1
+    → more ≡ counted_of election ((try_card election plans (n % 3) rng).0 ∷ [])
+    → next ≡ (try_card election plans (n % 3) rng).1
+    → now ≡ both counted more
+    → (now ≡ counted_of election (draw_all (try_sheet election plans) (range_with_len 1 (n + 1)) start).0)
+    × (next ≡ (draw_all (try_sheet election plans) (range_with_len 1 (n + 1)) start).1)
+sheet-more election plans start rng next n counted more now far at is_more moved sums =
+    let done : List (List Trial) × Lcg = draw_all (try_sheet election plans) (range_with_len 1 n) start in
+    let number : 1 + n - 1 ≡ n = omega arith in
+    let card : try_card election plans (n % 3) rng ≡ try_sheet election plans (1 + n) done.1 =
+    ap (λ (r : Lcg). try_card election plans (n % 3) r) at ∙ ap (λ (k : ℕ). try_card election plans (k % 3) done.1) (sym number) in
+    let step = number-more (try_sheet election plans) 1 n start in
+    (sums
+    ∙ ap₂ both far (is_more ∙ ap (λ (p : List Trial × Lcg). counted_of election (p.0 ∷ [])) card)
+    ∙ sym (counted-push election done.0 (try_sheet election plans (1 + n) done.1).0)
+    ∙ ap (λ (p : List (List Trial) × Lcg). counted_of election p.0) (sym step),
+    moved
+    ∙ ap (λ (p : List Trial × Lcg). p.1) card
+    ∙ ap (λ (p : List (List Trial) × Lcg). p.1) (sym step))
+
+-- a card that isn't there has no sheet
+pub none-tried : (election : Election) (plans : List CardPlan) (card : ℕ) (g : Lcg) → slice_get plans card ≡ None
+    → (nothing ≡ counted_of election ((try_card election plans card g).0 ∷ [])) × (g ≡ (try_card election plans card g).1)
+none-tried election plans card g is = (
+  ap (λ (found : Option CardPlan). counted_of election ((draw_all (try_page election card) (first_sheet found) g).0 ∷ [])) (sym is),
+  ap (λ (found : Option CardPlan). (draw_all (try_page election card) (first_sheet found) g).1) (sym is),
+)
+
+two-taken : (pages : List PagePlan) (front back : PagePlan) → slice_get pages 0 ≡ Some front → slice_get pages 1 ≡ Some back → take 2 pages ≡ front ∷ back ∷ []
+two-taken [] front back at_0 at_1 = absurd cc
+two-taken (a ∷ []) front back at_0 at_1 = absurd cc
+two-taken (a ∷ b ∷ more) front back at_0 at_1 = cc
+
+-- one that is there has its first two pages
+pub some-tried : (election : Election) (plans : List CardPlan) (card : ℕ) (plan : CardPlan) (front back : PagePlan) (g : Lcg)
+    → slice_get plans card ≡ Some plan → slice_get plan.pages 0 ≡ Some front → slice_get plan.pages 1 ≡ Some back
+    → draw_all (try_page election card) (front ∷ back ∷ []) g ≡ try_card election plans card g
+some-tried election plans card plan front back g is at_0 at_1 =
+    ap (λ (pages : List PagePlan). draw_all (try_page election card) pages g) (sym (two-taken plan.pages front back at_0 at_1))
+    ∙ ap (λ (found : Option CardPlan). draw_all (try_page election card) (first_sheet found) g) (sym is)

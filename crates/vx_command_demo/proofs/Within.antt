@@ -1,0 +1,25 @@
+-- How large sums may become.
+use Rattle.std.proofs.Common.{◌≡◌, ℕ, ◌+◌, ◌*◌, ◌^◌, ◌≤◌, ◌<◌, arith}
+use Rattle.vx_command_demo.specs.declared.sums.PageSums.{PageSums}
+use Rattle.vx_command_demo.specs.declared.sums.ReasonSums.{ReasonSums}
+use Rattle.vx_command_demo.specs.declared.counted.Counted.{Counted}
+use Rattle.vx_command_demo.specs.Adding.{ArePageSums, AreReasonSums, IsCounted, both_reasons}
+
+-- at most so often, and so at most more often
+pub reasons-more : (few most : ℕ) (sums : ReasonSums) → few ≤ most → AreReasonSums few sums → AreReasonSums most sums
+reasons-more few most sums le within = record {
+  overvote = omega (arith, within.overvote, le);
+  undervote = omega (arith, within.undervote, le);
+  marginal = omega (arith, within.marginal, le);
+  blank = omega (arith, within.blank, le);
+  write_in = omega (arith, within.write_in, le);
+}
+
+pub reasons-both : (one other : ℕ) (a b : ReasonSums) → AreReasonSums (one * 500) a → AreReasonSums (other * 500) b → AreReasonSums ((one + other) * 500) (both_reasons a b)
+reasons-both one other a b within too = record {
+  overvote = omega (arith, within.overvote, too.overvote);
+  undervote = omega (arith, within.undervote, too.undervote);
+  marginal = omega (arith, within.marginal, too.marginal);
+  blank = omega (arith, within.blank, too.blank);
+  write_in = omega (arith, within.write_in, too.write_in);
+}

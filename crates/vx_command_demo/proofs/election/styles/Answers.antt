@@ -1,0 +1,10 @@
+use Rattle.std.proofs.Common.{◌≡◌, ◌∷◌, ◌++◌, [], rules}
+use Rattle.vx_command_demo.specs.Election as spec
+use Rattle.vx_command_demo.proofs.Made.{one_numbered}
+use Rattle.vx_command_demo.proofs.election.styles.Goals as goal
+
+pub loop-number-preserved : goal.loop-number-preserved
+loop-number-preserved c =
+    let pushed : c.push.new.self.items ≡ c.loop-number.values.items ++ c.in_ok-style.field-0 ∷ [] = search rules in
+    rw pushed
+    (one_numbered spec.style 1 c.loop-number.number c.loop-number.values.items c.in_ok-style.field-0 c.in_ok-style.ensures c.loop-number.invariant)

@@ -1,0 +1,9 @@
+use Rattle.std.proofs.Common.{◌≡◌, sym, ◌∙◌, arith}
+use Rattle.vx_command_demo.proofs.Held.{few-read}
+use Rattle.vx_command_demo.proofs.Within.{reasons-more}
+use Rattle.vx_command_demo.proofs.reasons.sums_of_pages.Goals as goal
+
+pub read_sheet-requires-clause-shown : goal.read_sheet-requires-clause-shown
+read_sheet-requires-clause-shown c = λ card plan is.
+    let shown = c.plans_show_each_option.ensures c.args.election.now card plan c.requires.election is in
+    record { options = shown.0; pages = shown.1 }

@@ -1,0 +1,4 @@
+pub mod Drawing
+pub mod Pages
+pub mod Demos
+pub mod Said
