@@ -1,8 +1,9 @@
 //! Trials of the commands through the whole program: `check` of worked rows, of texts that leave the form of
 //! readings and of each change of one number of a clean block; each call of each device failing in turn, and
 //! a count that is stopped at each append and run again; `count`, `decide` and `queue` with any number of
-//! workers, sheets that are read side by side, what is refused, and a contest that waits; what `decide` and `queue` write; lines of words and what they are read as. Nothing
-//! stands on it.
+//! workers, sheets that are read side by side, what is refused, and a contest that waits; what `decide` and
+//! `queue` write; lines of words and what they are read as; demos beside another program's. Nothing stands on
+//! it.
 #![tactic(auto)]
 
 #[cfg(test)]
@@ -17,6 +18,8 @@ mod checking_texts;
 mod checking_worked;
 #[cfg(test)]
 mod decide_lines;
+#[cfg(test)]
+mod demos;
 #[cfg(test)]
 mod failing;
 #[cfg(test)]
