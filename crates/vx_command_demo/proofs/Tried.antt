@@ -1,11 +1,14 @@
 -- Two pages of a sheet, and one sheet more.
 use Rattle.std.proofs.Common.{◌≡◌, ℕ, ◌+◌, ◌-◌, ◌%◌, List, [], ◌∷◌, sym, ap, ap₂, ◌∙◌, arith}
-use Rattle.std.specs.Prelude.{Option, None, Some, Result, slice_get, take}
+use Rattle.std.specs.Prelude.{Option, None, Some, Result, Ok, slice_get, take}
+use Rattle.std.proofs.lemmas.Option.{get_or_from_slice_get, slice_get_within}
 use Rattle.std.specs.List.{range_with_len}
 use Rattle.rand_pcg.specs.Lcg.{Lcg}
 use Rattle.vx_election_model.specs.declared.election.Election.{Election}
 use Rattle.vx_layout.specs.declared.pages.PagePlan.{PagePlan}
 use Rattle.vx_layout.specs.declared.plan.CardPlan.{CardPlan}
+use Rattle.vx_layout.specs.Plan.{plan_of}
+use Rattle.vx_layout.specs.Plans.{ArePlansOf}
 use Rattle.vx_scan_model.specs.declared.reading.PageReading.{PageReading}
 use Rattle.vx_scan_model.specs.declared.fault.PageFault.{PageFault}
 use Rattle.vx_sheet.specs.Came.{sheet_read}
@@ -49,14 +52,15 @@ sheet-more election plans start rng next n counted more now far at is_more moved
     let number : 1 + n - 1 ≡ n = omega arith in
     let card : try_card election plans (n % 3) rng ≡ try_sheet election plans (1 + n) done.1 =
     ap (λ (r : Lcg). try_card election plans (n % 3) r) at ∙ ap (λ (k : ℕ). try_card election plans (k % 3) done.1) (sym number) in
-    let step = number-more (try_sheet election plans) 1 n start in
-    (sums
-    ∙ ap₂ both far (is_more ∙ ap (λ (p : List Trial × Lcg). counted_of election (p.0 ∷ [])) card)
-    ∙ sym (counted-push election done.0 (try_sheet election plans (1 + n) done.1).0)
-    ∙ ap (λ (p : List (List Trial) × Lcg). counted_of election p.0) (sym step),
-    moved
-    ∙ ap (λ (p : List Trial × Lcg). p.1) card
-    ∙ ap (λ (p : List (List Trial) × Lcg). p.1) (sym step))
+    let step = number-more (try_sheet election plans) 1 n start in (
+      sums
+          ∙ ap₂ both far (is_more ∙ ap (λ (p : List Trial × Lcg). counted_of election (p.0 ∷ [])) card)
+          ∙ sym (counted-push election done.0 (try_sheet election plans (1 + n) done.1).0)
+          ∙ ap (λ (p : List (List Trial) × Lcg). counted_of election p.0) (sym step),
+      moved
+          ∙ ap (λ (p : List Trial × Lcg). p.1) card
+          ∙ ap (λ (p : List (List Trial) × Lcg). p.1) (sym step),
+    )
 
 -- a card that isn't there has no sheet
 pub none-tried : (election : Election) (plans : List CardPlan) (card : ℕ) (g : Lcg) → slice_get plans card ≡ None
@@ -78,3 +82,18 @@ pub some-tried : (election : Election) (plans : List CardPlan) (card : ℕ) (pla
 some-tried election plans card plan front back g is at_0 at_1 =
     ap (λ (pages : List PagePlan). draw_all (try_page election card) pages g) (sym (two-taken plan.pages front back at_0 at_1))
     ∙ ap (λ (found : Option CardPlan). draw_all (try_page election card) (first_sheet found) g) (sym is)
+
+-- the plan of a card that is there
+pub card-planned : (election : Election) (plans : List CardPlan) (card : ℕ) (plan : CardPlan) → ArePlansOf election plans → slice_get plans card ≡ Some plan → plan_of election card ≡ Ok plan
+card-planned election plans card plan are at =
+    are.each card plan (slice_get_within plans card plan at) ∙ ap Ok (get_or_from_slice_get plans card plan plan at)
+
+-- sums of one page are of one
+pub one-each : (election : Election) (trial : Trial) (sums : PageSums) → sums ≡ page_sums election (trial ∷ []) → sums.pages ≡ 1
+one-each election trial sums is = ap (λ (s : PageSums). s.pages) is
+
+-- the generator after two pages
+pub two-drawn : (election : Election) (card : ℕ) (front back : PagePlan) (g rng next : Lcg)
+    → rng ≡ (try_page election card front g).1 → next ≡ (try_page election card back rng).1
+    → next ≡ (draw_all (try_page election card) (front ∷ back ∷ []) g).1
+two-drawn election card front back g rng next at moved = moved ∙ ap (λ (r : Lcg). (try_page election card back r).1) at

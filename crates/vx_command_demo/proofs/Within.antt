@@ -1,5 +1,11 @@
 -- How large sums may become.
-use Rattle.std.proofs.Common.{◌≡◌, ℕ, ◌+◌, ◌*◌, ◌^◌, ◌≤◌, ◌<◌, arith}
+use Rattle.std.proofs.Common.{◌≡◌, ℕ, ◌+◌, ◌*◌, ◌^◌, ◌≤◌, ◌<◌, length, arith}
+use Rattle.vx_election_model.specs.declared.election.Election.{Election}
+use Rattle.vx_election_model.specs.Valid.{IsValid}
+use Rattle.vx_layout.specs.declared.pages.PagePlan.{PagePlan}
+use Rattle.vx_scan_model.specs.declared.reading.PageReading.{PageReading}
+use Rattle.vx_scan_model.specs.Named.{NamedStandOnGrid}
+use Rattle.vx_page.specs.Named.{IsOfPlan}
 use Rattle.vx_command_demo.specs.declared.sums.PageSums.{PageSums}
 use Rattle.vx_command_demo.specs.declared.sums.ReasonSums.{ReasonSums}
 use Rattle.vx_command_demo.specs.declared.counted.Counted.{Counted}
@@ -23,3 +29,10 @@ reasons-both one other a b within too = record {
   blank = omega (arith, within.blank, too.blank);
   write_in = omega (arith, within.write_in, too.write_in);
 }
+
+-- a reading has fewer than 1,000 states and scores
+pub few-states : NamedStandOnGrid → (election : Election) (reading : PageReading) (plan : PagePlan) → IsValid election → IsOfPlan election reading plan → length reading.states < 1000
+few-states law election reading plan valid it = omega (arith, (law election reading.code plan valid it.named).few, it.states)
+
+pub few-scores : NamedStandOnGrid → (election : Election) (reading : PageReading) (plan : PagePlan) → IsValid election → IsOfPlan election reading plan → length reading.scores < 1000
+few-scores law election reading plan valid it = omega (arith, (law election reading.code plan valid it.named).few, it.scores)

@@ -49,16 +49,27 @@ yes_no_contest number = described
     ∷ (codes "title", numbered_text (codes "Contest ") number)
     ∷ (codes "type", text (codes "yesno")) ∷ [])
 
--- the others have three to five candidates; each third has two seats, and each fifth write-ins
-abbrev pub candidate_contest : ℕ → Data
-candidate_contest number = described
-    ((codes "allowWriteIns", boolean (number % 5 == 0))
-    ∷ (codes "candidates", all_named (codes "c") (codes "Person ") 0 (2 + number % 4))
-    ∷ (codes "districtId", numbered_text (codes "d") (district_of number))
-    ∷ (codes "id", numbered_text (codes "k") number)
-    ∷ (codes "seats", whole (if number % 3 == 0 then 2 else 1))
-    ∷ (codes "title", numbered_text (codes "Contest ") number)
+-- each third of the others has two seats
+abbrev pub seats_of : ℕ → ℕ
+seats_of number = if number % 3 == 0 then 2 else 1
+
+-- a contest of candidates: whether it has write-ins, its candidates, and the texts of its district, its id and its title
+abbrev pub with_candidates : Bool → Data → List ℕ → List ℕ → ℕ → List ℕ → Data
+with_candidates write_ins candidates district id seats title = described
+    ((codes "allowWriteIns", boolean write_ins)
+    ∷ (codes "candidates", candidates)
+    ∷ (codes "districtId", text district)
+    ∷ (codes "id", text id)
+    ∷ (codes "seats", whole seats)
+    ∷ (codes "title", text title)
     ∷ (codes "type", text (codes "candidate")) ∷ [])
+
+-- the others have three to five candidates, and each fifth write-ins
+abbrev pub candidate_contest : ℕ → Data
+candidate_contest number =
+    with_candidates (number % 5 == 0) (all_named (codes "c") (codes "Person ") 0 (2 + number % 4))
+    (numbered (codes "d") (district_of number)) (numbered (codes "k") number) (seats_of number)
+    (numbered (codes "Contest ") number)
 
 -- a contest by its number, 1 to 24
 abbrev pub contest : ℕ → Data

@@ -32,13 +32,15 @@ code_for election card plan = code_of election (printed_page card plan)
 -- a page of a card is simulated
 abbrev pub try_page : Election → ℕ → PagePlan → Lcg → Trial × Lcg
 try_page election card plan g =
-    let drawn = draw_page election plan g in
-    (record {
-      printed = printed_page card plan;
-      plan = plan;
-      marks = drawn.0.marks;
-      scan = scan_of plan (print_of_page election plan (printed_page card plan)) drawn.0;
-    }, drawn.1)
+    let drawn = draw_page election plan g in (
+      record {
+        printed = printed_page card plan;
+        plan = plan;
+        marks = drawn.0.marks;
+        scan = scan_of plan (print_of_page election plan (printed_page card plan)) drawn.0;
+      },
+      drawn.1,
+    )
 
 -- the first sheet of a card: its pages 1 and 2
 abbrev pub first_sheet : Option CardPlan → List PagePlan

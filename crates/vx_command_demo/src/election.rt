@@ -105,16 +105,26 @@ fn yes_no_contest(alloc: Global, number: u32) -> Result<Value, OutOfMemory>
     json!(in alloc; {"districtId": district, "id": id, "title": title, "type": "yesno"})
 }
 
-/// The contest of candidates with a number.
-fn candidate_contest(alloc: Global, number: u32) -> Result<Value, OutOfMemory>
-    ensures { IfOk result (λ value. view value ≡ spec.candidate_contest number) }
+/// The seats of a contest of candidates.
+fn seats_of(number: u32) -> u32
+    ensures { result ≡ spec.seats_of number }
 {
-    let candidates = all_named(alloc, "c", "Person ", 0, 2 + number % 4)?;
-    let district = numbered(alloc, "d", district_of(number))?;
-    let id = numbered(alloc, "k", number)?;
-    let title = numbered(alloc, "Contest ", number)?;
-    let seats: u32 = if number % 3 == 0 { 2 } else { 1 };
-    let write_ins = number % 5 == 0;
+    if number % 3 == 0 { 2 } else { 1 }
+}
+
+/// A contest of candidates, of its parts.
+fn with_candidates(
+    alloc: Global,
+    write_ins: bool,
+    candidates: Value,
+    district: String,
+    id: String,
+    seats: u32,
+    title: String,
+) -> Result<Value, OutOfMemory>
+    ensures { IfOk result (λ value. view value ≡ spec.with_candidates write_ins (view candidates)
+        (string_bytes district) (string_bytes id) seats (string_bytes title)) }
+{
     json!(in alloc; {
         "allowWriteIns": write_ins,
         "candidates": candidates,
@@ -124,6 +134,19 @@ fn candidate_contest(alloc: Global, number: u32) -> Result<Value, OutOfMemory>
         "title": title,
         "type": "candidate"
     })
+}
+
+/// The contest of candidates with a number.
+fn candidate_contest(alloc: Global, number: u32) -> Result<Value, OutOfMemory>
+    ensures { IfOk result (λ value. view value ≡ spec.candidate_contest number) }
+{
+    let candidates = all_named(alloc, "c", "Person ", 0, 2 + number % 4)?;
+    let district = numbered(alloc, "d", district_of(number))?;
+    let id = numbered(alloc, "k", number)?;
+    let title = numbered(alloc, "Contest ", number)?;
+    let write_ins = number % 5 == 0;
+    let seats = seats_of(number);
+    with_candidates(alloc, write_ins, candidates, district, id, seats, title)
 }
 
 /// The contest with a number, 1 to 24.

@@ -99,12 +99,10 @@ fn judge(
             Ok(Judged { read, sums })
         }
         Err(PageFault::OutOfMemory) => Err(OutOfMemory),
-        Err(fault) => Ok(
-            Judged {
-                read: Err(fault),
-                sums: unread(),
-            },
-        ),
+        Err(fault) => Ok(Judged {
+            read: Err(fault),
+            sums: unread(),
+        }),
     }
 }
 

@@ -19,7 +19,10 @@ fn push_pages(text: &mut String, sums: &PageSums) -> Result<(), OutOfMemory>
         ++ spec.pages_line sums.now.pages sums.now.as_truth sums.now.certified) }
 {
     let (pages, as_truth, certified) = (sums.pages, sums.as_truth, sums.certified);
-    write!(text, "pages {pages} as truth {as_truth} certified {certified}\n")
+    write!(
+        text,
+        "pages {pages} as truth {as_truth} certified {certified}\n"
+    )
 }
 
 fn push_marks(text: &mut String, marks: u64) -> Result<(), OutOfMemory>
@@ -43,7 +46,10 @@ fn push_others(
     ensures { OnOk result (string_bytes text.new ≡ string_bytes text.old
         ++ spec.others_part marginal blank write_in) }
 {
-    write!(text, " marginal {marginal} blank {blank} write-in {write_in}\n")
+    write!(
+        text,
+        " marginal {marginal} blank {blank} write-in {write_in}\n"
+    )
 }
 
 fn push_reasons(text: &mut String, reasons: &ReasonSums) -> Result<(), OutOfMemory>

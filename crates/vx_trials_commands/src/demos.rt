@@ -46,7 +46,9 @@ fn run_demo<R: Threads + Sync + AllocGlobal>(
 
 /// The first two lines of a demo, all pages of which are as truth and certified.
 fn front_of(alloc: Global, seed: &str, sheets: &str, pages: u32) -> Result<String, AllocError> {
-    format!(in alloc; "demo seed {seed} sheets {sheets}\npages {pages} as truth {pages} certified {pages}\n")
+    format!(in alloc;
+        "demo seed {seed} sheets {sheets}\npages {pages} as truth {pages} certified {pages}\n"
+    )
 }
 
 /// So many pages, and all of them as truth and certified, while calls fail.
@@ -60,7 +62,10 @@ fn assert_true<R: Threads + Sync + AllocGlobal + Abort>(
     let answer = run_demo(rt, seed, sheets, failing)?;
     let front = front_of(rt.alloc(), seed, sheets, pages)?;
     assert_eq!(rt; answer.status.as_str(), "ok");
-    assert!(rt; answer.text.as_slice().starts_with(front.as_bytes()), "{seed} {sheets}");
+    assert!(rt;
+        answer.text.as_slice().starts_with(front.as_bytes()),
+        "{seed} {sheets}"
+    );
     Ok(())
 }
 

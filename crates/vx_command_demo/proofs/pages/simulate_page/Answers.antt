@@ -15,11 +15,13 @@ paint-requires-clause-code g c =
     (c.planned_pages_can_be_printed.ensures.codes c.args.election.now (printed_page c.args.card c.args.plan.now) c.args.plan.now c.requires.election c.requires.planned).1
 
 pub simulate-requires-clause-printed : goal.simulate-requires-clause-printed
-simulate-requires-clause-printed g c =
-    (printed_page c.args.card c.args.plan.now, record {
-      planned = c.requires.planned;
-      painted = c.in_ok-page.ensures ∙ ap (λ (code : PageCode). page_of page_width (page_height c.args.plan.now.paper) (print_of c.args.plan.now (boxes_of code))) c.code_for.ensures;
-    })
+simulate-requires-clause-printed g c = (
+  printed_page c.args.card c.args.plan.now,
+  record {
+    planned = c.requires.planned;
+    painted = c.in_ok-page.ensures ∙ ap (λ (code : PageCode). page_of page_width (page_height c.args.plan.now.paper) (print_of c.args.plan.now (boxes_of code))) c.code_for.ensures;
+  },
+)
 
 pub returns-clause-scan : goal.returns-clause-scan
 returns-clause-scan g c = c.simulate.ensures.scan (printed_page c.args.card c.args.plan.now) c.simulate.requires.printed.1
