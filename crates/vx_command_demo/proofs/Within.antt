@@ -1,5 +1,6 @@
 -- How large sums may become.
 use Rattle.std.proofs.Common.{◌≡◌, ℕ, ◌+◌, ◌*◌, ◌^◌, ◌≤◌, ◌<◌, length, arith}
+use Rattle.std.proofs.lemmas.Int.{ints}
 use Rattle.vx_election_model.specs.declared.election.Election.{Election}
 use Rattle.vx_election_model.specs.Valid.{IsValid}
 use Rattle.vx_layout.specs.declared.pages.PagePlan.{PagePlan}
@@ -9,7 +10,7 @@ use Rattle.vx_page.specs.Named.{IsOfPlan}
 use Rattle.vx_command_demo.specs.declared.sums.PageSums.{PageSums}
 use Rattle.vx_command_demo.specs.declared.sums.ReasonSums.{ReasonSums}
 use Rattle.vx_command_demo.specs.declared.counted.Counted.{Counted}
-use Rattle.vx_command_demo.specs.Adding.{ArePageSums, AreReasonSums, IsCounted, both_reasons}
+use Rattle.vx_command_demo.specs.Adding.{ArePageSums, AreReasonSums, IsCounted, both_reasons, nothing}
 
 -- at most so often, and so at most more often
 pub reasons-more : (few most : ℕ) (sums : ReasonSums) → few ≤ most → AreReasonSums few sums → AreReasonSums most sums
@@ -28,6 +29,26 @@ reasons-both one other a b within too = record {
   marginal = omega (arith, within.marginal, too.marginal);
   blank = omega (arith, within.blank, too.blank);
   write_in = omega (arith, within.write_in, too.write_in);
+}
+
+-- nothing was counted
+pub nothing-counted : IsCounted nothing
+nothing-counted = record {
+  pages = record {
+    as_truth = omega arith;
+    certified = omega arith;
+    marks = omega arith;
+    columns = record { low = omega (arith, ints); high = omega (arith, ints) };
+    rows = record { low = omega (arith, ints); high = omega (arith, ints) };
+    scores = omega arith;
+  };
+  reasons = record {
+    overvote = omega arith;
+    undervote = omega arith;
+    marginal = omega arith;
+    blank = omega arith;
+    write_in = omega arith;
+  };
 }
 
 -- a reading has fewer than 1,000 states and scores

@@ -1,5 +1,5 @@
 -- The pages of a demo: each is printed and scanned by simulation. This project's own rule.
-use Rattle.std.specs.Prelude.{ℕ, ◌-◌, ◌%◌, List, [], take, slice_get, Bool, false, Option, Some, None}
+use Rattle.std.specs.Prelude.{◌≡◌, ℕ, ◌-◌, ◌%◌, List, [], ◌∷◌, take, slice_get, Bool, false, Option, Some, None}
 use Rattle.std.specs.List.{range_with_len}
 use Rattle.rand_core.specs.Pcg32Seed.{pcg32_seed}
 use Rattle.rand_pcg.specs.Lcg.{Lcg}
@@ -10,7 +10,7 @@ use Rattle.vx_election_model.specs.declared.election.Election.{Election}
 use Rattle.vx_layout.specs.declared.pages.PagePlan.{PagePlan}
 use Rattle.vx_layout.specs.declared.plan.CardPlan.{CardPlan}
 use Rattle.vx_code.specs.declared.code.PageCode.{PageCode}
-use Rattle.vx_layout.specs.Printed.{PrintedPage, code_of, print_of_page}
+use Rattle.vx_layout.specs.Printed.{PrintedPage, IsPlanned, code_of, print_of_page}
 use Rattle.vx_simulate.specs.Draws.{draw_all}
 use Rattle.vx_simulate.specs.Simulated.{draw_page, scan_of}
 
@@ -46,6 +46,12 @@ try_page election card plan g =
 abbrev pub first_sheet : Option CardPlan → List PagePlan
 first_sheet None = []
 first_sheet (Some plan) = take 2 plan.pages
+
+-- these are its pages, as they are planned and printed
+pub record IsFirstSheet (election : Election) (plans : List CardPlan) (card : ℕ) (front back : PagePlan) : Type 0 where
+  pub pages : first_sheet (slice_get plans card) ≡ front ∷ back ∷ []
+  pub front_planned : IsPlanned election (printed_page card front) front
+  pub back_planned : IsPlanned election (printed_page card back) back
 
 -- a sheet of a card is simulated, page after page
 abbrev pub try_card : Election → List CardPlan → ℕ → Lcg → List Trial × Lcg

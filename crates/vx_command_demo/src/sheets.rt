@@ -1,6 +1,6 @@
 //! The sheets of a demo, one after another.
 
-ghost use Rattle.std.specs.Prelude.{◌≡◌, ◌<◌, ◌≤◌, ◌*◌, ◌^◌, ◌∷◌, [], IfOk, OnOk};
+ghost use Rattle.std.specs.Prelude.{◌≡◌, ◌≤◌, ◌∷◌, [], IfOk, MatchOption, OnOk, slice_get};
 ghost use Rattle.vx_election_model.specs.Valid.{IsValid};
 ghost use Rattle.vx_layout.specs.Plans.{ArePlansOf};
 ghost use Rattle.vx_layout.specs.Printed.{IsPlanned};
@@ -53,7 +53,29 @@ fn try_pages<R: Threads + Sync>(
     })
 }
 
-/// The first sheet of a planned card is simulated, read and checked.
+/// The first two pages of a card, if there is one.
+fn first_pages<'a>(
+    election: &Election,
+    plans: &'a CardPlans,
+    card: u32,
+) -> Option<(&'a PagePlan, &'a PagePlan)>
+    requires election { IsValid election.now }
+    requires plans { ArePlansOf election.now plans.now }
+    ensures { MatchOption result
+        (spec.first_sheet (slice_get plans.now card) ≡ [])
+        (λ pages. spec.IsFirstSheet election.now plans.now card pages.0.now pages.1.now) }
+{
+    let _ = election;
+    plans_are_numbered();
+    planned_pages_can_be_printed();
+    let Some(plan) = plans.as_slice().get(card as usize) else {
+        return None;
+    };
+    let pages = plan.pages.as_slice();
+    Some((&pages[0], &pages[1]))
+}
+
+/// The first sheet of a card is simulated, read and checked.
 fn try_card<R: Threads + Sync>(
     rt: &R,
     alloc: Global,
@@ -71,15 +93,12 @@ fn try_card<R: Threads + Sync>(
     ensures few { IfOk result (λ counted. counted.pages.pages ≤ 2) }
     ensures next { OnOk result (rng.new ≡ (spec.try_card election.now plans.now card rng.old).1) }
 {
-    plans_are_numbered();
-    planned_pages_can_be_printed();
-    let Some(plan) = plans.as_slice().get(card as usize) else {
-        return Ok(nothing());
-    };
-    let pages = plan.pages.as_slice();
-    try_pages(
-        rt, alloc, memory, rng, election, plans, card, &pages[0], &pages[1],
-    )
+    match first_pages(election, plans, card) {
+        Some((front, back)) => try_pages(
+            rt, alloc, memory, rng, election, plans, card, front, back,
+        ),
+        None => Ok(nothing()),
+    }
 }
 
 /// So many sheets from a seed are simulated, read and checked. One page is in memory at a time.

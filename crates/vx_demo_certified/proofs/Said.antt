@@ -45,6 +45,7 @@ says-so all order seed sheets election plans is made taken taken_now held held_n
     let texts : texts_of (demo_outcome seed sheets) ≡ text = ap texts_of outcome ∙ append-nil text in
     record {
       pages = length (pages_in (sheets_of election plans seed sheets));
+      two_a_sheet = (all seed sheets election plans is made).1;
       more = more_of election plans seed sheets;
       wrote = subst (λ (t : List ℕ). Wrote t taken taken_now answer) (texts ∙ summary-is election plans seed sheets (all seed sheets election plans is made).0) wrote;
     }

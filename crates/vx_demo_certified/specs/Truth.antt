@@ -25,9 +25,10 @@ DemoPagesAreTrue =
     → AreTrue election (pages_in (sheets_of election plans seed sheets))
     × (3 ≤ length plans → length (pages_in (sheets_of election plans seed sheets)) ≡ 2 * sheets)
 
--- what a demo wrote says so, as its second line
-pub record SaysAllTrue (seed sheets : ℕ) (taken taken_now : Taken) (answer : Answer) : Type 0 where
+-- what a demo of so many cards wrote says so, as its second line
+pub record SaysAllTrue (plans : List CardPlan) (seed sheets : ℕ) (taken taken_now : Taken) (answer : Answer) : Type 0 where
   pub pages : ℕ
+  pub two_a_sheet : 3 ≤ length plans → pages ≡ 2 * sheets
   pub more : List ℕ
   pub wrote : Wrote (head_line seed sheets ++ pages_line pages pages pages ++ more) taken taken_now answer
 
@@ -38,4 +39,4 @@ DemoSaysSo =
     → plans_in election ≡ Ok plans
     → (taken taken_now : Taken) (held held_now : Held) (answer : Answer)
     → IsDone (demo_outcome seed sheets) taken taken_now held held_now answer
-    → SaysAllTrue seed sheets taken taken_now answer
+    → SaysAllTrue plans seed sheets taken taken_now answer
