@@ -1,8 +1,7 @@
 -- What is counted of some pages and sheets, and then of more.
-use Rattle.std.proofs.Common.{◌≡◌, ℕ, ◌+◌, Bool, true, false, cond, List, [], ◌∷◌, ◌++◌, length, ℤ, pos, ◌+ℤ◌, refl, sym, ap, ap₂, ◌∙◌, arith, append-nil, length-append}
-use Rattle.std.specs.Prelude.{sum_by, count_by, Result, Ok, Err}
-use Rattle.std.specs.List.{flat_map}
-use Rattle.std.proofs.lemmas.List.Sums.{sum_by-append, sum_by_push}
+use Rattle.std.proofs.Common.{◌≡◌, ℕ, ◌+◌, Bool, true, false, cond, List, [], ◌∷◌, ◌++◌, ℤ, pos, refl, sym, ap, ap₂, ◌∙◌, arith, length-append}
+use Rattle.std.specs.Prelude.{sum_by, Result, Ok, Err}
+use Rattle.std.proofs.lemmas.List.Sums.{sum_by-append}
 use Rattle.std.proofs.lemmas.List.Concat.{flat_map-append}
 use Rattle.vx_plane.specs.Plane.{Page}
 use Rattle.vx_election_model.specs.declared.election.Election.{Election}
@@ -18,20 +17,40 @@ use Rattle.vx_command_demo.specs.declared.sums.PageSums.{PageSums}
 use Rattle.vx_command_demo.specs.declared.sums.ReasonSums.{ReasonSums}
 use Rattle.vx_command_demo.specs.declared.counted.Counted.{Counted}
 use Rattle.vx_command_demo.specs.Trials.{Trial}
-use Rattle.vx_command_demo.specs.Sums.{of_reading, read_as, says, is_accepted, is_as_truth, is_certified, marks_on, marks_read, columns_on, columns_read, rows_on, rows_read, scores_on, scores_read, int_sum_by, page_sums, reason_sums, times, of_sheet, contests_with}
+use Rattle.vx_command_demo.specs.Sums.{of_reading, read_as, says, is_accepted, is_as_truth, is_certified, marks_on, marks_read, columns_on, columns_read, rows_on, rows_read, scores_on, scores_read, page_sums, reason_sums, times, of_sheet, contests_with}
 use Rattle.vx_command_demo.specs.Summary.{pages_in}
-use Rattle.vx_command_demo.specs.Adding.{one_if, both_pages, both_reasons, counted_of, both, sums_read, unread, sums_of_read, reasons_of_sheet, reasons_read, no_reasons}
+use Rattle.vx_command_demo.specs.Adding.{one_if, both_pages, both_reasons, counted_of, both, sums_of_read, reasons_read}
 use Rattle.vx_command_demo.proofs.Signed.{signed-append, signed-one}
 
 -- sums are the same where each is
-same-pages : (a b : PageSums) → a.pages ≡ b.pages → a.as_truth ≡ b.as_truth → a.certified ≡ b.certified → a.marks ≡ b.marks → a.columns ≡ b.columns → a.rows ≡ b.rows → a.scores ≡ b.scores → a ≡ b
-same-pages a b p t d m u v s = cc
+abbrev sums_of : ℕ → ℕ → ℕ → ℕ → ℤ → ℤ → ℕ → PageSums
+sums_of p t d m u v s = record { pages = p; as_truth = t; certified = d; marks = m; columns = u; rows = v; scores = s }
+
+pub same-pages : (a b : PageSums) → a.pages ≡ b.pages → a.as_truth ≡ b.as_truth → a.certified ≡ b.certified → a.marks ≡ b.marks → a.columns ≡ b.columns → a.rows ≡ b.rows → a.scores ≡ b.scores → a ≡ b
+same-pages a b p t d m u v s =
+    ap (λ (x : ℕ). sums_of x a.as_truth a.certified a.marks a.columns a.rows a.scores) p
+    ∙ (ap (λ (x : ℕ). sums_of b.pages x a.certified a.marks a.columns a.rows a.scores) t
+    ∙ (ap (λ (x : ℕ). sums_of b.pages b.as_truth x a.marks a.columns a.rows a.scores) d
+    ∙ (ap (λ (x : ℕ). sums_of b.pages b.as_truth b.certified x a.columns a.rows a.scores) m
+    ∙ (ap (λ (x : ℤ). sums_of b.pages b.as_truth b.certified b.marks x a.rows a.scores) u
+    ∙ (ap (λ (x : ℤ). sums_of b.pages b.as_truth b.certified b.marks b.columns x a.scores) v
+    ∙ ap (λ (x : ℕ). sums_of b.pages b.as_truth b.certified b.marks b.columns b.rows x) s)))))
+
+abbrev reasons_with : ℕ → ℕ → ℕ → ℕ → ℕ → ReasonSums
+reasons_with o u m n w = record { overvote = o; undervote = u; marginal = m; blank = n; write_in = w }
 
 same-reasons : (a b : ReasonSums) → a.overvote ≡ b.overvote → a.undervote ≡ b.undervote → a.marginal ≡ b.marginal → a.blank ≡ b.blank → a.write_in ≡ b.write_in → a ≡ b
-same-reasons a b o u m n w = cc
+same-reasons a b o u m n w =
+    ap (λ (x : ℕ). reasons_with x a.undervote a.marginal a.blank a.write_in) o
+    ∙ (ap (λ (x : ℕ). reasons_with b.overvote x a.marginal a.blank a.write_in) u
+    ∙ (ap (λ (x : ℕ). reasons_with b.overvote b.undervote x a.blank a.write_in) m
+    ∙ (ap (λ (x : ℕ). reasons_with b.overvote b.undervote b.marginal x a.write_in) n
+    ∙ ap (λ (x : ℕ). reasons_with b.overvote b.undervote b.marginal b.blank x) w)))
 
 pub same-counted : (a b : Counted) → a.pages ≡ b.pages → a.reasons ≡ b.reasons → a ≡ b
-same-counted a b p r = cc
+same-counted a b p r =
+    let Of : PageSums → ReasonSums → Counted = λ x y. record { pages = x; reasons = y } in
+    ap₂ Of p r
 
 pub pages-append : (election : Election) (xs ys : List Trial) → page_sums election (xs ++ ys) ≡ both_pages (page_sums election xs) (page_sums election ys)
 pages-append election xs ys =

@@ -1,5 +1,5 @@
 -- One draw more after those that were drawn.
-use Rattle.std.proofs.Common.{◌≡◌, ℕ, ◌+◌, List, [], ◌∷◌, ◌++◌, refl, sym, ap, ◌∙◌}
+use Rattle.std.proofs.Common.{◌≡◌, ℕ, ◌+◌, List, [], ◌∷◌, ◌++◌, refl, ap, ◌∙◌}
 use Rattle.std.specs.List.{range_with_len}
 use Rattle.vx_base.proofs.Ranges.{range-more}
 use Rattle.rand_pcg.specs.Lcg.{Lcg}

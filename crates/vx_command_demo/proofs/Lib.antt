@@ -5,3 +5,4 @@ pub mod Made
 pub mod Within
 pub mod Held
 pub mod Tried
+pub mod Summed

@@ -1,6 +1,6 @@
 -- Two pages of a sheet, and one sheet more.
 use Rattle.std.proofs.Common.{◌≡◌, ℕ, ◌+◌, ◌-◌, ◌%◌, ◌<◌, ◌≤◌, List, [], ◌∷◌, length, get_or, false, sym, ap, ap₂, ◌∙◌, arith}
-use Rattle.std.specs.Prelude.{Option, None, Some, Result, Ok, slice_get, take}
+use Rattle.std.specs.Prelude.{Some, Result, Ok, slice_get, take}
 use Rattle.std.proofs.lemmas.Option.{get_or_from_slice_get, slice_get_past, slice_get_read, slice_get_within}
 use Rattle.std.specs.List.{range_with_len}
 use Rattle.rand_pcg.specs.Lcg.{Lcg}

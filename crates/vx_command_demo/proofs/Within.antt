@@ -1,5 +1,5 @@
 -- How large sums may become.
-use Rattle.std.proofs.Common.{◌≡◌, ℕ, ◌+◌, ◌*◌, ◌^◌, ◌≤◌, ◌<◌, length, arith}
+use Rattle.std.proofs.Common.{ℕ, ◌+◌, ◌*◌, ◌≤◌, ◌<◌, length, arith}
 use Rattle.std.proofs.lemmas.Int.{ints}
 use Rattle.vx_election_model.specs.declared.election.Election.{Election}
 use Rattle.vx_election_model.specs.Valid.{IsValid}
@@ -7,10 +7,8 @@ use Rattle.vx_layout.specs.declared.pages.PagePlan.{PagePlan}
 use Rattle.vx_scan_model.specs.declared.reading.PageReading.{PageReading}
 use Rattle.vx_scan_model.specs.Named.{NamedStandOnGrid}
 use Rattle.vx_page.specs.Named.{IsOfPlan}
-use Rattle.vx_command_demo.specs.declared.sums.PageSums.{PageSums}
 use Rattle.vx_command_demo.specs.declared.sums.ReasonSums.{ReasonSums}
-use Rattle.vx_command_demo.specs.declared.counted.Counted.{Counted}
-use Rattle.vx_command_demo.specs.Adding.{ArePageSums, AreReasonSums, IsCounted, both_reasons, nothing}
+use Rattle.vx_command_demo.specs.Adding.{AreReasonSums, IsCounted, both_reasons, nothing}
 
 -- at most so often, and so at most more often
 pub reasons-more : (few most : ℕ) (sums : ReasonSums) → few ≤ most → AreReasonSums few sums → AreReasonSums most sums

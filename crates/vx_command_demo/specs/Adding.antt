@@ -1,5 +1,5 @@
 -- Sums of pages and sheets, and then of more of them; and how large they may become.
-use Rattle.std.specs.Prelude.{ℕ, ◌≡◌, ◌≤◌, ◌+◌, ◌*◌, ◌^◌, List, [], ◌∷◌, pos, ◌+ℤ◌, Bool, Result, Ok, Err}
+use Rattle.std.specs.Prelude.{ℕ, ◌≤◌, ◌+◌, ◌*◌, ◌^◌, List, pos, ◌+ℤ◌, Bool, Result, Ok, Err}
 use Rattle.vx_plane.specs.Plane.{Page}
 pub use Rattle.vx_plane.specs.Count.{one_if}
 use Rattle.vx_grid.specs.Places.{IsWithin}

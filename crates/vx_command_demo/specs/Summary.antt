@@ -25,18 +25,21 @@ pages_line pages as_truth certified =
 abbrev pub marks_line : ℕ → List ℕ
 marks_line marks = codes "marks " ++ decimal marks ++ 10 ∷ []
 
-abbrev pub votes_part : ℕ → ℕ → List ℕ
-votes_part overvote undervote =
-    codes "reasons overvote " ++ decimal overvote ++ codes " undervote " ++ decimal undervote
+unfoldable pub overvotes_part : ℕ → List ℕ
+overvotes_part overvote = codes "reasons overvote " ++ decimal overvote
 
-abbrev pub others_part : ℕ → ℕ → ℕ → List ℕ
+unfoldable pub undervotes_part : ℕ → List ℕ
+undervotes_part undervote = codes " undervote " ++ decimal undervote
+
+unfoldable pub others_part : ℕ → ℕ → ℕ → List ℕ
 others_part marginal blank write_in =
     codes " marginal " ++ decimal marginal ++ codes " blank " ++ decimal blank
     ++ codes " write-in " ++ decimal write_in ++ 10 ∷ []
 
 abbrev pub reasons_line : ReasonSums → List ℕ
 reasons_line reasons =
-    votes_part reasons.overvote reasons.undervote ++ others_part reasons.marginal reasons.blank reasons.write_in
+    overvotes_part reasons.overvote ++ undervotes_part reasons.undervote
+    ++ others_part reasons.marginal reasons.blank reasons.write_in
 
 abbrev pub hollow_line : ℕ → List ℕ
 hollow_line hollow = codes "hollow " ++ decimal hollow ++ 10 ∷ []

@@ -1,5 +1,5 @@
 -- What is counted of the pages and the sheets of a demo.
-use Rattle.std.specs.Prelude.{ℕ, ◌+◌, ◌==◌, ◌&&◌, Bool, true, false, not, is_ok, List, [], ◌∷◌, length, sum, sum_by, count_by, ℤ, pos, ◌+ℤ◌, Result, Ok, Err}
+use Rattle.std.specs.Prelude.{ℕ, ◌==◌, ◌&&◌, Bool, true, false, not, is_ok, List, [], ◌∷◌, length, sum, sum_by, count_by, ℤ, pos, ◌+ℤ◌, Result, Ok, Err}
 use Rattle.vx_plane.specs.Plane.{Page}
 use Rattle.vx_grid.specs.declared.places.Point.{Point}
 use Rattle.vx_grid.specs.declared.state.State.{State}

@@ -38,10 +38,11 @@ fn are_read_so(states: &[State], marks: &[bool]) -> bool
 {
     match (states, marks) {
         ([], []) => true,
+        ([], [_, ..]) => false,
+        ([_state, _states @ ..], []) => false,
         ([state, states @ ..], [mark, marks @ ..]) => {
             is_read_so(*state, *mark) && are_read_so(states, marks)
         }
-        _ => false,
     }
 }
 

@@ -31,12 +31,21 @@ fn push_marks(text: &mut String, marks: u64) -> Result<(), OutOfMemory>
     write!(text, "marks {marks}\n")
 }
 
-fn push_votes(text: &mut String, overvote: u64, undervote: u64) -> Result<(), OutOfMemory>
-    ensures { OnOk result (string_bytes text.new ≡ string_bytes text.old ++ spec.votes_part overvote undervote) }
+#[tactic(auto, unfolding(crate::specs::Summary::overvotes_part))]
+fn push_overvotes(text: &mut String, overvote: u64) -> Result<(), OutOfMemory>
+    ensures { OnOk result (string_bytes text.new ≡ string_bytes text.old ++ spec.overvotes_part overvote) }
 {
-    write!(text, "reasons overvote {overvote} undervote {undervote}")
+    write!(text, "reasons overvote {overvote}")
 }
 
+#[tactic(auto, unfolding(crate::specs::Summary::undervotes_part))]
+fn push_undervotes(text: &mut String, undervote: u64) -> Result<(), OutOfMemory>
+    ensures { OnOk result (string_bytes text.new ≡ string_bytes text.old ++ spec.undervotes_part undervote) }
+{
+    write!(text, " undervote {undervote}")
+}
+
+#[tactic(auto, unfolding(crate::specs::Summary::others_part))]
 fn push_others(
     text: &mut String,
     marginal: u64,
@@ -55,7 +64,8 @@ fn push_others(
 fn push_reasons(text: &mut String, reasons: &ReasonSums) -> Result<(), OutOfMemory>
     ensures { OnOk result (string_bytes text.new ≡ string_bytes text.old ++ spec.reasons_line reasons.now) }
 {
-    push_votes(text, reasons.overvote, reasons.undervote)?;
+    push_overvotes(text, reasons.overvote)?;
+    push_undervotes(text, reasons.undervote)?;
     push_others(text, reasons.marginal, reasons.blank, reasons.write_in)
 }
 

@@ -1,5 +1,5 @@
 use Rattle.std.proofs.Common.{arith}
-use Rattle.vx_command_demo.proofs.Within.{reasons-both, reasons-more}
+use Rattle.vx_command_demo.proofs.Within.{reasons-more}
 use Rattle.vx_command_demo.proofs.counted.both.Goals as goal
 
 pub both_reasons-requires-clause-some : goal.both_reasons-requires-clause-some

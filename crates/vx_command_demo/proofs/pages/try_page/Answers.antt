@@ -1,4 +1,4 @@
-use Rattle.std.proofs.Common.{◌≡◌, Bool, List, ap, ap₂, sym, ◌∙◌}
+use Rattle.std.proofs.Common.{Bool, List, ap, ap₂, sym, ◌∙◌}
 use Rattle.std.proofs.lemmas.Result.{IfOk-weaker}
 use Rattle.vx_plane.specs.Plane.{Page}
 use Rattle.vx_scan_model.specs.Reading.{reading_of}

@@ -1,4 +1,4 @@
-use Rattle.std.proofs.Common.{◌≡◌, ◌<◌, ◌≤◌, length, ap, arith}
+use Rattle.std.proofs.Common.{◌≤◌, length, ap, arith}
 use Rattle.vx_command_demo.proofs.Tried.{card-there, first-there, no-sheet, page-there}
 use Rattle.vx_command_demo.proofs.sheets.first_pages.Goals as goal
 

@@ -1,4 +1,4 @@
-use Rattle.std.proofs.Common.{◌≡◌, ◌≤◌, ◌∷◌, [], List, ap, sym, subst, ◌∙◌, arith}
+use Rattle.std.proofs.Common.{◌≡◌, ◌∷◌, [], List, ap, sym, subst, ◌∙◌, arith}
 use Rattle.std.specs.Prelude.{IfOk, OnOk}
 use Rattle.std.proofs.lemmas.Result.{IfOk-weaker}
 use Rattle.rand_pcg.specs.Lcg.{Lcg}
@@ -10,10 +10,10 @@ use Rattle.vx_command_demo.proofs.Within.{nothing-counted}
 use Rattle.vx_command_demo.proofs.sheets.try_card.Goals as goal
 
 pub try_pages-requires-clause-front : goal.try_pages-requires-clause-front
-try_pages-requires-clause-front g c = c.in-Some.ensures.front_planned
+try_pages-requires-clause-front g c = λ κs lives. c.in-Some.ensures.front_planned
 
 pub try_pages-requires-clause-back : goal.try_pages-requires-clause-back
-try_pages-requires-clause-back g c = c.in-Some.ensures.back_planned
+try_pages-requires-clause-back g c = λ κs lives. c.in-Some.ensures.back_planned
 
 pub returns-in-Some-clause-counted : goal.returns-in-Some-clause-counted
 returns-in-Some-clause-counted g c =

@@ -1,4 +1,4 @@
-use Rattle.std.proofs.Common.{◌≡◌, ◌+◌, ◌≤◌, ◌*◌, ap, ◌∙◌, arith}
+use Rattle.std.proofs.Common.{◌≡◌, ◌+◌, ◌*◌, ap, arith}
 use Rattle.vx_command_demo.specs.declared.sums.PageSums.{PageSums}
 use Rattle.vx_command_demo.specs.Trials.{Trial, try_page}
 use Rattle.vx_command_demo.proofs.Tried.{one-each, two-counted, two-drawn}
