@@ -1,7 +1,7 @@
 -- All pages of a demo are so, and what it wrote says so.
-use Rattle.std.proofs.Common.{◌≡◌, ℕ, suc, ◌+◌, ◌-◌, ◌*◌, ◌%◌, ◌<◌, ◌≤◌, true, false, List, [], ◌∷◌, length, take, refl, sym, ap, subst, ◌∙◌, arith, length-append, mod-lt, lit<}
-use Rattle.std.specs.Prelude.{All, Option, None, Some, Result, Ok, Err, slice_get, slice_index_or}
-use Rattle.std.specs.List.{flat_map, range_with_len}
+use Rattle.std.proofs.Common.{◌≡◌, ℕ, ◌-◌, ◌*◌, ◌%◌, ◌<◌, ◌≤◌, true, false, List, [], ◌∷◌, length, take, refl, ap, ◌∙◌, arith, length-append, mod-lt, lit<}
+use Rattle.std.specs.Prelude.{All, Option, None, Some, Result, Ok, Err, slice_get}
+use Rattle.std.specs.List.{range_with_len}
 use Rattle.std.proofs.lemmas.List.Elements.{All-nil, All-cons, All-head, All-tail}
 use Rattle.std.proofs.lemmas.List.FromFn.{length-range_with_len}
 use Rattle.std.proofs.lemmas.Option.{get_or_from_slice_get, slice_get_within, slice_get-get_or}
@@ -16,13 +16,11 @@ use Rattle.vx_grid.specs.declared.kind.Kind.TheVariants.{Precinct}
 use Rattle.vx_layout.specs.declared.pages.PagePlan.{PagePlan}
 use Rattle.vx_layout.specs.declared.plan.CardPlan.{CardPlan}
 use Rattle.vx_layout.specs.declared.fault.CardFault.{CardFault}
-use Rattle.vx_layout.specs.Pages.{IsNumbered, PlansAreNumbered}
+use Rattle.vx_layout.specs.Pages.{PlansAreNumbered}
 use Rattle.vx_layout.specs.Plan.{plan_of}
-use Rattle.vx_layout.specs.Plans.{ArePlansOf, PlansAreThose, plans_of}
+use Rattle.vx_layout.specs.Plans.{ArePlansOf}
 use Rattle.vx_layout.specs.Printed.{IsPlanned, PagesArePlanned}
-use Rattle.vx_command.specs.declared.halt.Halt.{Halt}
 use Rattle.vx_command.specs.Elections.{election_read, plans_made}
-use Rattle.vx_simulate.specs.Draws.{draw_all}
 use Rattle.vx_command_demo.specs.Election.{demo_text}
 use Rattle.vx_command_demo.specs.Outcome.{election_defined}
 use Rattle.vx_command_demo.specs.Trials.{Trial, first_sheet, generator_of, printed_page, sheets_of, try_card, try_page, try_sheet}

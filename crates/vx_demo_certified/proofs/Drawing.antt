@@ -1,7 +1,6 @@
 -- What holds of all that is drawn, and what is counted of it.
-use Rattle.std.proofs.Common.{◌≡◌, ℕ, suc, ◌+◌, Bool, true, cond, List, [], ◌∷◌, length, refl, sym, ap, ap₂, ◌∙◌, arith}
-use Rattle.std.specs.Prelude.{All, count_by, sum_by}
-use Rattle.std.specs.List.{flat_map}
+use Rattle.std.proofs.Common.{◌≡◌, ℕ, suc, ◌+◌, Bool, true, cond, List, [], ◌∷◌, length, refl, ap, arith}
+use Rattle.std.specs.Prelude.{All, count_by}
 use Rattle.std.proofs.lemmas.List.Elements.{All-nil, All-cons, All-head, All-tail}
 use Rattle.std.proofs.lemmas.List.Sums.{sum_by-cons}
 use Rattle.rand_pcg.specs.Lcg.{Lcg}
@@ -24,6 +23,6 @@ count-all p [] all = refl
 count-all {A = A} p (x ∷ xs) all =
     let here : p x ≡ true = All-head (λ (x : A). p x ≡ true) x xs all in
     let rest : count_by p xs ≡ length xs = count-all p xs (All-tail (λ (x : A). p x ≡ true) x xs all) in
-    let first : cond (p x) 1 0 ≡ 1 = ap (λ (b : Bool). cond b 1 0) here in
+    let counts : ◌≡◌ {A = ℕ} (cond (p x) 1 0) 1 = ap (λ (b : Bool). cond b 1 0) here in
     let whole : count_by p (x ∷ xs) ≡ cond (p x) 1 0 + count_by p xs = sum_by-cons (λ (x : A). cond (p x) 1 0) x xs in
-    omega (arith, whole, first, rest)
+    omega (arith, whole, counts, rest)

@@ -1,10 +1,9 @@
 -- A page of a demo is read as it was printed and marked, and its reading is certified.
 use Rattle.std.proofs.Common.{◌≡◌, ℕ, Bool, true, false, ◌&&◌, ◌==◌, List, [], ◌∷◌, map, refl, sym, ap, ◌∙◌, inl}
-use Rattle.std.specs.Prelude.{is_ok, Result, Ok, Err}
+use Rattle.std.specs.Prelude.{is_ok}
 use Rattle.std.proofs.lemmas.Bool.{and_from}
 use Rattle.vx_base.proofs.Numbers.{equal-yes}
 use Rattle.rand_pcg.specs.Lcg.{Lcg}
-use Rattle.vx_plane.specs.Plane.{Page}
 use Rattle.vx_plane.proofs.Pages.{page_of-dark_at}
 use Rattle.vx_grid.specs.declared.state.State.{State}
 use Rattle.vx_election_model.specs.declared.election.Election.{Election}
@@ -14,7 +13,7 @@ use Rattle.vx_layout.specs.Printed.{PrintedPage, IsPlanned}
 use Rattle.vx_scan_model.specs.declared.reading.PageReading.{PageReading}
 use Rattle.vx_scan_model.specs.Certificate.{ReadingsAreCertificates}
 use Rattle.vx_scan_model.specs.Fits.{FitsUpright, FittingScansAreRead, IsReadAs, Says, state_of_mark}
-use Rattle.vx_simulate.specs.Simulated.{SimulatedScansFit, draw_page}
+use Rattle.vx_simulate.specs.Simulated.{SimulatedScansFit}
 use Rattle.vx_readings_certified.specs.Accepted.{CertificatesAreAccepted}
 use Rattle.vx_command_demo.specs.Trials.{Trial, printed_page, try_page}
 use Rattle.vx_command_demo.specs.Sums.{are_read_so, is_accepted, is_as_truth, is_certified, of_reading, says}

@@ -1,14 +1,11 @@
 -- What a demo wrote says so.
-use Rattle.std.proofs.Common.{◌≡◌, ℕ, List, [], ◌∷◌, ◌++◌, length, Result, Ok, refl, sym, ap, subst, ◌∙◌, append_assoc, append-nil}
-use Rattle.std.specs.List.{flat_map}
+use Rattle.std.proofs.Common.{◌≡◌, ℕ, List, ◌++◌, length, Result, Ok, ap, subst, ◌∙◌, append-nil}
 use Rattle.vx_election_model.specs.declared.election.Election.{Election}
 use Rattle.vx_layout.specs.declared.plan.CardPlan.{CardPlan}
 use Rattle.vx_command.specs.declared.halt.Halt.{Halt}
-use Rattle.vx_command.specs.Acts.{Outcome, goes_on, text_of, writing}
+use Rattle.vx_command.specs.Acts.{Outcome, goes_on, writing}
 use Rattle.vx_command.specs.Elections.{plans_in}
 use Rattle.vx_command.specs.Texts.{TextsInOrder, Wrote, texts_of}
-use Rattle.vx_command_demo.specs.declared.sums.PageSums.{PageSums}
-use Rattle.vx_command_demo.specs.declared.sums.ReasonSums.{ReasonSums}
 use Rattle.vx_command_demo.specs.Trials.{Trial, sheets_of}
 use Rattle.vx_command_demo.specs.Sums.{page_sums, reason_sums}
 use Rattle.vx_command_demo.specs.Summary.{head_line, hollow_in, other_lines, pages_in, pages_line, summary_of, summary_text}
@@ -31,9 +28,9 @@ summary-is : (election : Election) (plans : List CardPlan) (seed sheets : ℕ) �
 unfolding summary_of summary_text
 summary-is election plans seed sheets are =
     let pages : ℕ = length (pages_in (sheets_of election plans seed sheets)) in
-    let sums : PageSums = page_sums election (pages_in (sheets_of election plans seed sheets)) in
-    let Line : ℕ → ℕ → List ℕ = λ as_truth certified. head_line seed sheets ++ pages_line pages as_truth certified ++ more_of election plans seed sheets in
-    ap (λ (n : ℕ). Line n sums.certified) are.as_truth ∙ ap (λ (n : ℕ). Line pages n) are.certified
+    let certified : ℕ = (page_sums election (pages_in (sheets_of election plans seed sheets))).certified in
+    let Line : ℕ → ℕ → List ℕ = λ as_truth accepted. head_line seed sheets ++ pages_line pages as_truth accepted ++ more_of election plans seed sheets in
+    ap (λ (n : ℕ). Line n certified) are.as_truth ∙ ap (λ (n : ℕ). Line pages n) are.certified
 
 pub says-so : DemoPagesAreTrue → TextsInOrder → DemoSaysSo
 says-so all order seed sheets election plans is made taken taken_now held held_now answer done =

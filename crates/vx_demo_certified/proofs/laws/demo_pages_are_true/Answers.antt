@@ -1,4 +1,3 @@
-use Rattle.vx_command.specs.Elections.{plans_in}
 use Rattle.vx_layout.specs.Plans.{plans_of}
 use Rattle.vx_demo_certified.proofs.Demos.{demo-true, defined, planned}
 use Rattle.vx_demo_certified.proofs.Pages.{page-true}
