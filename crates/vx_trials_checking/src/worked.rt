@@ -1,7 +1,7 @@
 //! Worked rows of `check`. What is expected was worked out by hand from the rules of a certificate.
 
-use crate::checking_scans::{answer_of, both_pages, checked, first_page, marked_page, turned};
-use crate::checking_texts::{CLEAR, MARKED, both_blocks, first_block, with_piece};
+use crate::scans::{answer_of, both_pages, checked, first_page, marked_page, turned};
+use crate::texts::{CLEAR, MARKED, both_blocks, first_block, with_piece};
 use std::test::Fail;
 
 /// What is written of both pages of the town.

@@ -35,7 +35,7 @@ fn contests_wait_until_they_are_decided(rt: HostRuntime) -> Result<(), Fail> {
     let over = "1 add a2 999999 0 1 test-other 0:mm";
     let claim = "1 claim 9999 b1 1";
     let decided = "1 accept 9999 b1 1 0";
-    let rows: [(&[&str], &str); 10] = [
+    let rows: [(&[&str], &str); 6] = [
         (&[], "waiting 0\nok"),
         (
             &[TOWN_HEADER, blank],
@@ -54,12 +54,25 @@ fn contests_wait_until_they_are_decided(rt: HostRuntime) -> Result<(), Fail> {
             "wait b1 1 mayor MarginalMark holder -\nwaiting 1\nok",
         ),
         (&[TOWN_HEADER, claim], "journal 1 2 no sheet"),
-        (&[""], "journal 0 bad 0"),
-        (&[SHORT], "journal 0 bad 74"),
-        (&[TOWN_HEADER, "1 claim 1 b1 1 "], "journal 1 bad 14"),
-        (&[TOWN_HEADER, "1 add b1 1 5 1 precinct"], "journal 1 unfit"),
     ];
     for (records, expected) in &rows {
+        let text = written(rt.alloc(), records)?;
+        assert_eq!(rt; text.as_str(), *expected);
+    }
+    Ok(())
+}
+
+/// Journals that stop at a record, and what `queue` says of them.
+const STOPPED: &[(&[&str], &str)] = &[
+    (&[""], "journal 0 bad 0"),
+    (&[SHORT], "journal 0 bad 74"),
+    (&[TOWN_HEADER, "1 claim 1 b1 1 "], "journal 1 bad 14"),
+    (&[TOWN_HEADER, "1 add b1 1 5 1 precinct"], "journal 1 unfit"),
+];
+
+#[test]
+fn journals_that_stop_are_told(rt: HostRuntime) -> Result<(), Fail> {
+    for (records, expected) in STOPPED {
         let text = written(rt.alloc(), records)?;
         assert_eq!(rt; text.as_str(), *expected);
     }

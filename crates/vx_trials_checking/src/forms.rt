@@ -1,8 +1,8 @@
 //! Readings that leave their form, or don't fit the scans. What is expected was worked out by hand from the
 //! form of readings.
 
-use crate::checking_scans::{both_pages, checked};
-use crate::checking_texts::{both_blocks, with_piece};
+use crate::scans::{both_pages, checked};
+use crate::texts::{both_blocks, with_piece};
 use std::test::Fail;
 
 /// What is written of the first page, and of both.

@@ -2,8 +2,8 @@
 //! from what is printed: a timing mark has 36 columns and 12 rows, its centre one column right of and one row
 //! under the place that is read, and two columns right at the corner.
 
-use crate::checking_scans::{checked, first_page};
-use crate::checking_texts::{CLEAR, first_block};
+use crate::scans::{checked, first_page};
+use crate::texts::{CLEAR, first_block};
 use std::alloc::{AllocError, Global};
 use std::test::Fail;
 use std::thread::Threads;

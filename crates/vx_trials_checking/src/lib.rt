@@ -1,0 +1,21 @@
+//! Trials of `check`, `decide`, `queue` and the words of commands: worked rows, texts that leave the form of
+//! readings, each change of one number of a clean block; what `decide` and `queue` write; lines of words and
+//! what they are read as. Nothing stands on it.
+#![tactic(auto)]
+
+#[cfg(test)]
+mod changes;
+#[cfg(test)]
+mod decide_lines;
+#[cfg(test)]
+mod forms;
+#[cfg(test)]
+mod queue_lines;
+#[cfg(test)]
+mod scans;
+#[cfg(test)]
+mod spelled_words;
+#[cfg(test)]
+mod texts;
+#[cfg(test)]
+mod worked;
