@@ -1,22 +1,21 @@
 -- A call is put into the history.
-use Rattle.std.proofs.Common.{◌≡◌, ◌≢◌, ℕ, zero, suc, ◌+◌, ◌-◌, ◌*◌, ◌%◌, ◌^◌, ◌<◌, ◌≤◌, List, [], ◌∷◌, ◌++◌, length, get_or, set, sym, refl, ap, ◌∙◌, subst, ⊎_elim, inl, inr, ◌⊎◌, arith, Option, Some, None, mod-eq_of_lt, length-append}
-use mathlib.Core.Option.{none, some, some-ne-none, some-injective}
-use mathlib.Core.List.{IsPrefix}
+use Rattle.std.proofs.Common.{◌≡◌, ◌≢◌, ℕ, suc, ◌+◌, ◌-◌, ◌%◌, ◌<◌, ◌≤◌, List, [], ◌∷◌, ◌++◌, length, get_or, set, sym, refl, ap, ◌∙◌, subst, arith, mod-eq_of_lt, length-append}
+use mathlib.Core.Option.{some}
 use lib.ListN.{get_elem?}
-use Rattle.atomic_table.specs.Table.{State, Me, Step, Act, keeps, Allows}
+use Rattle.atomic_table.specs.Table.{keeps, Allows}
 use Rattle.vx_shared.specs.declared.history.Entry.{Entry}
 use Rattle.vx_shared.specs.declared.seats.Origin.{Origin}
 use Rattle.vx_shared.specs.declared.seats.View.{View}
 use Rattle.vx_shared.specs.declared.seats.Role.{Role}
 use Rattle.vx_shared.specs.declared.seats.Role.TheVariants.{Idle, Waiting, Turn, Committed, Joined}
 use Rattle.vx_shared.specs.Marks.{is_marked, marked}
-use Rattle.vx_shared.specs.Seats.{wrapped, stands, fronts, number_of, base_of, joined_marks, stands_in, fronts_in, shares_of, calls_of, made_at, total, one_below, slot, hand_log}
+use Rattle.vx_shared.specs.Seats.{wrapped, stands, fronts, number_of, base_of, joined_marks, stands_in, fronts_in, shares_of, calls_of, made_at, one_below, hand_log}
 use Rattle.vx_shared.specs.Rule.{StandsAt, RoleAgrees, Agrees, Ruled}
-use Rattle.vx_shared.specs.Plays.{Sat, At, posed, HasWorked, grown, IsCounted, Counted}
+use Rattle.vx_shared.specs.Plays.{Sat, At, HasWorked, grown, Counted}
 use Rattle.vx_shared.proofs.Totals.{total_set, total_one}
 use Rattle.vx_shared.proofs.Prefixes.{prefix_whole, prefix_more, prefix_length}
 use Rattle.vx_shared.proofs.Marking.{made_marked, length_marked}
-use Rattle.vx_shared.proofs.Steps.{Homes, Table, each_set, apart_set, live_role}
+use Rattle.vx_shared.proofs.Steps.{Table, each_set, apart_set, live_role}
 
 -- what another role says stays true behind one more call
 longer_role : (origin : Origin) (log : List Entry) (call : Entry) (serving ticket : ℕ) (seen : List Entry) (role : Role)

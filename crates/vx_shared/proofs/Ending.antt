@@ -1,9 +1,8 @@
 -- The table at the start and at the end.
-use Rattle.std.proofs.Common.{◌≡◌, ◌≢◌, ℕ, zero, suc, ◌+◌, ◌-◌, ◌*◌, ◌%◌, ◌^◌, ◌<◌, ◌≤◌, Bool, true, false, List, [], ◌∷◌, ◌++◌, map, length, replicate, get_or, set, sym, refl, ap, ◌∙◌, subst, arith, Option, Some, None}
-use mathlib.Core.Option.{none, some, some-ne-none, some-injective}
-use mathlib.Core.Option as maybe
+use Rattle.std.proofs.Common.{◌≡◌, ◌≢◌, ℕ, zero, suc, ◌+◌, ◌<◌, ◌≤◌, Bool, true, List, [], ◌∷◌, map, length, replicate, sym, refl, ap, ◌∙◌, subst, arith, Option, Some}
+use mathlib.Core.Option.{some, some-ne-none, some-injective}
 use lib.ListN.{get_elem?, length-replicate}
-use Rattle.atomic_table.specs.Table.{State, Final, Seen, opening}
+use Rattle.atomic_table.specs.Table.{Final, Seen, opening}
 use Rattle.vx_center.specs.Kept.{Kept}
 use Rattle.vx_shared.specs.declared.history.Entry.{Entry}
 use Rattle.vx_shared.specs.declared.seats.Origin.{Origin}
@@ -15,8 +14,8 @@ use Rattle.vx_shared.specs.Plays.{Sat}
 use Rattle.vx_shared.specs.Calls.{Known, view_of}
 use Rattle.vx_shared.specs.Marks.{is_marked}
 use Rattle.vx_shared.specs.Seats.{origin_of, start_of, first_view, fronts, joined_marks, fronts_in, shares_of, calls_of, made_at, total, one_below, slot}
-use Rattle.vx_shared.specs.Rule.{StandsAt, RoleAgrees, Agrees, Ruled}
-use Rattle.vx_shared.proofs.Totals.{total_one, total_two, total_only}
+use Rattle.vx_shared.specs.Rule.{StandsAt, Agrees, Ruled}
+use Rattle.vx_shared.proofs.Totals.{total_two, total_only}
 use Rattle.vx_shared.proofs.Prefixes.{prefix_all, prefix_length}
 use Rattle.vx_shared.proofs.Marking.{all_marked}
 use Rattle.vx_shared.proofs.Steps.{Homes, Table}

@@ -1,21 +1,14 @@
 -- What a seat holds, and what a join does to two passes.
-use Rattle.std.proofs.Common.{◌≡◌, ◌≢◌, ℕ, zero, suc, ◌+◌, ◌-◌, ◌<◌, ◌≤◌, List, [], ◌∷◌, ◌++◌, length, max, sym, refl, ap, ◌∙◌, subst, arith, Option, Some, None, length-append}
-use mathlib.Core.List.{IsPrefix}
+use Rattle.std.proofs.Common.{◌≡◌, ℕ, ◌+◌, ◌<◌, List, [], ◌∷◌, length, max, sym, refl, ap, ◌∙◌, subst, arith, Option}
 use Rattle.atomic_table.specs.Table.{rest}
-use Rattle.atomic_table.specs.Seated.{TableId}
-use Rattle.vx_events.specs.declared.event.Event.{Event}
-use Rattle.vx_events.specs.Fits.{Fits}
-use Rattle.vx_refusals.specs.declared.reply.Reply.{Reply}
 use Rattle.vx_shared.specs.declared.history.Entry.{Entry}
 use Rattle.vx_shared.specs.declared.seats.Origin.{Origin}
 use Rattle.vx_shared.specs.declared.seats.View.{View}
-use Rattle.vx_shared.specs.declared.seats.Role.{Role}
-use Rattle.vx_shared.specs.declared.seats.Role.TheVariants.{Idle, Waiting, Turn, Committed, Joined}
-use Rattle.vx_shared.specs.Legal.{Stored, IsLegal, entry}
-use Rattle.vx_shared.specs.Marks.{is_marked, marked, either_marked}
-use Rattle.vx_shared.specs.Seats.{start_of, number_of, base_of, front_of, fronts, theirs_of, joined_marks, joined_origin, hand, hand_log, slot}
-use Rattle.vx_shared.specs.Plays.{Sat, At, posed, IsReady, Drawn, IsWaiting, HasTurn, HasWorked, MayLeave, grown, IsCounted, IsLonger, first, second, beside, HasMerged}
-use Rattle.vx_shared.specs.Calls.{Known, known, view_of, IsSeated, HasTurned, HasCalled, HasJoined}
+use Rattle.vx_shared.specs.declared.seats.Role.TheVariants.{Joined}
+use Rattle.vx_shared.specs.Legal.{Stored, IsLegal}
+use Rattle.vx_shared.specs.Seats.{start_of, theirs_of, joined_marks, joined_origin}
+use Rattle.vx_shared.specs.Plays.{Sat, IsLonger, first, second, beside, HasMerged}
+use Rattle.vx_shared.specs.Calls.{Known, view_of, IsSeated}
 use Rattle.vx_shared.proofs.Prefixes.{prefix_length}
 
 -- one held slot is the first of those held

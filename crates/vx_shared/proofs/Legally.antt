@@ -1,15 +1,14 @@
 -- Longer histories.
-use Rattle.std.proofs.Common.{◌≡◌, ◌≢◌, ℕ, zero, suc, ◌+◌, ◌<◌, ◌≤◌, if◌then◌else◌, Bool, true, false, List, [], ◌∷◌, ◌++◌, length, take, slice_get, Some, None, sym, refl, ap, ◌∙◌, subst, arith, append_assoc, length-append}
+use Rattle.std.proofs.Common.{◌≡◌, ◌≢◌, ℕ, zero, suc, if◌then◌else◌, Bool, true, false, List, [], ◌∷◌, ◌++◌, length, take, slice_get, Some, sym, refl, ap, ◌∙◌, subst, arith, append_assoc}
 use Rattle.std.proofs.lemmas.Grind.{common_steps}
 use mathlib.Core.Logic.{dite}
 use native.Mathlib.Decide.{ℕ_discrete}
-use mathlib.Core.List.{IsPrefix}
 use Rattle.vx_events.specs.declared.event.Event.{Event}
 use Rattle.vx_refusals.specs.declared.reply.Reply.{Reply}
 use Rattle.vx_center.specs.Kept.{Kept}
 use Rattle.vx_center.specs.Replies.{reply_of, next_of, is_done}
 use Rattle.vx_shared.specs.declared.history.Entry.{Entry}
-use Rattle.vx_shared.specs.Legal.{IsLegal, IsHeld, after, done_of, done_events, entry}
+use Rattle.vx_shared.specs.Legal.{IsLegal, IsHeld, done_of, done_events, entry}
 
 nil_append : (xs : List Event) → xs ≡ xs ++ []
 nil_append xs = grind (arith, common_steps)

@@ -9,3 +9,9 @@ pub mod Parting
 pub mod Ending
 pub mod Joining
 pub mod Crossing
+pub mod Gathering
+pub mod Mixing
+pub mod Gaining
+pub mod Rejoining
+pub mod Halving
+pub mod Replaying

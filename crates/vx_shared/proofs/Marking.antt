@@ -1,5 +1,5 @@
 -- Marks along a history.
-use Rattle.std.proofs.Common.{◌≡◌, ℕ, zero, suc, ◌+◌, ◌<◌, ◌≤◌, ◌||◌, Bool, true, false, List, [], ◌∷◌, ◌++◌, length, replicate, sym, refl, ap, ◌∙◌, subst, arith, le_of_eq}
+use Rattle.std.proofs.Common.{◌≡◌, ℕ, zero, suc, ◌+◌, ◌≤◌, ◌||◌, Bool, true, false, List, [], ◌∷◌, length, replicate, sym, refl, arith, le_of_eq}
 use Rattle.vx_shared.specs.Marks.{is_marked, marked, either_marked}
 use Rattle.vx_shared.specs.Seats.{one_below}
 

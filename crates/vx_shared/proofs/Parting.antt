@@ -1,26 +1,25 @@
 -- Seats are cut in two and put together.
-use Rattle.std.proofs.Common.{◌≡◌, ◌≢◌, ℕ, zero, suc, ◌+◌, ◌-◌, ◌*◌, ◌%◌, ◌^◌, ◌<◌, ◌≤◌, List, [], ◌∷◌, ◌++◌, length, get_or, set, sym, refl, ap, ◌∙◌, subst, ⊎_elim, inl, inr, ◌⊎◌, arith, Option, Some, None}
+use Rattle.std.proofs.Common.{◌≡◌, ℕ, ◌+◌, ◌<◌, ◌≤◌, List, [], ◌∷◌, ◌++◌, length, get_or, set, sym, refl, ap, ◌∙◌, subst, ⊎_elim, arith}
 use mathlib.Core.Logic.{dite}
-use mathlib.Core.Option.{none, some, some-ne-none, some-injective}
+use mathlib.Core.Option.{some}
 use mathlib.Core.List.{IsPrefix}
-use native.Mathlib.Decide.{ℕ_discrete, dec_le}
+use native.Mathlib.Decide.{dec_le}
 use lib.ListN.{get_elem?}
 use lib.Seq.{set-get_or}
-use Rattle.atomic_table.specs.Table.{State, Me, Step, Act, keeps, Allows, Splits, Joins}
+use Rattle.atomic_table.specs.Table.{keeps, Allows, Splits, Joins}
 use Rattle.atomic_table.proofs.Lists.{at_snoc, set_else}
 use Rattle.vx_shared.specs.declared.history.Entry.{Entry}
-use Rattle.vx_shared.specs.declared.seats.Origin.{Origin}
 use Rattle.vx_shared.specs.declared.seats.View.{View}
 use Rattle.vx_shared.specs.declared.seats.Role.{Role}
-use Rattle.vx_shared.specs.declared.seats.Role.TheVariants.{Idle, Waiting, Turn, Committed, Joined}
+use Rattle.vx_shared.specs.declared.seats.Role.TheVariants.{Idle, Joined}
 use Rattle.vx_shared.specs.Marks.{is_marked, either_marked}
-use Rattle.vx_shared.specs.Seats.{wrapped, spent_view, stands, fronts, theirs_of, joined_marks, joined_origin, stands_in, fronts_in, shares_of, calls_of, made_at, total, one_below}
+use Rattle.vx_shared.specs.Seats.{spent_view, stands, fronts, theirs_of, joined_marks, joined_origin, stands_in, fronts_in, shares_of, calls_of, made_at, total}
 use Rattle.vx_shared.specs.Rule.{StandsAt, RoleAgrees, Agrees, Ruled}
-use Rattle.vx_shared.specs.Plays.{Sat, At, IsReady, IsLonger, first, second, beside, IsMerged, Merged, HasMerged, kept_part, cut_part}
+use Rattle.vx_shared.specs.Plays.{Sat, At, first, second, beside, Merged, kept_part, cut_part}
 use Rattle.vx_shared.proofs.Totals.{total_set, total_snoc, total_one}
-use Rattle.vx_shared.proofs.Prefixes.{prefix_of, prefix_length}
+use Rattle.vx_shared.proofs.Prefixes.{prefix_of}
 use Rattle.vx_shared.proofs.Marking.{is_marked_either, length_either, below_one}
-use Rattle.vx_shared.proofs.Steps.{Homes, Table, each_set, apart_set}
+use Rattle.vx_shared.proofs.Steps.{Table, each_set, apart_set}
 
 idle_stands : (role : Role) (n : ℕ) → role ≡ Idle → StandsAt role n → ⊥
 idle_stands role n idle s = let x : StandsAt Idle n = subst (λ (q : Role). StandsAt q n) idle s in x

@@ -1,5 +1,5 @@
 -- Beginnings of lists.
-use Rattle.std.proofs.Common.{◌≡◌, ℕ, zero, suc, ◌+◌, ◌<◌, ◌≤◌, List, [], ◌∷◌, ◌++◌, length, sym, refl, ap, ◌∙◌, subst, arith, append_assoc, length-append}
+use Rattle.std.proofs.Common.{◌≡◌, ◌≤◌, List, [], ◌∷◌, ◌++◌, length, sym, refl, ap, ◌∙◌, arith, append_assoc, length-append}
 use Rattle.std.proofs.lemmas.Grind.{common_steps}
 use mathlib.Core.List.{IsPrefix}
 
@@ -12,6 +12,10 @@ module _ {A : Type 0} where
 
   pub prefix_end : (xs zs : List A) → IsPrefix xs (xs ++ zs)
   prefix_end xs zs = (zs, refl)
+
+  pub prefix_then : (xs ys zs : List A) → IsPrefix xs ys → IsPrefix ys zs → IsPrefix xs zs
+  prefix_then xs ys zs one two =
+      (one.0 ++ two.0, sym (append_assoc xs one.0 two.0) ∙ (ap (λ (l : List A). l ++ two.0) one.1 ∙ two.1))
 
   pub prefix_length : (xs ys : List A) → IsPrefix xs ys → length xs ≤ length ys
   prefix_length xs ys pre = let e : length (xs ++ pre.0) ≡ length ys = ap length pre.1 in let l = length-append xs pre.0 in omega arith

@@ -1,25 +1,23 @@
 -- Each step at the table keeps the rule.
-use Rattle.std.proofs.Common.{◌≡◌, ◌≢◌, ℕ, zero, suc, ◌+◌, ◌-◌, ◌*◌, ◌%◌, ◌^◌, ◌<◌, ◌≤◌, List, [], ◌∷◌, ◌++◌, length, get_or, set, sym, refl, ap, ◌∙◌, subst, ⊎_elim, inl, inr, ◌⊎◌, arith, Option, Some, None}
+use Rattle.std.proofs.Common.{◌≡◌, ◌≢◌, ℕ, ◌+◌, ◌<◌, ◌≤◌, List, [], ◌∷◌, length, set, sym, ap, ◌∙◌, subst, ⊎_elim, arith, Option}
 use mathlib.Core.Logic.{dite}
 use mathlib.Core.Option.{none, some, some-ne-none, some-injective}
 use mathlib.Core.Option as maybe
-use mathlib.Core.List.{IsPrefix}
-use native.Mathlib.Decide.{ℕ_discrete, dec_le}
+use native.Mathlib.Decide.{ℕ_discrete}
 use lib.ListN.{get_elem?}
-use lib.Seq.{set-get_or}
-use Rattle.atomic_table.specs.Table.{State, Me, step, Act, keeps, takes, gives, stepped, homes_after, Allows}
-use Rattle.atomic_table.proofs.Lists.{at_set, set_here, set_else, set_again, at_snoc, one_turn}
+use Rattle.atomic_table.specs.Table.{State}
+use Rattle.atomic_table.proofs.Lists.{at_set}
 use Rattle.vx_shared.specs.declared.history.Entry.{Entry}
 use Rattle.vx_shared.specs.declared.seats.Origin.{Origin}
 use Rattle.vx_shared.specs.declared.seats.View.{View}
 use Rattle.vx_shared.specs.declared.seats.Role.{Role}
 use Rattle.vx_shared.specs.declared.seats.Role.TheVariants.{Idle, Waiting, Turn, Committed, Joined}
-use Rattle.vx_shared.specs.Legal.{Stored, stored}
-use Rattle.vx_shared.specs.Marks.{is_marked, marked, either_marked}
-use Rattle.vx_shared.specs.Seats.{wrapped, start_of, stands, fronts, number_of, base_of, joined_marks, stands_in, fronts_in, shares_of, calls_of, made_at, total, one_below, slot, hand, hand_log}
-use Rattle.vx_shared.specs.Rule.{StandsAt, RoleAgrees, Agrees, Ruled}
-use Rattle.vx_shared.specs.Plays.{Sat, At, posed, Drawn, HasTurn, Looked, grown, Counted, Left}
-use Rattle.vx_shared.proofs.Totals.{total_set, total_one, total_two, total_le, total_zero}
+use Rattle.vx_shared.specs.Legal.{Stored}
+use Rattle.vx_shared.specs.Marks.{is_marked}
+use Rattle.vx_shared.specs.Seats.{wrapped, stands, fronts, joined_marks, stands_in, fronts_in, shares_of, calls_of, made_at, total, slot}
+use Rattle.vx_shared.specs.Rule.{StandsAt, Agrees, Ruled}
+use Rattle.vx_shared.specs.Plays.{posed}
+use Rattle.vx_shared.proofs.Totals.{total_set, total_le}
 
 abbrev pub Homes : Type 0
 Homes = List (maybe.Option (Option Stored))

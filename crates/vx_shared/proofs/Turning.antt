@@ -1,25 +1,24 @@
 -- The steps of the line keep the rule: a number is drawn, the turn is looked for, the turn is given on.
-use Rattle.std.proofs.Common.{◌≡◌, ◌≢◌, ℕ, zero, suc, ◌+◌, ◌-◌, ◌*◌, ◌%◌, ◌^◌, ◌<◌, ◌≤◌, List, [], ◌∷◌, ◌++◌, length, get_or, set, sym, refl, ap, ◌∙◌, subst, ⊎_elim, inl, inr, ◌⊎◌, arith, Option, Some, None}
+use Rattle.std.proofs.Common.{◌≡◌, ◌≢◌, ℕ, ◌+◌, ◌%◌, ◌<◌, ◌≤◌, List, [], ◌∷◌, length, get_or, set, sym, refl, ap, ◌∙◌, subst, arith, Option}
 use Rattle.std.proofs.Math.Nat.{mod-add-mod}
 use mathlib.Core.Logic.{dite}
-use mathlib.Core.Option.{none, some, some-ne-none, some-injective}
-use mathlib.Core.Option as maybe
+use mathlib.Core.Option.{none, some, some-injective}
 use native.Mathlib.Decide.{ℕ_discrete}
 use lib.ListN.{get_elem?}
 use lib.Seq.{set-get_or}
-use Rattle.atomic_table.specs.Table.{State, Me, Step, Act, keeps, takes, gives, rest, put_back, Allows}
+use Rattle.atomic_table.specs.Table.{keeps, takes, gives, rest, put_back, Allows}
 use Rattle.atomic_table.proofs.Lists.{set_again, one_turn}
 use Rattle.vx_shared.specs.declared.history.Entry.{Entry}
 use Rattle.vx_shared.specs.declared.seats.Origin.{Origin}
 use Rattle.vx_shared.specs.declared.seats.View.{View}
 use Rattle.vx_shared.specs.declared.seats.Role.{Role}
 use Rattle.vx_shared.specs.declared.seats.Role.TheVariants.{Idle, Waiting, Turn, Committed, Joined}
-use Rattle.vx_shared.specs.Legal.{Stored, stored}
+use Rattle.vx_shared.specs.Legal.{Stored}
 use Rattle.vx_shared.specs.Marks.{is_marked}
-use Rattle.vx_shared.specs.Seats.{wrapped, start_of, stands, fronts, number_of, base_of, front_of, joined_marks, stands_in, fronts_in, total, slot, hand}
+use Rattle.vx_shared.specs.Seats.{wrapped, stands, fronts, number_of, front_of, joined_marks, fronts_in, total, slot, hand}
 use Rattle.vx_shared.specs.Rule.{StandsAt, RoleAgrees, Agrees, Ruled}
-use Rattle.vx_shared.specs.Plays.{Sat, At, posed, IsReady, Drawn, IsWaiting, HasTurn, Looked, MayLeave, Left}
-use Rattle.vx_shared.proofs.Totals.{total_set, total_one, total_two, total_zero, total_only}
+use Rattle.vx_shared.specs.Plays.{Sat, At, posed, IsReady, Drawn, IsWaiting, Looked, MayLeave, Left}
+use Rattle.vx_shared.proofs.Totals.{total_set, total_zero, total_only}
 use Rattle.vx_shared.proofs.Steps.{Homes, Table, live_role, few_stand, pose_step}
 
 wrapped_next : (n : ℕ) → (wrapped n + 1) % 18446744073709551616 ≡ wrapped (n + 1)

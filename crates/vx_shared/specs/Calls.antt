@@ -1,6 +1,5 @@
 -- What a pass is seen as, and what a call, a split and a join do to it.
 use Rattle.std.specs.Prelude.{◌≡◌, ℕ, ◌+◌, ◌-◌, ◌<◌, ◌≤◌, List, [], ◌∷◌, ◌++◌, Bool, length}
-use mathlib.Core.List.{IsPrefix}
 use Rattle.atomic_table.specs.Seated.{TableId}
 use Rattle.vx_refusals.specs.declared.reply.Reply.{Reply}
 use Rattle.vx_events.specs.declared.event.Event.{Event}

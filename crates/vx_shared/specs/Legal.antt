@@ -1,5 +1,5 @@
 -- Histories of calls: which are legal, and what the counting machine has kept behind one.
-use Rattle.std.specs.Prelude.{◌≡◌, ℕ, if◌then◌else◌, List, [], ◌∷◌, ◌++◌, take, slice_get, Some}
+use Rattle.std.specs.Prelude.{◌≡◌, ℕ, if◌then◌else◌, List, [], ◌∷◌, ◌++◌, map, take, slice_get, Some}
 use Rattle.std.specs.List.{flat_map}
 use Rattle.vx_events.specs.declared.event.Event.{Event}
 use Rattle.vx_refusals.specs.declared.reply.Reply.{Reply}
@@ -10,6 +10,10 @@ use Rattle.vx_shared.specs.declared.history.Entry.{Entry}
 -- a call: its event and its reply
 abbrev pub entry : Event → Reply → Entry
 entry event reply = record { event = event; reply = reply }
+
+-- the events of a history, in order
+abbrev pub events_in : List Entry → List Event
+events_in history = map (λ (call : Entry). call.event) history
 
 -- the event of a call, where it was answered with Done
 abbrev pub done_of : Entry → List Event

@@ -4,3 +4,6 @@ pub mod Seats
 pub mod Rule
 pub mod Plays
 pub mod Calls
+pub mod Interleaving
+pub mod Gained
+pub mod Laws

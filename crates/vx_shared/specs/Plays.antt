@@ -1,9 +1,8 @@
 -- What each step at the table tells its seat.
-use Rattle.std.specs.Prelude.{◌≡◌, ◌≢◌, ℕ, ◌+◌, ◌-◌, ◌<◌, ◌≤◌, Bool, List, [], ◌∷◌, ◌++◌, length, Option}
+use Rattle.std.specs.Prelude.{◌≡◌, ◌≢◌, ℕ, ◌+◌, ◌-◌, ◌<◌, ◌≤◌, List, [], ◌∷◌, ◌++◌, length, Option}
 use mathlib.Core.List.{IsPrefix}
 use Rattle.atomic_table.specs.Table.{Me, Step}
 use Rattle.vx_shared.specs.declared.history.Entry.{Entry}
-use Rattle.vx_shared.specs.declared.seats.Origin.{Origin}
 use Rattle.vx_shared.specs.declared.seats.View.{View}
 use Rattle.vx_shared.specs.declared.seats.Role.{Role}
 use Rattle.vx_shared.specs.declared.seats.Role.TheVariants.{Idle, Waiting, Turn, Committed, Joined}

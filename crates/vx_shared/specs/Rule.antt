@@ -11,7 +11,7 @@ use Rattle.vx_shared.specs.declared.seats.View.{View}
 use Rattle.vx_shared.specs.declared.seats.Role.{Role}
 use Rattle.vx_shared.specs.declared.seats.Role.TheVariants.{Idle, Waiting, Turn, Committed, Joined}
 use Rattle.vx_shared.specs.Legal.{Stored}
-use Rattle.vx_shared.specs.Seats.{wrapped, first_view, stands_in, fronts_in, shares_of, calls_of, made_at, total, one_below, slot}
+use Rattle.vx_shared.specs.Seats.{wrapped, stands_in, fronts_in, shares_of, calls_of, made_at, total, one_below, slot}
 
 -- a table of three words and one slot
 abbrev pub IsBoard : TableId → Type 0

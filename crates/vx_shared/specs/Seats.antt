@@ -1,5 +1,5 @@
 -- What the seats at the table know, counted over all of them.
-use Rattle.std.specs.Prelude.{◌≡◌, ℕ, zero, suc, ◌+◌, ◌%◌, Bool, true, List, [], ◌∷◌, ◌++◌, Option, Some, None}
+use Rattle.std.specs.Prelude.{ℕ, zero, suc, ◌+◌, ◌%◌, Bool, List, [], ◌∷◌, Option, Some, None}
 use Rattle.vx_grid.specs.declared.paper.Paper.TheVariants.{Letter}
 use Rattle.vx_election_model.specs.declared.election.Election.{Election}
 use Rattle.vx_center.specs.Kept.{Kept}

@@ -1,7 +1,9 @@
-//! A law for those that start threads. The function does nothing; its contract is the law.
+//! Laws for those that start threads and call a shared center. These functions do nothing; their
+//! contracts are the laws.
 
 ghost use denote.Ref.{NamedLft};
 ghost use denote.Param.Send.{IsSend, IsSync};
+ghost use Rattle.vx_shared.specs.Laws.{HistoriesInterleave, ListsHaveHistories, NothingIsMade};
 ghost use Rattle.vx_shared.specs.contracts.sharing.SharedCenter.{the_row};
 
 use crate::pass::Pass;
@@ -18,3 +20,16 @@ fn handed<T: Send>() {}
 pub fn pass_is_handed() {
     handed::<Pass>();
 }
+
+/// At first nothing is made with a pass; and where a pass that had made no call before has made all calls
+/// of a history, of some lists, the events of the history interleave these lists.
+pub fn passes_gain_their_calls()
+    ensures nothing { NothingIsMade }
+    ensures interleaved { HistoriesInterleave }
+{}
+
+/// Whatever was kept, lists of events have a legal history whose events interleave them: that of one list
+/// behind the other.
+pub fn lists_have_histories()
+    ensures { ListsHaveHistories }
+{}

@@ -1,4 +1,4 @@
-use Rattle.std.proofs.Common.{rules, arith, ◌≡◌, ◌<◌, ◌≤◌, ap, sym, ◌∙◌, subst}
+use Rattle.std.proofs.Common.{arith, ◌<◌, ◌≤◌}
 use Rattle.vx_shared.proofs.Parting.{splits}
 use Rattle.vx_shared.proofs.sharing.cut.Goals as goal
 

@@ -1,8 +1,6 @@
-use Rattle.std.proofs.Common.{rules, arith, ◌≡◌, ◌<◌, ◌≤◌, [], List, Option, ap, sym, ◌∙◌, subst}
+use Rattle.std.proofs.Common.{arith, ◌∙◌}
 use mathlib.Core.Option.{none}
 use Rattle.atomic_table.specs.Table.{step}
-use Rattle.vx_shared.specs.Legal.{Stored}
-use Rattle.vx_shared.specs.Plays.{Sat, beside}
 use Rattle.vx_shared.proofs.Parting.{joins, merges}
 use Rattle.vx_shared.proofs.Joining.{beside_joined, beside_live}
 use Rattle.vx_shared.proofs.sharing.merge.Goals as goal

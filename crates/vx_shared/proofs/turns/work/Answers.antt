@@ -1,4 +1,4 @@
-use Rattle.std.proofs.Common.{rules, arith, ◌≡◌, ◌<◌, ap, sym, ◌∙◌, subst, None}
+use Rattle.std.proofs.Common.{ap, ◌∙◌, None}
 use Rattle.atomic_table.specs.Table.{rest}
 use Rattle.vx_shared.specs.Plays.{Sat}
 use Rattle.vx_shared.specs.Seats.{slot, hand_log}

@@ -1,5 +1,5 @@
-use Rattle.std.proofs.Common.{rules, ◌≡◌, ◌++◌, ◌∷◌, [], List, ap, sym, ◌∙◌}
-use Rattle.vx_shared.specs.Legal.{IsHeld, entry}
+use Rattle.std.proofs.Common.{◌++◌, ◌∷◌, [], List, ap, ◌∙◌}
+use Rattle.vx_shared.specs.Legal.{entry}
 use Rattle.vx_shared.specs.declared.history.Entry.{Entry}
 use Rattle.vx_shared.proofs.Legally.{applied}
 use Rattle.vx_shared.proofs.held.Held.apply.Goals as goal

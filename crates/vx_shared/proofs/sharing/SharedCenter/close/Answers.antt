@@ -1,4 +1,4 @@
-use Rattle.std.proofs.Common.{rules, arith, ◌≡◌, ◌<◌, refl, ap, sym, ◌∙◌, subst, Option, Some, IsSome}
+use Rattle.std.proofs.Common.{arith, ◌≡◌, ◌<◌, refl, sym, subst, Option, Some, IsSome}
 use Rattle.std.specs.Mem.Slots.{slots_items}
 use Rattle.vx_shared.specs.Legal.{Stored, stored}
 use Rattle.vx_shared.specs.Calls.{view_of}

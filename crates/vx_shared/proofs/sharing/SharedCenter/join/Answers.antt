@@ -1,4 +1,4 @@
-use Rattle.std.proofs.Common.{rules, arith, ◌≡◌, ℕ, ◌+◌, max, length, ap, sym, ◌∙◌}
+use Rattle.std.proofs.Common.{arith, ◌≡◌, ◌+◌, max, length}
 use Rattle.vx_shared.proofs.Joining.{merged_seated}
 use Rattle.vx_shared.proofs.sharing.SharedCenter.join.Goals as goal
 

@@ -1,6 +1,5 @@
-use Rattle.std.proofs.Common.{rules, ◌≡◌, ◌++◌, ◌∷◌, [], List, Option, Some, ap, sym, ◌∙◌}
-use Rattle.vx_center.specs.Kept.{Kept}
-use Rattle.vx_shared.specs.Legal.{Stored, stored}
+use Rattle.std.proofs.Common.{rules, ◌≡◌, ◌∷◌, [], Some}
+use Rattle.vx_shared.specs.Legal.{stored}
 use Rattle.vx_shared.proofs.Ending.{starts}
 use Rattle.vx_shared.proofs.sharing.SharedCenter.new.Goals as goal
 
