@@ -1,13 +1,10 @@
 //! Trials of counting: a second machine, written plainly, that looks through the kept events from the front
 //! at each question, answers as the center does over histories that are drawn; whole reports beside those
-//! that another program made; what a shared center answers to calls of two passes; journals that are read or
-//! stopped; sheets of two readings. Nothing stands on it.
+//! that another program made; journals that are read or stopped; sheets of two readings. Nothing stands on it.
 #![tactic(auto)]
 
 #[cfg(test)]
 mod alike;
-#[cfg(test)]
-mod calls;
 #[cfg(test)]
 mod drawing;
 #[cfg(test)]

@@ -3,56 +3,19 @@
 ghost use Rattle.std.specs.Prelude.{◌≡◌, ◌-◌, ◌<◌, IfOk};
 ghost use Rattle.vx_election_model.specs.Valid.{IsValid};
 ghost use Rattle.vx_events.specs.Fits.{Fits};
-ghost use Rattle.vx_trials_counting.specs.Same.{IsSame, MayCall};
+ghost use Rattle.vx_trials_shared.specs.Same.{IsSame, MayCall};
 
-use crate::worked::TOWN;
+use crate::hall::{HALL, added, claimed};
 use std::alloc::Global;
 use std::process::Abort;
 use std::sync::Wait;
 use std::test::Fail;
 use vx_base::OutOfMemory;
-use vx_center::{Center, Event, Key, Reply};
+use vx_center::{Center, Event, Reply};
 use vx_election::read_election;
 use vx_election_model::Election;
-use vx_grid::{Kind, State, States};
-use vx_json::Text;
 use vx_records::encode;
-use vx_rules::{ContestMarks, ContestMarksList, SheetMarks};
 use vx_shared::{Entry, Pass, Receipt, SharedCenter};
-
-fn key(alloc: Global) -> Result<Key, OutOfMemory> {
-    Ok(Key {
-        batch: Text::from_str(alloc, "b1")?,
-        number: 1,
-    })
-}
-
-/// The sheet is added, with the first candidate marked.
-pub fn added(alloc: Global) -> Result<Event, OutOfMemory> {
-    let marks = ContestMarks {
-        contest: 0,
-        states: States::from_vec(vec![in alloc; State::Marked, State::Clear]?),
-    };
-    let sheet = SheetMarks {
-        card: 0,
-        front: 1,
-        kind: Kind::Precinct,
-        test: false,
-        contests: ContestMarksList::from_vec(vec![in alloc; marks]?),
-    };
-    Ok(Event::Add {
-        key: key(alloc)?,
-        sheet,
-    })
-}
-
-/// A station claims the sheet.
-pub fn claimed(alloc: Global, station: u32) -> Result<Event, OutOfMemory> {
-    Ok(Event::Claim {
-        station,
-        key: key(alloc)?,
-    })
-}
 
 /// A call with a copy of an event.
 pub fn call<R: Wait>(
@@ -146,7 +109,7 @@ fn assert_one_history<R: Wait + Abort>(
 #[test]
 fn two_passes_make_one_history(rt: HostRuntime) -> Result<(), Fail> {
     let alloc = rt.alloc();
-    let election = read_election(alloc, TOWN.as_bytes())?;
+    let election = read_election(alloc, HALL.as_bytes())?;
     let claim = claimed(alloc, 1)?;
     let add = added(alloc)?;
     assert_one_history(&rt, alloc, &election, &claim, &add)
