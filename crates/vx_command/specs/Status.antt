@@ -8,7 +8,7 @@ use Rattle.vx_pbm.specs.FaultTexts.{pbm_fault_text}
 use Rattle.vx_refusals.specs.Texts.{readings_text, decision_text, journal_text}
 use Rattle.vx_command.specs.declared.halt.Halt.TheVariants as halt
 use Rattle.vx_command.specs.declared.status.Status.{Status}
-use Rattle.vx_command.specs.declared.status.Status.TheVariants.{Ok, Usage, NoInput, TooLong, Election, Layout, Pbm, NotCertified, Decision, Journal, ReadFault, WriteFault, KeeperFault, NoMemory}
+use Rattle.vx_command.specs.declared.status.Status.TheVariants.{Ok, Usage, NoInput, TooLong, Election, Layout, Pbm, NotCertified, Decision, Journal, TooManyEvents, ReadFault, WriteFault, KeeperFault, NoMemory}
 use Rattle.vx_command.specs.Acts.{Answer}
 
 -- the status that an answer ends the program with
@@ -22,6 +22,7 @@ status_of (std.Err (halt.Pbm word fault)) = Pbm word fault
 status_of (std.Err (halt.NotCertified fault)) = NotCertified fault
 status_of (std.Err (halt.Decision line fault)) = Decision line fault
 status_of (std.Err (halt.Journal index stop)) = Journal index stop
+status_of (std.Err (halt.TooManyEvents word count)) = TooManyEvents word count
 status_of (std.Err halt.ReadFault) = ReadFault
 status_of (std.Err halt.WriteFault) = WriteFault
 status_of (std.Err halt.KeeperFault) = KeeperFault
@@ -39,6 +40,7 @@ answer_of (Pbm word fault) = std.Err (halt.Pbm word fault)
 answer_of (NotCertified fault) = std.Err (halt.NotCertified fault)
 answer_of (Decision line fault) = std.Err (halt.Decision line fault)
 answer_of (Journal index stop) = std.Err (halt.Journal index stop)
+answer_of (TooManyEvents word count) = std.Err (halt.TooManyEvents word count)
 answer_of ReadFault = std.Err halt.ReadFault
 answer_of WriteFault = std.Err halt.WriteFault
 answer_of KeeperFault = std.Err halt.KeeperFault
@@ -60,6 +62,7 @@ number_of ReadFault = 10
 number_of WriteFault = 11
 number_of KeeperFault = 12
 number_of NoMemory = 13
+number_of (TooManyEvents word count) = 18
 
 -- a status in words
 abbrev pub line_of : Status → List ℕ
@@ -73,6 +76,7 @@ line_of (Pbm word fault) = codes "pbm " ++ decimal word ++ 32 ∷ pbm_fault_text
 line_of (NotCertified fault) = codes "not certified " ++ readings_text fault
 line_of (Decision line fault) = codes "decision line " ++ decimal line ++ 32 ∷ decision_text fault
 line_of (Journal index stop) = codes "journal " ++ decimal index ++ 32 ∷ journal_text stop
+line_of (TooManyEvents word count) = codes "too many events " ++ decimal word ++ 32 ∷ decimal count
 line_of ReadFault = codes "read fault"
 line_of WriteFault = codes "write fault"
 line_of KeeperFault = codes "keeper fault"

@@ -27,6 +27,8 @@ pub enum Halt {
     Decision(u32, DecisionFault),
     /// The journal's record of that index, from 0, stops its reading.
     Journal(u64, JournalStop),
+    /// The items up to the one of that word may have so many events, more than a shared center takes.
+    TooManyEvents(u32, u64),
     /// The inputs failed.
     ReadFault,
     /// The sink failed.

@@ -31,6 +31,8 @@ pub enum Status {
     Decision(u32, DecisionFault),
     /// The journal's record of that index, from 0, stops its reading.
     Journal(u64, JournalStop),
+    /// The items up to the one of that word may have so many events, more than a shared center takes.
+    TooManyEvents(u32, u64),
     /// The inputs failed.
     ReadFault,
     /// The sink failed.
@@ -61,6 +63,7 @@ impl Status {
             Status::WriteFault => 11,
             Status::KeeperFault => 12,
             Status::NoMemory => 13,
+            Status::TooManyEvents(_, _) => 18,
         }
     }
 }
@@ -80,6 +83,7 @@ pub fn status_of(answer: Result<(), Halt>) -> Status
         Err(Halt::NotCertified(fault)) => Status::NotCertified(fault),
         Err(Halt::Decision(line, fault)) => Status::Decision(line, fault),
         Err(Halt::Journal(index, stop)) => Status::Journal(index, stop),
+        Err(Halt::TooManyEvents(word, count)) => Status::TooManyEvents(word, count),
         Err(Halt::ReadFault) => Status::ReadFault,
         Err(Halt::WriteFault) => Status::WriteFault,
         Err(Halt::KeeperFault) => Status::KeeperFault,
@@ -106,6 +110,7 @@ impl fmt::Display for Status {
             Status::NotCertified(fault) => write!(f, "not certified {fault}"),
             Status::Decision(line, fault) => write!(f, "decision line {line} {fault}"),
             Status::Journal(index, stop) => write!(f, "journal {index} {stop}"),
+            Status::TooManyEvents(word, count) => write!(f, "too many events {word} {count}"),
             Status::ReadFault => f.write_str("read fault"),
             Status::WriteFault => f.write_str("write fault"),
             Status::KeeperFault => f.write_str("keeper fault"),

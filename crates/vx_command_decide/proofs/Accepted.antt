@@ -1,25 +1,25 @@
 -- Lines whose events are accepted or refused.
-use Rattle.std.proofs.Common.{◌≡◌, ◌⊎◌, inl, inr, ℕ, ◌+◌, true, false, List, [], ◌∷◌, ◌++◌, Option, Some, None, Result, Ok, Err, refl, sym, ap, subst, ◌∙◌}
+use Rattle.std.proofs.Common.{◌≡◌, ◌⊎◌, inl, inr, ℕ, ◌+◌, true, false, List, [], ◌∷◌, ◌++◌, Option, Some, None, MatchOption, Bor, Result, Ok, Err, refl, sym, subst, ◌∙◌}
 use Rattle.std.proofs.lemmas.Bool.{cond-true, cond-false}
 use Rattle.vx_election_model.specs.declared.election.Election.{Election}
 use Rattle.vx_events.specs.declared.event.Event.{Event}
 use Rattle.vx_refusals.specs.declared.decision.DecisionFault.TheVariants.{Refused}
 use Rattle.vx_refusals.specs.declared.reply.Reply.{Reply}
 use Rattle.vx_refusals.specs.declared.reply.Reply.TheVariants.{Done, Repeated, NoSheet, HeldBy, NotHeld, NotOnSheet, NotAnOption, OverSeats, StillMarginal, NoWriteIn, Full}
-use Rattle.vx_center.specs.Replies.{is_done, next_of, reply_of}
+use Rattle.vx_center.specs.Replies.{is_done, next_of}
 use Rattle.vx_records.specs.Records.{record_of}
 use Rattle.vx_command.specs.declared.halt.Halt.{Halt}
 use Rattle.vx_command.specs.declared.halt.Halt.TheVariants.{Decision, ReadFault, WriteFault, KeeperFault, NoMemory}
 use Rattle.vx_command.specs.Acts.{Act, Answer, Append, Write, Outcome, after, goes_on, work, writing}
 use Rattle.vx_command.specs.Devices.{writes_nothing}
-use Rattle.vx_command.specs.Done.{Taken, Held, BreaksAt, BreaksOff, IsWhole, IsDone, IsWritten, ComesTo}
+use Rattle.vx_command.specs.Done.{Taken, Held, BreaksAt, BreaksOff, IsWhole, IsDone, IsWritten}
 use Rattle.vx_command.specs.Laws.{ActLaws}
 use Rattle.vx_journal.specs.declared.journal.Journal.{Journal}
-use Rattle.vx_journal.specs.Keeping.{journal_with, keep_acts, reply_in}
+use Rattle.vx_journal.specs.Keeping.{keep_acts, reply_in}
 use Rattle.vx_journal.specs.Steps.{IsRecorded}
-use Rattle.vx_command_decide.specs.Script.{event_in}
+use Rattle.vx_script.specs.Script.{event_in, lines_of}
 use Rattle.vx_command_decide.specs.Lines.{Accepts, Decides, TakesLine, event_outcome}
-use Rattle.vx_command_decide.specs.Outcome.{accepted, done_line, line_acts, line_outcome, lines_outcome, said}
+use Rattle.vx_command_decide.specs.Outcome.{accepted, done_line, line_acts, lines_outcome, said}
 
 -- a reply that isn't Done is a refusal
 pub is_refusal : (reply : Reply) → (reply ≡ Done → ⊥) → is_done reply ≡ false
@@ -129,3 +129,8 @@ module _ (election : Election) (kept kept_now : List Event) (number : ℕ) (take
       let So : List Event → Type 0 = λ events. IsDone (lines_outcome election events (number + 1) lines) taken_now taken_then held_now held_then answer in
       decided.comes (λ event. lines_outcome election (kept ++ event ∷ []) (number + 1) lines) taken_then held_then answer (subst So decided.kept_is so)
   takes (b ∷ line) (Err cause) some decided = λ lines. decided (λ event. lines_outcome election (kept ++ event ∷ []) (number + 1) lines)
+
+-- the first line of a text, and some others
+pub front_line : (text line : List ℕ) (behind : Option (Bor (List ℕ))) → MatchOption behind (lines_of text ≡ line ∷ []) (λ rest. lines_of text ≡ line ∷ lines_of rest.now) → (lines : List (List ℕ)) × (lines_of text ≡ line ∷ lines)
+front_line text line None is = ([], is)
+front_line text line (Some rest) is = (lines_of rest.now, is)

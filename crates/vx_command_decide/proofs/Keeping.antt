@@ -6,26 +6,23 @@ use Rattle.std.proofs.lemmas.List.{append-nil}
 use Rattle.vx_io.specs.Outside.{Files}
 use Rattle.vx_election_model.specs.declared.election.Election.{Election}
 use Rattle.vx_events.specs.declared.event.Event.{Event}
-use Rattle.vx_events.specs.Fits.{Fits}
 use Rattle.vx_refusals.specs.declared.decision.DecisionFault.TheVariants.{Refused}
-use Rattle.vx_refusals.specs.declared.journal.JournalStop.{JournalStop}
 use Rattle.vx_refusals.specs.declared.reply.Reply.{Reply}
 use Rattle.vx_refusals.specs.declared.reply.Reply.TheVariants.{Done, Repeated, NoSheet, HeldBy, NotHeld, NotOnSheet, NotAnOption, OverSeats, StillMarginal, NoWriteIn, Full}
 use Rattle.vx_center.specs.Replies.{is_done, reply_of}
-use Rattle.vx_records.specs.Held.{IsHeld}
 use Rattle.vx_records.specs.Records.{header_of, record_of}
 use Rattle.vx_command.specs.declared.halt.Halt.{Halt}
 use Rattle.vx_command.specs.declared.halt.Halt.TheVariants.{Decision}
-use Rattle.vx_command.specs.Acts.{Act, Append, Outcome, after, goes_on, input_of, records_of, taking}
+use Rattle.vx_command.specs.Acts.{Act, Append, Outcome, after, goes_on, input_of, records_of}
 use Rattle.vx_command.specs.Elections.{election_in}
 use Rattle.vx_journal.specs.declared.journal.Journal.{Journal}
 use Rattle.vx_journal.specs.Keeping.{begin_acts, has_none, journal_in, journal_read}
 use Rattle.vx_journal.specs.Laws.{HeadersBeginJournals, IsBegun, IsJournal, JournalsGrow, StaysJournal}
 use Rattle.vx_journal.specs.Replay.{replay_of}
 use Rattle.vx_journal.specs.Steps.{once_read}
-use Rattle.vx_command_decide.specs.Outcome.{accepted, begun_outcome, decide_outcome, line_acts, lines_outcome, said, script_limit, script_outcome}
-use Rattle.vx_command_decide.specs.Script.{event_in, lines_of}
-use Rattle.vx_command_decide.proofs.Held.{said_held}
+use Rattle.vx_command_decide.specs.Outcome.{begun_outcome, decide_outcome, line_acts, lines_outcome, said, script_outcome}
+use Rattle.vx_script.specs.Script.{event_in, lines_of, script_limit}
+use Rattle.vx_script.specs.Laws.{SaidEventsAreHeld}
 
 is_ok_from : {A E : Type 0} (r : Result A E) (x : A) → r ≡ Ok x → IsOk r
 is_ok_from {A} {E} r x is = let Good : Result A E → Type 0 = λ some. IsOk some in subst Good (sym is) refl
@@ -59,7 +56,7 @@ said_is election kept number (Some found) event is =
     let all = accepted_is election kept number found event (is_done (reply_of election kept found)) refl is in
     (ap Some all.0, all.1)
 
-module _ (grow : JournalsGrow) (election : Election) where
+module _ (held : SaidEventsAreHeld) (grow : JournalsGrow) (election : Election) where
   goes_so : (given : Result Event Halt) (number : ℕ) (next : Event → Outcome) (records : List (List ℕ)) → IsJournal election records → ((event : Event) → given ≡ Ok event → StaysJournal election (records ++ record_of event ∷ []) (next event).acts) → StaysJournal election records (goes_on given (λ event. after (line_acts number event) (next event))).acts
   goes_so (Err cause) number next records now further = now
   goes_so (Ok event) number next records now further = (now, further event refl)
@@ -71,9 +68,9 @@ module _ (grow : JournalsGrow) (election : Election) where
       goes_so (said election kept number (event_in election (b ∷ line))) number (λ event. lines_outcome election (kept ++ event ∷ []) (number + 1) lines) records (begun_is election records kept begun)
       (λ event is.
       let found = said_is election kept number (event_in election (b ∷ line)) event is in
-      let held = said_held election (b ∷ line) event found.0 in
+      let has = held election (b ∷ line) event found.0 in
       lines_stay lines (number + 1) (kept ++ event ∷ []) (records ++ record_of event ∷ [])
-      (grow election records kept event begun held.1 held.0 found.1))
+      (grow election records kept event begun has.1 has.0 found.1))
 
   script_stays : (file : Option (List ℕ)) (given : Result (List ℕ) Halt) (kept : List Event) (records : List (List ℕ)) → IsBegun election records kept → StaysJournal election records (goes_on given (λ script. lines_outcome election kept 1 (lines_of script))).acts
   script_stays file (Err cause) kept records begun = begun_is election records kept begun
@@ -101,8 +98,8 @@ ok_is (Ok x) ok = (x, refl)
 ok_is (Err e) ok = absurd cc
 
 -- `decide` keeps a journal
-pub stays : JournalsGrow → HeadersBeginJournals → (name script : List ℕ) (files : Files) (records : List (List ℕ)) (election : Election) → election_in (files name) ≡ Ok election → IsJournal election records → StaysJournal election records (decide_outcome name script files records).acts
-stays grow heads name script files records election is journal =
+pub stays : SaidEventsAreHeld → JournalsGrow → HeadersBeginJournals → (name script : List ℕ) (files : Files) (records : List (List ℕ)) (election : Election) → election_in (files name) ≡ Ok election → IsJournal election records → StaysJournal election records (decide_outcome name script files records).acts
+stays held grow heads name script files records election is journal =
     let read = ok_is (replay_of election records) journal in
     let Stays : Result Election Halt → Type 0 = λ given. StaysJournal election records (goes_on given (λ some. once_read some records (begun_outcome some (files script)))).acts in
-    subst Stays (sym is) (read_stays grow election heads (files script) records read.0 read.1)
+    subst Stays (sym is) (read_stays held grow election heads (files script) records read.0 read.1)

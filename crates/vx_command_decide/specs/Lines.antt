@@ -1,8 +1,7 @@
 -- How far `decide` has come behind a line.
-use Rattle.std.specs.Prelude.{◌≡◌, ℕ, ◌+◌, List, [], ◌∷◌, ◌++◌, Result, Ok, Err}
+use Rattle.std.specs.Prelude.{◌≡◌, ℕ, ◌+◌, List, [], ◌∷◌, ◌++◌, Ok, Err}
 use Rattle.vx_election_model.specs.declared.election.Election.{Election}
 use Rattle.vx_events.specs.declared.event.Event.{Event}
-use Rattle.vx_command.specs.declared.halt.Halt.{Halt}
 use Rattle.vx_command.specs.Acts.{Answer, Outcome, after, goes_on}
 use Rattle.vx_command.specs.Done.{Taken, Held, IsDone, ComesTo}
 use Rattle.vx_command_decide.specs.Outcome.{accepted, line_acts, line_outcome, lines_outcome}

@@ -15,11 +15,7 @@ use Rattle.vx_command.specs.Elections.{once_election}
 use Rattle.vx_journal.specs.declared.journal.Journal.{Journal}
 use Rattle.vx_journal.specs.Keeping.{begin_acts}
 use Rattle.vx_journal.specs.Steps.{once_read}
-use Rattle.vx_command_decide.specs.Script.{event_in, lines_of}
-
--- the most bytes that a script may have
-abbrev pub script_limit : ℕ
-script_limit = 1048576
+use Rattle.vx_script.specs.Script.{event_in, lines_of, script_limit}
 
 -- `line L done`
 abbrev pub done_line : ℕ → List ℕ

@@ -13,9 +13,7 @@ use vx_command::{Halt, acts_in_order, steps_in_order, take_election, take_input}
 use vx_election_model::Election;
 use vx_io::{Inputs, Keeper, Sink};
 use vx_journal::{Journal, begin_journal, journals_in_order, read_journal};
-
-/// The most bytes that a script may have.
-pub const SCRIPT_LIMIT: u64 = 1_048_576;
+use vx_script::SCRIPT_LIMIT;
 
 /// Takes the script and does its lines.
 fn decide_script<I: Inputs, S: Sink, K: Keeper>(

@@ -2,18 +2,14 @@
 //! appended to the journal, and then its line is written; the first line that is refused ends the
 //! command, and all before it stands.
 //!
-//! What a line says stands in `specs/Script.antt`, what the command does as a whole in
+//! What a line says stands in `vx_script`, what the command does as a whole in
 //! `specs/Outcome.antt`. That the journal stays one whatever stands of the command is the law of
 //! `specs/Laws.antt`.
 #![tactic(auto)]
 
 mod deciding;
-mod events;
 mod laws;
 mod lines;
-mod numbers;
-mod verbs;
-mod words;
 
-pub use deciding::{SCRIPT_LIMIT, decide};
+pub use deciding::decide;
 pub use laws::decide_keeps_journals;

@@ -1,5 +1,4 @@
-ghost use Rattle.std.specs.Prelude.{◌≡◌, ◌∷◌, ◌++◌, ◌<◌, ◌≤◌, ◌==◌, [], IfSome, Bool, false, MatchOption, OnOk, length, string_bytes};
-ghost use Rattle.std.specs.List.{position_from};
+ghost use Rattle.std.specs.Prelude.{◌≡◌, ◌++◌, ◌≤◌, Bool, false, OnOk, length, string_bytes};
 ghost use Rattle.vx_election_model.specs.Valid.{IsValid};
 ghost use Rattle.vx_events.specs.Fits.{Fits};
 ghost use Rattle.vx_command.specs.Acts.{writing};
@@ -8,9 +7,8 @@ ghost use Rattle.vx_command.specs.Done.{IsDone, IsWritten};
 ghost use Rattle.vx_command_decide.specs.Lines.{Accepts, Decides, TakesLine};
 ghost use Rattle.vx_command_decide.specs.Outcome as outcome;
 ghost use Rattle.vx_command_decide.specs.Outcome.{lines_outcome};
-ghost use Rattle.vx_command_decide.specs.Script.{lines_of};
+ghost use Rattle.vx_script.specs.Script.{lines_of};
 
-use crate::events::event_of;
 use std::alloc::Global;
 use vx_base::OutOfMemory;
 use vx_command::{Halt, acts_in_order, write_text};
@@ -19,31 +17,7 @@ use vx_events::Event;
 use vx_io::{Keeper, Sink};
 use vx_journal::{Journal, keep_event};
 use vx_refusals::{DecisionFault, Reply};
-
-/// The place of the first line feed.
-fn line_feed(text: &[u8]) -> Option<usize>
-    ensures place { result ≡ position_from (λ b. b == 10) 0 text.now }
-    ensures within { IfSome result (λ at. at < length text.now) }
-{
-    for (at, byte) in text.iter().enumerate() {
-        if *byte == b'\n' {
-            return Some(at);
-        }
-    }
-    None
-}
-
-/// A line up to its line feed, and what lies behind that; all of it where there is none.
-fn first_line(text: &[u8]) -> (&[u8], Option<&[u8]>)
-    ensures lines { MatchOption result.1 (lines_of text.now ≡ result.0.now ∷ [])
-        (λ behind. lines_of text.now ≡ result.0.now ∷ lines_of behind.now) }
-    ensures shorter { MatchOption result.1 (result.0.now ≡ text.now) (λ behind. length behind.now < length text.now) }
-{
-    match line_feed(text) {
-        None => (text, None),
-        Some(at) => (&text[..at], Some(&text[at + 1..])),
-    }
-}
+use vx_script::{event_of, first_line};
 
 /// Adds what is written of a line that is done.
 fn push_done(text: &mut String, number: u32) -> Result<(), OutOfMemory>

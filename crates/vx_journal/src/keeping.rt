@@ -46,7 +46,7 @@ pub fn begin_journal<K: Keeper>(
 }
 
 /// Appends the record of an event.
-fn append_event<K: Keeper>(alloc: Global, keeper: &mut K, event: &Event) -> Result<(), Halt>
+pub fn append_event<K: Keeper>(alloc: Global, keeper: &mut K, event: &Event) -> Result<(), Halt>
     ensures done { IsRecorded (Append (record_of event.now) ∷ []) (K.held keeper.old) (K.held keeper.new) result }
     ensures keeper { TouchesKeeper (K.faults keeper.old) (K.faults keeper.new) result }
 {

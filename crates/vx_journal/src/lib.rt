@@ -18,7 +18,7 @@ mod replaying;
 
 pub use fault::ReplayFault;
 pub use journal::Journal;
-pub use keeping::{begin_journal, keep_event};
+pub use keeping::{append_event, begin_journal, keep_event};
 pub use laws::{headers_begin_journals, journals_grow, journals_in_order, journals_stay};
 pub use reading::read_journal;
 pub use replaying::replay;

@@ -1,6 +1,5 @@
-use Rattle.std.proofs.Common.{ℕ, List, subst, sym}
+use Rattle.std.proofs.Common.{subst}
 use Rattle.vx_command.specs.Done.{Held, IsDone}
-use Rattle.vx_journal.specs.Steps.{once_read}
 use Rattle.vx_command_decide.specs.Outcome.{begun_outcome}
 use Rattle.vx_command_decide.proofs.deciding.decide_for.Goals as goal
 

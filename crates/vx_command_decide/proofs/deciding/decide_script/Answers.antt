@@ -1,8 +1,8 @@
-use Rattle.std.proofs.Common.{ℕ, List, subst, ◌∙◌}
+use Rattle.std.proofs.Common.{ℕ, List, subst}
 use Rattle.vx_command.specs.Acts.{input_of}
 use Rattle.vx_command.specs.Done.{IsDone}
-use Rattle.vx_command_decide.specs.Outcome.{lines_outcome, script_limit}
-use Rattle.vx_command_decide.specs.Script.{lines_of}
+use Rattle.vx_command_decide.specs.Outcome.{lines_outcome}
+use Rattle.vx_script.specs.Script.{lines_of, script_limit}
 use Rattle.vx_command_decide.proofs.deciding.decide_script.Goals as goal
 
 pub returns-clause-done : goal.returns-clause-done

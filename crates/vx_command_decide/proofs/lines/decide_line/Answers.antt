@@ -1,4 +1,4 @@
-use Rattle.std.proofs.Common.{◌≡◌, ◌∙◌, Option, Some, List, sym, ap, subst}
+use Rattle.std.proofs.Common.{◌∙◌, Option, sym, subst}
 use Rattle.std.specs.Prelude.{IfSome}
 use Rattle.vx_events.specs.declared.event.Event.{Event}
 use Rattle.vx_election_model.specs.declared.election.Election.{Election}

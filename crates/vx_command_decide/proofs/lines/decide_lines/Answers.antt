@@ -1,9 +1,8 @@
-use Rattle.std.proofs.Common.{◌≡◌, ◌∙◌, ◌∷◌, List, ℕ, Err, sym, ap, subst}
+use Rattle.std.proofs.Common.{◌∙◌, List, ℕ, Err, sym, ap, subst}
 use Rattle.std.proofs.lemmas.Result.{err_from_is_err_and}
 use Rattle.vx_command.specs.Done.{IsDone}
 use Rattle.vx_command_decide.specs.Outcome.{lines_outcome}
-use Rattle.vx_command_decide.specs.Script.{lines_of}
-use Rattle.vx_command_decide.proofs.Split.{front_line}
+use Rattle.vx_command_decide.proofs.Accepted.{front_line}
 use Rattle.vx_command_decide.proofs.lines.decide_lines.Goals as goal
 
 pub returns-in_err-take_line-clause-done : goal.returns-in_err-take_line-clause-done

@@ -1,6 +1,6 @@
 use Rattle.std.proofs.Common.{◌≡◌, ◌≤◌, ◌+◌, length}
 use Rattle.vx_command.specs.Done.{ComesTo}
-use Rattle.vx_command_decide.specs.Script.{lines_of}
+use Rattle.vx_script.specs.Script.{lines_of}
 use Rattle.vx_command_decide.specs.Outcome.{lines_outcome}
 use Rattle.vx_command_decide.proofs.lines.decide_lines.Given as goal
 

@@ -1,0 +1,5 @@
+mod Found
+mod Held
+mod Numbered
+mod Split
+mod Worded
