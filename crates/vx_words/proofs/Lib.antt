@@ -1,3 +1,5 @@
+pub mod Centers
+pub mod ItemWords
 pub mod Made
 pub mod Moving
 pub mod OneSpelling

@@ -1,6 +1,6 @@
 -- Commands, made of the words behind their names.
-use Rattle.std.proofs.Common.{◌≡◌, ◌+◌, ◌≤◌, ◌<◌, ◌^◌, ℕ, Bool, true, false, List, [], ◌∷◌, length, map, drop, get_or, Some, None, refl, sym, ap, subst, ◌∙◌, arith}
-use Rattle.std.specs.Prelude.{◌≢◌, All, codes, is_some, slice_get}
+use Rattle.std.proofs.Common.{◌≡◌, ◌≤◌, ◌<◌, ◌^◌, ℕ, Bool, true, false, List, [], ◌∷◌, length, map, drop, get_or, Some, None, refl, sym, ap, ◌∙◌, arith}
+use Rattle.std.specs.Prelude.{◌≢◌, All, codes, is_some}
 use Rattle.std.specs.Borrow.{Bor}
 use Rattle.std.specs.Fmt.{decimal}
 use Rattle.std.proofs.lemmas.Bool.{false≢true}
@@ -10,17 +10,17 @@ use Rattle.vx_grid.specs.declared.kind.Kind.TheVariants.{Other}
 use Rattle.vx_grid.specs.Kinds.{kind_word}
 use Rattle.vx_events.specs.Fits.{is_batch}
 use Rattle.vx_words.specs.declared.command.Command.{Command}
-use Rattle.vx_words.specs.declared.command.Command.TheVariants.{Print, Read, Check, Count, Decide, Queue, Export, Demo}
+use Rattle.vx_words.specs.declared.command.Command.TheVariants.{Print, Read, Check, Count, Decide, Queue, Export, Demo, Center}
 use Rattle.vx_words.specs.Moments.{is_moment}
 use Rattle.vx_words.specs.Devices.{device_of}
 use Rattle.vx_words.specs.Words.{IsArgument, NoCommand, Spells}
-use Rattle.vx_words.proofs.Spellings.{check_spelled, count_spelled, decide_spelled, demo_spelled, export_spelled, no_device, no_sheets, no_workers, other_name, print_spelled, read_spelled}
+use Rattle.vx_words.proofs.Spellings.{check_spelled, count_spelled, decide_spelled, demo_spelled, export_spelled, no_sheets, no_workers, other_name, print_spelled, read_spelled}
 
 -- what the text past the end of a slice is
 abbrev pub nowhere : Bor (List ℕ)
 nowhere = record { ref_ptr = (0, 0); now = [] }
 
-abbrev shown : List (Bor (List ℕ)) → List (List ℕ)
+abbrev pub shown : List (Bor (List ℕ)) → List (List ℕ)
 shown words = map (λ (word : Bor (List ℕ)). word.now) words
 
 pub print_made :
@@ -129,6 +129,7 @@ exported behind (Count election batch workers scans) spelled = absurd (other_nam
 exported behind (Decide election script) spelled = absurd (other_name (codes "export" ∷ behind) (codes "export") (Decide election script) refl spelled (λ same. absurd (omega (arith, same))))
 exported behind (Queue election) spelled = absurd (other_name (codes "export" ∷ behind) (codes "export") (Queue election) refl spelled (λ same. absurd (omega (arith, same))))
 exported behind (Demo seed sheets) spelled = absurd (other_name (codes "export" ∷ behind) (codes "export") (Demo seed sheets) refl spelled (λ same. absurd (omega (arith, same))))
+exported behind (Center election moment named items) spelled = absurd (other_name (codes "export" ∷ behind) (codes "export") (Center election moment named items) refl spelled (λ same. absurd (omega (arith, same))))
 
 pub not_three : (words : List (Bor (List ℕ))) → (length words ≡ 3 → ⊥) → NoCommand (codes "export" ∷ shown words)
 not_three words other = λ command spelled.

@@ -1,6 +1,6 @@
 -- A command is the one that its words spell.
-use Rattle.std.proofs.Common.{◌≡◌, ◌==◌, ℕ, Bool, true, false, List, [], ◌∷◌, length, drop, get_or, Some, None, Option, refl, sym, ap, ◌∙◌, arith}
-use Rattle.std.specs.Prelude.{codes, if◌then◌else◌}
+use Rattle.std.proofs.Common.{◌≡◌, ◌==◌, ℕ, Bool, true, false, List, [], length, map, drop, get_or, Some, None, Option, refl, sym, ap, ◌∙◌, arith}
+use Rattle.std.specs.Prelude.{if◌then◌else◌}
 use Rattle.std.specs.Fmt.{decimal}
 use Rattle.std.specs.Str.Parse.{digits_value}
 use Rattle.std.proofs.lemmas.Fmt.{decimal_is_IsNumeral}
@@ -8,8 +8,11 @@ use Rattle.vx_grid.specs.declared.kind.Kind.{Kind}
 use Rattle.vx_grid.specs.declared.kind.Kind.TheVariants.{Precinct, Absentee, Provisional, Other}
 use Rattle.vx_grid.specs.Kinds.{kind_word}
 use Rattle.vx_words.specs.declared.command.Command.{Command}
-use Rattle.vx_words.specs.declared.command.Command.TheVariants.{Print, Read, Check, Count, Decide, Queue, Export, Demo}
+use Rattle.vx_words.specs.declared.command.Command.TheVariants.{Print, Read, Check, Count, Decide, Queue, Export, Demo, Center}
+use Rattle.vx_words.specs.declared.command.ItemWord.{ItemWord}
 use Rattle.vx_words.specs.Devices.{device_of}
+use Rattle.vx_words.specs.Items.{item_word}
+use Rattle.vx_words.proofs.ItemWords.{item_in, items_back}
 use Rattle.vx_words.specs.Words.{words_with, IsSound, WordsSpellOneCommand}
 
 -- whether a kind's word is for a test ballot, and which kind it names: by its first letter and size
@@ -54,7 +57,8 @@ command_at first second third words =
     else (if first == 113 then Queue (get_or words 1 [])
     else (if first == 101 then Export (get_or words 1 []) (get_or words 2 []) (known (device_of (get_or words 3 [])))
     else (if second == 104 then Check (get_or words 1 []) (get_or words 2 []) (get_or words 3 [])
-    else Count (get_or words 1 []) (get_or words 2 []) (digits_value 10 (get_or words 3 [])) (drop 4 words)))))))
+    else (if third == 110 then Center (get_or words 1 []) (get_or words 2 []) (known (device_of (get_or words 3 []))) (map item_in (drop 4 words))
+    else Count (get_or words 1 []) (get_or words 2 []) (digits_value 10 (get_or words 3 [])) (drop 4 words))))))))
 
 abbrev command_in : List (List ℕ) → Command
 command_in words =
@@ -77,6 +81,9 @@ command_back device (Export election moment named) sound = ap (λ (o : Option (L
 command_back device (Demo seed sheets) sound =
     ap (λ (n : ℕ). Demo n (digits_value 10 (decimal sheets))) (decimal_is_IsNumeral seed sound.seed_in_range).1
     ∙ ap (λ (n : ℕ). Demo seed n) (decimal_is_IsNumeral sheets (omega (arith, sound.few_sheets))).1
+command_back device (Center election moment named items) sound =
+    ap (λ (o : Option (List ℕ)). Center election moment (known o) (map item_in (map item_word items))) sound.as_export.is_named
+    ∙ ap (λ (are : List ItemWord). Center election moment named are) (items_back items sound.are_items.are_items)
 
 pub spelled_once : WordsSpellOneCommand
 spelled_once words a b first second =

@@ -1,14 +1,14 @@
 -- What `clap` answers, and the command that words spell.
-use Rattle.std.proofs.Common.{◌≡◌, ◌<◌, ◌≤◌, ◌^◌, ℕ, List, [], ◌∷◌, Option, Some, None, Result, Err, length, refl, sym, ap, subst, ◌∙◌, true, arith}
-use Rattle.std.specs.Prelude.{◌≢◌, All, codes, option_map, is_some, slice_get, unwrap_or}
+use Rattle.std.proofs.Common.{◌≡◌, ◌<◌, ◌^◌, List, [], ◌∷◌, Option, Some, None, Err, length, refl, sym, ap, ◌∙◌, true, arith}
+use Rattle.std.specs.Prelude.{◌≢◌, All, codes, is_some, unwrap_or}
 use Rattle.std.proofs.lemmas.Bool.{false≢true}
 use Rattle.std.proofs.lemmas.List.Elements.{All-head, All-tail}
-use Rattle.clap.specs.Words.{Row, Text, all_of, fault_of, subcommand_name_of, subcommand_of, subcommand_rows_of, takes}
+use Rattle.clap.specs.Words.{Text, all_of, fault_of, subcommand_of, subcommand_rows_of, takes}
 use Rattle.clap.specs.declared.parser.matches.ArgMatches.{ArgMatches}
 use Rattle.clap.specs.declared.error.kind.ErrorKind.{ErrorKind}
 use Rattle.clap.specs.declared.error.kind.ErrorKind.TheVariants as kind
 use Rattle.vx_words.specs.declared.command.Command.{Command}
-use Rattle.vx_words.specs.declared.command.Command.TheVariants.{Print, Read, Check, Count, Decide, Queue, Export, Demo}
+use Rattle.vx_words.specs.declared.command.Command.TheVariants.{Print, Read, Check, Count, Decide, Queue, Export, Demo, Center}
 use Rattle.vx_words.specs.declared.fault.UsageFault.{UsageFault}
 use Rattle.vx_words.specs.declared.fault.UsageFault.TheVariants.{Usage, OutOfMemory}
 use Rattle.vx_words.specs.Words.{IsArgument, Reads, Spells}
@@ -39,6 +39,7 @@ called_by_name (Decide election script) = refl
 called_by_name (Queue election) = refl
 called_by_name (Export election moment named) = refl
 called_by_name (Demo seed sheets) = refl
+called_by_name (Center election moment named items) = refl
 
 spelled_taken : (words : List Text) → All IsArgument words → length words < 2 ^ 32 → (command : Command) → Spells words command → takes line words ≡ true
 spelled_taken [] are few command spelled = absurd (omega (arith, two_words [] command spelled))

@@ -1,9 +1,8 @@
 -- Words and the commands that they spell.
-use Rattle.std.proofs.Common.{◌≡◌, ℕ, Bool, true, false, List, [], ◌∷◌, ◌+◌, ◌-◌, ◌^◌, ◌≤◌, ◌<◌, lit<, length, take, drop, get_or, Some, refl, sym, ap, subst, ◌∙◌, arith}
+use Rattle.std.proofs.Common.{◌≡◌, ℕ, Bool, true, false, List, [], ◌∷◌, ◌+◌, ◌^◌, ◌≤◌, ◌<◌, lit<, length, map, drop, get_or, Some, refl, sym, ap, subst, ◌∙◌, arith}
 use Rattle.std.specs.Prelude.{All, slice_get, codes}
-use Rattle.std.proofs.lemmas.Option.{slice_get_within, get_or_from_slice_get}
-use Rattle.std.proofs.lemmas.List.{get_or-drop, length-drop, take_all}
-use Rattle.std.proofs.lemmas.List.Elements.{All-head, All-tail, All-more}
+use Rattle.std.proofs.lemmas.List.{length-map}
+use Rattle.std.proofs.lemmas.List.Elements.{All-head, All-tail}
 use Rattle.std.proofs.lemmas.List.Elements.{All-cons, All-nil}
 use Rattle.std.proofs.lemmas.Bool.{false≢true}
 use Rattle.std.specs.Prelude.{◌≢◌, is_some, Option, None, Result, Ok, Err, IsErrAnd}
@@ -16,35 +15,16 @@ use Rattle.vx_grid.specs.declared.kind.Kind.{Kind}
 use Rattle.vx_grid.specs.declared.kind.Kind.TheVariants.{Precinct, Absentee, Provisional, Other}
 use Rattle.vx_grid.specs.Kinds.{kind_word}
 use Rattle.vx_words.specs.declared.command.Command.{Command}
-use Rattle.vx_words.specs.declared.command.Command.TheVariants.{Print, Read, Check, Count, Decide, Queue, Export, Demo}
+use Rattle.vx_words.specs.declared.command.Command.TheVariants.{Print, Read, Check, Count, Decide, Queue, Export, Demo, Center}
+use Rattle.vx_words.specs.declared.command.ItemWord.{ItemWord}
+use Rattle.vx_words.specs.declared.command.ItemWord.TheVariants.{Script, Scan}
 use Rattle.vx_words.specs.declared.fault.UsageFault.{UsageFault}
 use Rattle.vx_words.specs.declared.fault.UsageFault.TheVariants.{Usage, OutOfMemory}
 use Rattle.vx_events.specs.Fits.{is_batch}
 use Rattle.vx_words.specs.Moments.{is_moment}
 use Rattle.vx_words.specs.Devices.{device_of}
+use Rattle.vx_words.specs.Items.{item_word}
 use Rattle.vx_words.specs.Words.{words_with, HasName, IsArgument, IsSound, NoCommand, Parses, Spells}
-
--- one word more that is an argument
-pub one_argument : (words : List (List ℕ)) (from i : ℕ) (word : List ℕ) → from ≤ i → slice_get words i ≡ Some word → All IsArgument (take (i - from) (drop from words)) → IsArgument word → All IsArgument (take (i + 1 - from) (drop from words))
-one_argument words from i word some at before is =
-    let inside : i < length words = slice_get_within words i word at in
-    let place : from + (i - from) ≡ i = omega arith in
-    let next : i + 1 - from ≡ (i - from) + 1 = omega arith in
-    let here : get_or (drop from words) (i - from) [] ≡ word = get_or-drop from words (i - from) [] ∙ ap (λ n. get_or words n []) place ∙ get_or_from_slice_get words i word [] at in
-    rw next (All-more IsArgument (drop from words) (i - from) [] (omega (arith, length-drop from words)) before (subst IsArgument (sym here) is))
-
-pub argument_at : (words : List (List ℕ)) (from i : ℕ) (word : List ℕ) → from ≤ i → slice_get words i ≡ Some word → All IsArgument (drop from words) → IsArgument word
-argument_at words from i word some at are =
-    let inside : i < length words = slice_get_within words i word at in
-    let place : from + (i - from) ≡ i = omega arith in
-    let here : get_or (drop from words) (i - from) [] ≡ word = get_or-drop from words (i - from) [] ∙ ap (λ n. get_or words n []) place ∙ get_or_from_slice_get words i word [] at in
-    subst IsArgument here (are (i - from) [] (omega (arith, length-drop from words, inside)))
-
--- all words are arguments
-pub all_arguments : (words : List (List ℕ)) (from i : ℕ) → length words ≤ i → All IsArgument (take (i - from) (drop from words)) → All IsArgument (drop from words)
-all_arguments words from i past are =
-    let Are : List (List ℕ) → Type 0 = λ l. All IsArgument l in
-    subst Are (take_all (i - from) (drop from words) (omega (arith, length-drop from words))) are
 
 -- numbers and kinds may be arguments
 number_is_argument : (n : ℕ) → n < 2 ^ 64 → IsArgument (decimal n)
@@ -62,6 +42,15 @@ kind_is_argument Absentee false = record { some = lit< tt; no_option = λ is. ab
 kind_is_argument Provisional false = record { some = lit< tt; no_option = λ is. absurd (omega (arith, is)) }
 kind_is_argument Other false = record { some = lit< tt; no_option = λ is. absurd (omega (arith, is)) }
 
+-- and so may the words of items, as they begin with an `s`
+with_s : (rest : List ℕ) → IsArgument (115 ∷ rest)
+with_s rest = record { some = omega arith; no_option = λ is. absurd (omega (arith, is)) }
+
+items_are_arguments : (items : List ItemWord) → All IsArgument (map item_word items)
+items_are_arguments [] = All-nil IsArgument
+items_are_arguments (Script name ∷ items) = All-cons IsArgument (item_word (Script name)) (map item_word items) (with_s _) (items_are_arguments items)
+items_are_arguments (Scan batch name ∷ items) = All-cons IsArgument (item_word (Scan batch name)) (map item_word items) (with_s _) (items_are_arguments items)
+
 -- the name of a command, and how many words it has at least and at most
 abbrev pub name_of : Command → List ℕ
 name_of (Print election card kind test) = codes "print"
@@ -72,6 +61,7 @@ name_of (Decide election script) = codes "decide"
 name_of (Queue election) = codes "queue"
 name_of (Export election moment device) = codes "export"
 name_of (Demo seed sheets) = codes "demo"
+name_of (Center election moment device items) = codes "center"
 
 abbrev pub least_of : Command → ℕ
 least_of (Print election card kind test) = 4
@@ -82,10 +72,12 @@ least_of (Decide election script) = 3
 least_of (Queue election) = 2
 least_of (Export election moment device) = 4
 least_of (Demo seed sheets) = 3
+least_of (Center election moment device items) = 5
 
 abbrev pub most_of : Command → ℕ
 most_of (Read election scans) = 66
 most_of (Count election batch workers scans) = 68
+most_of (Center election moment device items) = 20
 most_of command = least_of command
 
 -- a command's words, its name behind them
@@ -136,6 +128,16 @@ named device (Demo seed sheets) sound = record {
   arguments = All-cons IsArgument (decimal seed) (decimal sheets ∷ []) (number_is_argument seed sound.seed_in_range)
       (All-cons IsArgument (decimal sheets) [] (number_is_argument sheets (omega (arith, sound.few_sheets))) (All-nil IsArgument));
 }
+named device (Center election moment known items) sound =
+    let size : length (map item_word items) ≡ length items = length-map items item_word in
+    record {
+      first = refl;
+      enough = omega (arith, size, sound.are_items.some);
+      no_more = omega (arith, size, sound.are_items.few);
+      arguments = All-cons IsArgument election (moment ∷ device ∷ map item_word items) sound.as_export.is_argument
+          (All-cons IsArgument moment (device ∷ map item_word items) sound.as_export.moment_is_argument
+          (All-cons IsArgument device (map item_word items) sound.as_export.device_is_argument (items_are_arguments items)));
+    }
 
 pub spelled_named : (words : List (List ℕ)) (command : Command) → Spells words command → HasName words (name_of command) (least_of command) (most_of command)
 spelled_named words command spelled =
@@ -267,15 +269,17 @@ there (Some x) not_none = (x, refl)
 pub no_command :
     (words : List (List ℕ)) → (HasName words (codes "print") 4 4 → ⊥) → (HasName words (codes "read") 3 66 → ⊥)
     → (HasName words (codes "check") 4 4 → ⊥) → (HasName words (codes "count") 5 68 → ⊥) → (HasName words (codes "decide") 3 3 → ⊥)
-    → (HasName words (codes "queue") 2 2 → ⊥) → (HasName words (codes "export") 4 4 → ⊥) → (HasName words (codes "demo") 3 3 → ⊥) → NoCommand words
-no_command words print read check count decide queue export demo (Print election card kind test) spelled = print (spelled_named words (Print election card kind test) spelled)
-no_command words print read check count decide queue export demo (Read election scans) spelled = read (spelled_named words (Read election scans) spelled)
-no_command words print read check count decide queue export demo (Check election scans readings) spelled = check (spelled_named words (Check election scans readings) spelled)
-no_command words print read check count decide queue export demo (Count election batch workers scans) spelled = count (spelled_named words (Count election batch workers scans) spelled)
-no_command words print read check count decide queue export demo (Decide election script) spelled = decide (spelled_named words (Decide election script) spelled)
-no_command words print read check count decide queue export demo (Queue election) spelled = queue (spelled_named words (Queue election) spelled)
-no_command words print read check count decide queue export demo (Export election moment device) spelled = export (spelled_named words (Export election moment device) spelled)
-no_command words print read check count decide queue export demo (Demo seed sheets) spelled = demo (spelled_named words (Demo seed sheets) spelled)
+    → (HasName words (codes "queue") 2 2 → ⊥) → (HasName words (codes "export") 4 4 → ⊥) → (HasName words (codes "demo") 3 3 → ⊥)
+    → (HasName words (codes "center") 5 20 → ⊥) → NoCommand words
+no_command words print read check count decide queue export demo center (Print election card kind test) spelled = print (spelled_named words (Print election card kind test) spelled)
+no_command words print read check count decide queue export demo center (Read election scans) spelled = read (spelled_named words (Read election scans) spelled)
+no_command words print read check count decide queue export demo center (Check election scans readings) spelled = check (spelled_named words (Check election scans readings) spelled)
+no_command words print read check count decide queue export demo center (Count election batch workers scans) spelled = count (spelled_named words (Count election batch workers scans) spelled)
+no_command words print read check count decide queue export demo center (Decide election script) spelled = decide (spelled_named words (Decide election script) spelled)
+no_command words print read check count decide queue export demo center (Queue election) spelled = queue (spelled_named words (Queue election) spelled)
+no_command words print read check count decide queue export demo center (Export election moment device) spelled = export (spelled_named words (Export election moment device) spelled)
+no_command words print read check count decide queue export demo center (Demo seed sheets) spelled = demo (spelled_named words (Demo seed sheets) spelled)
+no_command words print read check count decide queue export demo center (Center election moment device items) spelled = center (spelled_named words (Center election moment device items) spelled)
 
 -- no other command is named so
 pub other_name : (words : List (List ℕ)) (called : List ℕ) (command : Command) → slice_get words 0 ≡ Some called → Spells words command → (get_or (name_of command) 1 0 ≡ get_or called 1 0 → ⊥) → ⊥
@@ -298,12 +302,13 @@ no_workers words word workers first at_3 is none (Decide election script) spelle
 no_workers words word workers first at_3 is none (Queue election) spelled = other_name words (codes "count") (Queue election) first spelled (λ same. absurd (omega (arith, same)))
 no_workers words word workers first at_3 is none (Export election moment device) spelled = other_name words (codes "count") (Export election moment device) first spelled (λ same. absurd (omega (arith, same)))
 no_workers words word workers first at_3 is none (Demo seed sheets) spelled = other_name words (codes "count") (Demo seed sheets) first spelled (λ same. absurd (omega (arith, same)))
+no_workers words word workers first at_3 is none (Center election moment device items) spelled = other_name words (codes "count") (Center election moment device items) first spelled (λ same. absurd (omega (arith, same)))
 
 -- no other command's name has that third letter
-other_third : (words : List (List ℕ)) (command : Command) → slice_get words 0 ≡ Some (codes "demo") → Spells words command → (get_or (name_of command) 2 0 ≡ 109 → ⊥) → ⊥
-other_third words command first spelled differs =
+pub other_third : (words : List (List ℕ)) (called : List ℕ) (command : Command) → slice_get words 0 ≡ Some called → Spells words command → (get_or (name_of command) 2 0 ≡ get_or called 2 0 → ⊥) → ⊥
+other_third words called command first spelled differs =
     let own : slice_get words 0 ≡ Some (name_of command) = (spelled_named words command spelled).first in
-    let same : name_of command ≡ codes "demo" = cc in
+    let same : name_of command ≡ called = cc in
     differs (ap (λ (name : List ℕ). get_or name 2 0) same)
 
 -- the word of no sheets is no number of sheets
@@ -313,13 +318,14 @@ no_sheets words word sheets first at_2 is none (Demo seed others) spelled =
     let same : decimal sheets ≡ decimal others = cc in
     let equal : sheets ≡ others = sym (decimal_is_IsNumeral sheets (omega (arith, none))).1 ∙ ap (digits_value 10) same ∙ (decimal_is_IsNumeral others (omega (arith, spelled.sound.few_sheets))).1 in
     omega (arith, equal, none, spelled.sound.some_sheet)
-no_sheets words word sheets first at_2 is none (Print election card kind test) spelled = other_third words (Print election card kind test) first spelled (λ same. absurd (omega (arith, same)))
-no_sheets words word sheets first at_2 is none (Read election scans) spelled = other_third words (Read election scans) first spelled (λ same. absurd (omega (arith, same)))
-no_sheets words word sheets first at_2 is none (Check election scans readings) spelled = other_third words (Check election scans readings) first spelled (λ same. absurd (omega (arith, same)))
-no_sheets words word sheets first at_2 is none (Count election batch workers scans) spelled = other_third words (Count election batch workers scans) first spelled (λ same. absurd (omega (arith, same)))
-no_sheets words word sheets first at_2 is none (Decide election script) spelled = other_third words (Decide election script) first spelled (λ same. absurd (omega (arith, same)))
-no_sheets words word sheets first at_2 is none (Queue election) spelled = other_third words (Queue election) first spelled (λ same. absurd (omega (arith, same)))
-no_sheets words word sheets first at_2 is none (Export election moment named) spelled = other_third words (Export election moment named) first spelled (λ same. absurd (omega (arith, same)))
+no_sheets words word sheets first at_2 is none (Print election card kind test) spelled = other_third words (codes "demo") (Print election card kind test) first spelled (λ same. absurd (omega (arith, same)))
+no_sheets words word sheets first at_2 is none (Read election scans) spelled = other_third words (codes "demo") (Read election scans) first spelled (λ same. absurd (omega (arith, same)))
+no_sheets words word sheets first at_2 is none (Check election scans readings) spelled = other_third words (codes "demo") (Check election scans readings) first spelled (λ same. absurd (omega (arith, same)))
+no_sheets words word sheets first at_2 is none (Count election batch workers scans) spelled = other_third words (codes "demo") (Count election batch workers scans) first spelled (λ same. absurd (omega (arith, same)))
+no_sheets words word sheets first at_2 is none (Decide election script) spelled = other_third words (codes "demo") (Decide election script) first spelled (λ same. absurd (omega (arith, same)))
+no_sheets words word sheets first at_2 is none (Queue election) spelled = other_third words (codes "demo") (Queue election) first spelled (λ same. absurd (omega (arith, same)))
+no_sheets words word sheets first at_2 is none (Export election moment named) spelled = other_third words (codes "demo") (Export election moment named) first spelled (λ same. absurd (omega (arith, same)))
+no_sheets words word sheets first at_2 is none (Center election moment named items) spelled = other_third words (codes "demo") (Center election moment named items) first spelled (λ same. absurd (omega (arith, same)))
 
 -- the words of a demo
 pub demo_spelled :
@@ -349,6 +355,7 @@ no_device words word called at_3 none (Count election batch workers scans) spell
 no_device words word called at_3 none (Decide election script) spelled = other_name words (codes "export") (Decide election script) called.first spelled (λ same. absurd (omega (arith, same)))
 no_device words word called at_3 none (Queue election) spelled = other_name words (codes "export") (Queue election) called.first spelled (λ same. absurd (omega (arith, same)))
 no_device words word called at_3 none (Demo seed sheets) spelled = other_name words (codes "export") (Demo seed sheets) called.first spelled (λ same. absurd (omega (arith, same)))
+no_device words word called at_3 none (Center election moment named items) spelled = other_name words (codes "export") (Center election moment named items) called.first spelled (λ same. absurd (omega (arith, same)))
 
 -- a word that names a device
 pub some_device : (word : List ℕ) → is_some (device_of word) ≡ true → (named : List ℕ) × (device_of word ≡ Some named)
@@ -364,6 +371,7 @@ name_is_argument (Decide election script) = record { some = lit< tt; no_option =
 name_is_argument (Queue election) = record { some = lit< tt; no_option = λ is. absurd (omega (arith, is)) }
 name_is_argument (Export election moment named) = record { some = lit< tt; no_option = λ is. absurd (omega (arith, is)) }
 name_is_argument (Demo seed sheets) = record { some = lit< tt; no_option = λ is. absurd (omega (arith, is)) }
+name_is_argument (Center election moment device items) = record { some = lit< tt; no_option = λ is. absurd (omega (arith, is)) }
 
 with_name : (words : List (List ℕ)) (name : List ℕ) → slice_get words 0 ≡ Some name → IsArgument name → All IsArgument (drop 1 words) → All IsArgument words
 with_name [] name first is are = All-nil IsArgument
@@ -391,3 +399,4 @@ two_words words command spelled = enough command (spelled_named words command sp
     enough (Queue election) are = omega (arith, are)
     enough (Export election moment named) are = omega (arith, are)
     enough (Demo seed sheets) are = omega (arith, are)
+    enough (Center election moment named items) are = omega (arith, are)

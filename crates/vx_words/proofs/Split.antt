@@ -1,10 +1,10 @@
 -- How `clap` splits words of which none begins with a hyphen.
-use Rattle.std.proofs.Common.{◌^◌, ◌≡◌, ◌++◌, ◌==◌, ◌&&◌, ◌||◌, ◌<◌, ◌≤◌, ℕ, Bool, true, false, List, [], ◌∷◌, Option, Some, None, length, map, refl, sym, ap, ◌∙◌, arith, append_assoc, append-nil, inl, inr}
-use Rattle.std.specs.Prelude.{All, codes, find, fold, unwrap_or, is_some, not, if◌then◌else◌, option_map, slice_index, ◌≢◌}
+use Rattle.std.proofs.Common.{◌^◌, ◌≡◌, ◌++◌, ◌==◌, ◌<◌, ℕ, Bool, true, false, List, [], ◌∷◌, Option, Some, None, length, map, refl, sym, ap, ◌∙◌, arith, append_assoc, append-nil, inl, inr}
+use Rattle.std.specs.Prelude.{All, codes, find, fold, unwrap_or, is_some, not, if◌then◌else◌, option_map, ◌≢◌}
 use Rattle.std.specs.Str.{bytes_eq}
-use Rattle.std.proofs.lemmas.Bool.{eqb-true, eqb-false, cases_Bool, le-leb}
+use Rattle.std.proofs.lemmas.Bool.{eqb-true, cases_Bool, le-leb}
 use Rattle.clap.specs.Lexer.{long_of, short_of, strip_byte, usize_max}
-use Rattle.clap.specs.Words.{App, Rule, Shape, Text, Row}
+use Rattle.clap.specs.Words.{App, Rule, Shape, Text}
 use Rattle.clap.specs.Walk.{Held, Names, Walk, positional, idle, walk, walk_from, walked, nothing_held, answers_to}
 use Rattle.clap.specs.declared.builder.action.ArgAction.TheVariants.{Append}
 use Rattle.clap.specs.declared.builder.value_parser.ValueParser.TheVariants as vp
@@ -19,11 +19,9 @@ use Rattle.std.proofs.lemmas.Slice.Eq.{bytes_eq-Decides}
 use Rattle.std.proofs.lemmas.Bool.{or_from, or_right, false≢true}
 use Rattle.clap.specs.Words.{is_simple_and_free}
 use Rattle.clap.specs.Takes.{turn_passes, walk_passes, values_pass, use_passes, level_passes}
-use Rattle.clap.specs.declared.parser.matches.ValueSource.TheVariants.{CommandLine}
-use Rattle.clap.specs.declared.builder.value_parser.Reading.TheVariants.{AsWritten}
 use Rattle.std.proofs.lemmas.List.Elements.{All-head, All-tail}
 use Rattle.vx_words.specs.Words.{IsArgument}
-use Rattle.vx_words.specs.Line.{arguments, form, found_row, line, names, rows_for}
+use Rattle.vx_words.specs.Line.{arguments, form, line, names, rows_for}
 
 -- ---- a word that may be an argument is no flag
 
@@ -247,7 +245,7 @@ abbrev pub and_form : App → Text → App
 and_form made name = with_subcommand made (form name)
 
 pub grown :
-    and_form (and_form (and_form (and_form (and_form (and_form (and_form (and_form start (codes "print")) (codes "read")) (codes "check")) (codes "count")) (codes "decide")) (codes "queue")) (codes "export")) (codes "demo")
+    and_form (and_form (and_form (and_form (and_form (and_form (and_form (and_form (and_form start (codes "print")) (codes "read")) (codes "check")) (codes "count")) (codes "decide")) (codes "queue")) (codes "export")) (codes "demo")) (codes "center")
     ≡ line
 unfolding line
 grown = refl

@@ -2,3 +2,4 @@ pub mod Moments
 pub mod Devices
 pub mod Words
 pub mod Line
+pub mod Items

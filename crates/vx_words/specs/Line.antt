@@ -10,7 +10,7 @@ use Rattle.vx_words.specs.Words.{IsArgument}
 
 -- the names of the commands
 abbrev pub names : List Text
-names = codes "print" ∷ codes "read" ∷ codes "check" ∷ codes "count" ∷ codes "decide" ∷ codes "queue" ∷ codes "export" ∷ codes "demo" ∷ []
+names = codes "print" ∷ codes "read" ∷ codes "check" ∷ codes "count" ∷ codes "decide" ∷ codes "queue" ∷ codes "export" ∷ codes "demo" ∷ codes "center" ∷ []
 
 -- what stands behind a name: one word or more, which `clap` only counts
 abbrev pub arguments : Rule

@@ -1,16 +1,18 @@
 -- Which words are which command: this program's own positions and spellings.
-use Rattle.std.specs.Prelude.{⊤, Bool, false, ◌≡◌, ◌≢◌, ◌≤◌, ◌<◌, ◌^◌, All, ℕ, List, ◌∷◌, [], length, slice_index, true, codes, Some, slice_get, Result, Ok, Err, drop}
+use Rattle.std.specs.Prelude.{⊤, Bool, false, ◌≡◌, ◌≢◌, ◌≤◌, ◌<◌, ◌^◌, All, ℕ, List, ◌∷◌, [], length, map, slice_index, true, codes, Some, slice_get, Result, Ok, Err, drop}
 use Rattle.std.specs.Fmt.{decimal}
 use Rattle.vx_grid.specs.declared.kind.Kind.{Kind}
 use Rattle.vx_grid.specs.declared.kind.Kind.TheVariants.{Other}
 use Rattle.vx_grid.specs.Kinds.{kind_word}
 use Rattle.vx_events.specs.Fits.{is_batch}
 use Rattle.vx_words.specs.declared.command.Command.{Command}
-use Rattle.vx_words.specs.declared.command.Command.TheVariants.{Print, Read, Check, Count, Decide, Queue, Export, Demo}
+use Rattle.vx_words.specs.declared.command.Command.TheVariants.{Print, Read, Check, Count, Decide, Queue, Export, Demo, Center}
+use Rattle.vx_words.specs.declared.command.ItemWord.{ItemWord}
 use Rattle.vx_words.specs.declared.fault.UsageFault.{UsageFault}
 use Rattle.vx_words.specs.declared.fault.UsageFault.TheVariants.{Usage, OutOfMemory}
 use Rattle.vx_words.specs.Moments.{is_moment}
 use Rattle.vx_words.specs.Devices.{device_of}
+use Rattle.vx_words.specs.Items.{AreItemWords, item_word}
 
 -- the words of a command, where the word that names its device is this one
 abbrev pub words_with : List ℕ → Command → List (List ℕ)
@@ -23,6 +25,7 @@ words_with device (Decide election script) = codes "decide" ∷ election ∷ scr
 words_with device (Queue election) = codes "queue" ∷ election ∷ []
 words_with device (Export election moment named) = codes "export" ∷ election ∷ moment ∷ device ∷ []
 words_with device (Demo seed sheets) = codes "demo" ∷ decimal seed ∷ decimal sheets ∷ []
+words_with device (Center election moment named items) = codes "center" ∷ election ∷ moment ∷ device ∷ map item_word items
 
 -- a word that may be an argument: it isn't empty and doesn't begin with `-`
 pub record IsArgument (word : List ℕ) : Type 0 where
@@ -68,6 +71,11 @@ pub record IsSoundDemo (seed sheets : ℕ) : Type 0 where
   pub some_sheet : 1 ≤ sheets
   pub few_sheets : sheets ≤ 1000
 
+-- the same, and 1 to 16 items
+pub record IsSoundCenter (election moment device named : List ℕ) (items : List ItemWord) : Type 0 where
+  pub as_export : IsSoundExport election moment device named
+  pub are_items : AreItemWords items
+
 -- the parts of a command are in their ranges
 abbrev pub IsSound : List ℕ → Command → Type 0
 IsSound device (Print election card kind test) = IsSoundPrint election card kind
@@ -78,6 +86,7 @@ IsSound device (Decide election script) = All IsArgument (election ∷ script �
 IsSound device (Queue election) = IsArgument election
 IsSound device (Export election moment named) = IsSoundExport election moment device named
 IsSound device (Demo seed sheets) = IsSoundDemo seed sheets
+IsSound device (Center election moment named items) = IsSoundCenter election moment device named items
 
 -- The words are this command. It has one spelling, but for the word that names a device, which has several.
 pub record Spells (words : List (List ℕ)) (command : Command) : Type 0 where

@@ -1,3 +1,4 @@
+use vx_base::ListOf;
 use vx_grid::Kind;
 use vx_json::{Text, Texts};
 
@@ -55,4 +56,26 @@ pub enum Command {
         /// How many sheets, from 1 to 1000.
         sheets: u32,
     },
+    /// Do items side by side at one shared center, and write the report.
+    Center {
+        election: Text,
+        /// `YYYY-MM-DDTHH:MM:SSZ`, as it was given.
+        moment: Text,
+        /// A UUID in lower case, with hyphens.
+        device: Text,
+        /// From 1 to 16.
+        items: ItemWords,
+    },
 }
+
+/// An item of a count, as a word names it.
+#[derive(Debug, Drop)]
+pub enum ItemWord {
+    /// A station's script, by its name: `script:NAME`.
+    Script { name: Text },
+    /// A scan, as a batch: `scan:BATCH:NAME`.
+    Scan { batch: Text, name: Text },
+}
+
+/// Items, in order.
+pub type ItemWords = ListOf<ItemWord>;

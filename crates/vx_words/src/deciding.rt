@@ -4,6 +4,7 @@ ghost use Rattle.std.specs.Prelude.{◌≡◌, codes};
 ghost use Rattle.vx_words.specs.Words.{Decides, HasName};
 
 use crate::arguments::has_name;
+use crate::items::are_items;
 use crate::kinds::kind_and_test;
 use crate::moment::{is_device, is_moment};
 use crate::seed::read_seed;
@@ -69,6 +70,19 @@ fn is_demo(words: &Words) -> bool
     true
 }
 
+fn is_center(words: &Words) -> bool
+    requires { HasName words.now (codes "center") 5 20 }
+    ensures { Decides words.now result }
+{
+    if !is_moment(words.word(2)) {
+        return false;
+    }
+    if !is_device(words.word(3)) {
+        return false;
+    }
+    are_items(words, 4)
+}
+
 /// Whether the words spell a command. It takes no memory.
 pub fn is_command(words: &Words) -> bool
     ensures { Decides words.now result }
@@ -96,6 +110,9 @@ pub fn is_command(words: &Words) -> bool
     }
     if has_name(words, "demo", 3, 3) {
         return is_demo(words);
+    }
+    if has_name(words, "center", 5, 20) {
+        return is_center(words);
     }
     false
 }

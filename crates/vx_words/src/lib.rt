@@ -1,15 +1,17 @@
 //! The words of a command line: which command they spell, by position and spelling.
 //!
 //! Which words are which command stands in `specs/Words.antt`, one line a command; moments in
-//! `specs/Moments.antt`, devices in `specs/Devices.antt`. `parse` answers Usage exactly where the
-//! words are no command. The words are split by `clap`: its command line stands in `line.rt` and
-//! `specs/Line.antt`, and each command is made of the words behind its name in `making.rt`.
+//! `specs/Moments.antt`, devices in `specs/Devices.antt`, items in `specs/Items.antt`. `parse` answers
+//! Usage exactly where the words are no command. The words are split by `clap`: its command line stands
+//! in `line.rt` and `specs/Line.antt`, and each command is made of the words behind its name in
+//! `making.rt`.
 #![tactic(auto)]
 
 mod arguments;
 mod command;
 mod deciding;
 mod fault;
+mod items;
 mod kinds;
 mod laws;
 mod line;
@@ -19,7 +21,7 @@ mod parsing;
 mod reading;
 mod seed;
 
-pub use command::Command;
+pub use command::{Command, ItemWord, ItemWords};
 pub use fault::UsageFault;
 pub use laws::words_spell_one_command;
 pub use parsing::parse;

@@ -40,5 +40,6 @@ pub fn command_line<'a>(alloc: Global) -> Result<Command<'a>, AllocError>
     let line = with_form(alloc, line, "decide")?;
     let line = with_form(alloc, line, "queue")?;
     let line = with_form(alloc, line, "export")?;
-    with_form(alloc, line, "demo")
+    let line = with_form(alloc, line, "demo")?;
+    with_form(alloc, line, "center")
 }

@@ -6,6 +6,7 @@ ghost use Rattle.vx_words.specs.Words.{IsArgument, Reads};
 use crate::arguments::texts_from;
 use crate::command::Command;
 use crate::fault::UsageFault;
+use crate::items::items_from;
 use crate::kinds::kind_and_test;
 use crate::moment::{device_of, is_moment};
 use crate::seed::read_seed;
@@ -164,6 +165,31 @@ fn demo_of(arguments: &[&str]) -> Result<Command, UsageFault>
     Ok(Command::Demo { seed, sheets })
 }
 
+/// `center ELECTION MOMENT DEVICE ITEMS`.
+fn center_of(alloc: Global, arguments: &[&str]) -> Result<Command, UsageFault>
+    requires { All IsArgument (map (λ word. word.now) arguments.now) }
+    ensures { Reads (codes "center" ∷ map (λ word. word.now) arguments.now) result }
+{
+    if arguments.len() < 4 || arguments.len() > 19 {
+        return Err(UsageFault::Usage);
+    }
+    if !is_moment(arguments[1]) {
+        return Err(UsageFault::Usage);
+    }
+    let Some(device) = device_of(alloc, arguments[2])? else {
+        return Err(UsageFault::Usage);
+    };
+    let items = items_from(alloc, arguments, 3)?;
+    let election = Text::from_str(alloc, arguments[0])?;
+    let moment = Text::from_str(alloc, arguments[1])?;
+    Ok(Command::Center {
+        election,
+        moment,
+        device,
+        items,
+    })
+}
+
 /// The command with a name, of the words behind it.
 pub fn command_of(alloc: Global, name: &str, arguments: &[&str]) -> Result<Command, UsageFault>
     requires { All IsArgument (map (λ word. word.now) arguments.now) }
@@ -192,6 +218,9 @@ pub fn command_of(alloc: Global, name: &str, arguments: &[&str]) -> Result<Comma
     }
     if name == "demo" {
         return demo_of(arguments);
+    }
+    if name == "center" {
+        return center_of(alloc, arguments);
     }
     Err(UsageFault::Usage)
 }

@@ -1,18 +1,19 @@
 use Rattle.std.proofs.Common.{arith, rules}
 use Rattle.std.proofs.lemmas.Bool.{false≢true}
-use Rattle.vx_words.proofs.Spellings.{argument_at, one_argument, all_arguments}
+use Rattle.vx_words.specs.Words.{IsArgument}
+use Rattle.vx_words.proofs.Moving.{all_of_them, one_more, one_of_them}
 use Rattle.vx_words.proofs.arguments.are_arguments.Goals as goal
 
 pub loop-index-preserved : goal.loop-index-preserved
-loop-index-preserved c = (one_argument c.args.words.now c.args.from c.loop-index.index c.word.result.now c.loop-index.invariant.1 c.word.ensures c.loop-index.invariant.0 (c.is_argument.ensures.0 c.if-not-is_argument.false), omega (arith, c.loop-index.invariant.1))
+loop-index-preserved c = (one_more IsArgument c.args.words.now c.args.from c.loop-index.index c.word.result.now c.loop-index.invariant.1 c.word.ensures c.loop-index.invariant.0 (c.is_argument.ensures.0 c.if-not-is_argument.false), omega (arith, c.loop-index.invariant.1))
 
 pub returns : goal.returns
-returns c = (λ is. all_arguments c.args.words.now c.args.from c.loop-index.index (omega arith) c.loop-index.invariant.0, λ are. search rules)
+returns c = (λ is. all_of_them IsArgument c.args.words.now c.args.from c.loop-index.index (omega arith) c.loop-index.invariant.0, λ are. search rules)
 
 pub returns-then-not-is_argument : goal.returns-then-not-is_argument
 returns-then-not-is_argument c = (
   λ is. absurd (false≢true is),
   λ are.
-      let good = argument_at c.args.words.now c.args.from c.loop-index.index c.word.result.now c.loop-index.invariant.1 c.word.ensures are in
+      let good = one_of_them IsArgument c.args.words.now c.args.from c.loop-index.index c.word.result.now c.loop-index.invariant.1 c.word.ensures are in
       let told = c.is_argument.ensures.1 good in search rules,
 )

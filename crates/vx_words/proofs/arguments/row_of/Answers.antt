@@ -1,4 +1,4 @@
-use Rattle.std.proofs.Common.{◌≡◌, [], ◌∷◌, ◌++◌, List, ℕ, drop, map, ap, ◌∙◌}
+use Rattle.std.proofs.Common.{◌≡◌, [], ◌∷◌, ◌++◌, List, ℕ, map, ap, ◌∙◌}
 use Rattle.vx_words.proofs.Moving.{one_moved, map_more}
 use Rattle.vx_words.proofs.arguments.row_of.Goals as goal
 

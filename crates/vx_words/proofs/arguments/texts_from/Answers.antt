@@ -1,4 +1,4 @@
-use Rattle.std.proofs.Common.{◌≡◌, [], ◌∷◌, ◌++◌, List, ℕ, drop, map, ap, ◌∙◌, arith}
+use Rattle.std.proofs.Common.{[], ◌∷◌, ◌++◌, List, ℕ, drop, map, ap, ◌∙◌, arith}
 use Rattle.vx_words.proofs.Moving.{one_moved, got}
 use Rattle.vx_words.proofs.arguments.texts_from.Goals as goal
 

@@ -1,4 +1,4 @@
-use Rattle.std.proofs.Common.{◌≡◌, ◌≤◌, ◌++◌, drop, map}
+use Rattle.std.proofs.Common.{◌≡◌, ◌++◌, drop, map}
 use Rattle.vx_words.proofs.arguments.texts_from.Given as goal
 
 abbrev pub invariant-loop-index : goal.invariant-loop-index

@@ -15,4 +15,4 @@ pub returns-then-has_name-7 : goal.returns-then-has_name-7
 returns-then-has_name-7 c = (_, queue_spelled c.args.words.now (search rules))
 
 pub returns : goal.returns
-returns c = no_command c.args.words.now (λ called. search rules) (λ called. search rules) (λ called. search rules) (λ called. search rules) (λ called. search rules) (λ called. search rules) (λ called. search rules) (λ called. search rules)
+returns c = no_command c.args.words.now (λ called. search rules) (λ called. search rules) (λ called. search rules) (λ called. search rules) (λ called. search rules) (λ called. search rules) (λ called. search rules) (λ called. search rules) (λ called. search rules)

@@ -22,4 +22,5 @@ returns c =
     let five = c.in_ok-line-5.ensures ∙ ap (with (codes "decide")) four in
     let six = c.in_ok-line-6.ensures ∙ ap (with (codes "queue")) five in
     let seven = c.in_ok-line-7.ensures ∙ ap (with (codes "export")) six in
-    IfOk-weaker c.with_form-8.result _ _ (λ made is. is ∙ ap (with (codes "demo")) seven ∙ grown) c.with_form-8.ensures
+    let eight = c.in_ok-line-8.ensures ∙ ap (with (codes "demo")) seven in
+    IfOk-weaker c.with_form-9.result _ _ (λ made is. is ∙ ap (with (codes "center")) eight ∙ grown) c.with_form-9.ensures

@@ -1,4 +1,3 @@
-use Rattle.std.proofs.Common.{arith}
 use Rattle.vx_words.proofs.Made.{check_made}
 use Rattle.vx_words.proofs.making.check_of.Goals as goal
 

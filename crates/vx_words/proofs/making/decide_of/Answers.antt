@@ -1,4 +1,3 @@
-use Rattle.std.proofs.Common.{arith}
 use Rattle.vx_words.proofs.Made.{decide_made}
 use Rattle.vx_words.proofs.making.decide_of.Goals as goal
 

@@ -1,4 +1,3 @@
-use Rattle.std.proofs.Common.{arith}
 use Rattle.vx_words.proofs.Made.{print_made}
 use Rattle.vx_words.proofs.making.print_of.Goals as goal
 

@@ -1,4 +1,4 @@
-use Rattle.std.proofs.Common.{◌≡◌, ℕ, Bool, List, Option, None, Some, false, refl, rules}
+use Rattle.std.proofs.Common.{◌≡◌, ℕ, List, Option, None, Some, false, refl, rules}
 use Rattle.std.specs.Prelude.{is_some}
 use Rattle.uuid.specs.Text.{parsed}
 use Rattle.vx_words.specs.Devices.{device_of}

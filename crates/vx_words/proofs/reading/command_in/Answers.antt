@@ -1,6 +1,6 @@
-use Rattle.std.proofs.Common.{◌≡◌, ◌∙◌, ℕ, List, [], ◌∷◌, Option, Some, None, map, length, refl, sym, ap, ap₂, subst, arith, rules}
+use Rattle.std.proofs.Common.{◌≡◌, ◌∙◌, List, [], ◌∷◌, Option, Some, None, map, length, sym, ap, ap₂, subst, arith, rules}
 use Rattle.std.specs.Prelude.{All, codes, option_map, unwrap_or}
-use Rattle.clap.specs.Words.{Row, Text, all_of, found_of, rows_of, subcommand_name_of, subcommand_rows_of}
+use Rattle.clap.specs.Words.{Row, Text, all_of, found_of, rows_of}
 use Rattle.clap.proofs.WalkLemmas.{raw_values-rows}
 use Rattle.vx_words.specs.Words.{IsArgument, Reads}
 use Rattle.vx_words.specs.Line.{rows_for}

@@ -1,5 +1,4 @@
-use Rattle.std.proofs.Common.{arith, map, rules}
-use Rattle.std.proofs.lemmas.List.{length-map}
+use Rattle.std.proofs.Common.{rules}
 use Rattle.vx_words.proofs.Spellings.{spelled_arguments}
 use Rattle.vx_words.proofs.reading.read_words.Goals as goal
 
