@@ -1,5 +1,6 @@
 -- What a pass gained while events were made with it: the places of calls that came to be its own, and the events there.
 use Rattle.std.specs.Prelude.{◌≡◌, ℕ, ◌+◌, ◌<◌, ◌≤◌, if◌then◌else◌, All, Bool, List, [], ◌∷◌, ◌++◌, length, map, sum, Result, IfOk, OnErr}
+use Rattle.std.specs.List.{flat_map}
 use Rattle.std.specs.declared.alloc.AllocError.{AllocError}
 use mathlib.Core.List.{IsPrefix}
 use Rattle.atomic_table.specs.Seated.{TableId}
@@ -60,6 +61,10 @@ pub record HasRunFronts (old : Known) (lists : List (List Event)) (now : Known) 
 pub record HasEnded (old : Known) (lists : List (List Event)) (text : List ℕ) (now : Known) (answer : Result (List ℕ) AllocError) : Type 0 where
   pub run : IfOk answer (λ told. HasRun old lists now × (told ≡ text))
   pub fronts : OnErr answer (HasRunFronts old lists now)
+
+-- so of items: the events of each interleave, and their texts stand one after another
+abbrev pub HasDone : {T : Type 0} → Known → (T → List Event) → (T → List ℕ) → List T → Known → Result (List ℕ) AllocError → Type 0
+HasDone old events text items now answer = HasEnded old (map events items) (flat_map text items) now answer
 
 -- how many calls items may need, each so many
 abbrev pub calls_in : {T : Type 0} → (T → ℕ) → List T → ℕ

@@ -2,7 +2,7 @@
 ghost use Rattle.std.specs.Prelude.{◌≡◌, ◌+◌, ◌<◌, ◌≤◌, ◌^◌, ◌++◌, length, map, IfOk, IsOkAnd, OnErr};
 ghost use Rattle.std.specs.List.{flat_map};
 ghost use Rattle.std.specs.Thread.{IsSync};
-ghost use Rattle.vx_shared.specs.Gained.{HasEnded, HasRun, HasRunFronts, MayRun, calls_in};
+ghost use Rattle.vx_shared.specs.Gained.{HasDone, HasRun, HasRunFronts, MayRun, calls_in};
 ghost use Rattle.vx_shared.specs.Legal.{IsLegal};
 ghost use Rattle.vx_shared.specs.Seats.{start_of};
 
@@ -55,7 +55,7 @@ fn run_halves<R: Threads + Wait + Sync, S: Desk + Sync, T: Sync, W: Work<T>, G: 
     requires sync { IsSync R.row × IsSync S.row × IsSync T.row × IsSync W.row × IsSync G.row }
     requires numbers { number + length items.now < 2 ^ 32 }
     requires may { MayRun (S.id shared.now) (W.calls work.now) (W.may work.now) pass items.now }
-    ensures { HasEnded pass (map (W.events work.now) items.now) (flat_map (W.text work.now) items.now) result.0 result.1 }
+    ensures { HasDone pass (W.events work.now) (W.text work.now) items.now result.0 result.1 }
 {
     if items.len() == 1 {
         let desk = GatedDesk {
@@ -74,13 +74,13 @@ fn run_halves<R: Threads + Wait + Sync, S: Desk + Sync, T: Sync, W: Work<T>, G: 
         requires sync { IsSync R.row × IsSync S.row × IsSync T.row × IsSync W.row × IsSync G.row }
         requires numbers { number + length low.now < 2 ^ 32 }
         requires may { MayRun (S.id shared.now) (W.calls work.now) (W.may work.now) mine low.now }
-        ensures { HasEnded mine (map (W.events work.entry.now) low.entry.now) (flat_map (W.text work.entry.now) low.entry.now) result.0 result.1 }
+        ensures { HasDone mine (W.events work.entry.now) (W.text work.entry.now) low.entry.now result.0 result.1 }
     { run_halves(rt, alloc, shared, mine, work, low, gate, number) };
     let back = move || -> (Pass, Result<Bytes, OutOfMemory>)
         requires sync { IsSync R.row × IsSync S.row × IsSync T.row × IsSync W.row × IsSync G.row }
         requires numbers { next + length high.now < 2 ^ 32 }
         requires may { MayRun (S.id shared.now) (W.calls work.now) (W.may work.now) theirs high.now }
-        ensures { HasEnded theirs (map (W.events work.entry.now) high.entry.now) (flat_map (W.text work.entry.now) high.entry.now) result.0 result.1 }
+        ensures { HasDone theirs (W.events work.entry.now) (W.text work.entry.now) high.entry.now result.0 result.1 }
     { run_halves(rt, alloc, shared, theirs, work, high, gate, next) };
     let ((mine, one), (theirs, other)) = join(rt, front, back);
     (shared.join(mine, theirs), both(one, other))

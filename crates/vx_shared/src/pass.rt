@@ -17,6 +17,8 @@ pub struct Pass {
     shares: u32,
     calls: u64,
     seen: u64,
+    /// How many of its last calls, one after another, had to wait for their turns.
+    crowd: u32,
 }
 
 impl Model for Pass {
@@ -53,6 +55,11 @@ impl Pass {
         self.seen
     }
 
+    /// How many of its last calls, one after another, had to wait for their turns.
+    pub(crate) fn crowd(&self) -> u32 {
+        self.crowd
+    }
+
     /// The pass as a seat.
     pub(crate) fn into_seat<'e>(self) -> Place<'e>
         ensures place { result.table_id ≡ self.of }
@@ -63,7 +70,7 @@ impl Pass {
     }
 
     /// The pass of a seat.
-    pub(crate) fn of_seat(seat: Place<'_>, shares: u32, calls: u64, seen: u64) -> Pass
+    pub(crate) fn of_seat(seat: Place<'_>, shares: u32, calls: u64, seen: u64, crowd: u32) -> Pass
         requires empty { seat.me.1 ≡ [] }
         requires seated { IsSeated seat.me.0 shares calls seen }
         ensures { result ≡ known seat.entry.table_id seat.entry.me.0 }
@@ -73,6 +80,7 @@ impl Pass {
             shares,
             calls,
             seen,
+            crowd,
         }
     }
 }

@@ -11,7 +11,7 @@ use crate::held::Held;
 use crate::history::Entries;
 use crate::pass::Pass;
 use crate::plays::{Both, Cut, Merge, Portion};
-use crate::turns::take_turn;
+use crate::turns::{give_way, take_turn};
 use atomic_table::{Refused, Table};
 use std::alloc::Global;
 use std::marker::{Brand, Model};
@@ -69,7 +69,7 @@ impl<'e> SharedCenter<'e> {
         slots.push_reserved(Some(Held::new(alloc, center)));
         match Table::new(alloc, &[0, 0, 0], slots, &start) {
             Ok((board, seat)) => {
-                let pass = Pass::of_seat(seat, shares, calls, 0);
+                let pass = Pass::of_seat(seat, shares, calls, 0, 0);
                 Ok((SharedCenter { board }, pass))
             }
             Err(Refused { slots: _ }) => Err(OutOfMemory),
@@ -93,13 +93,20 @@ impl<'e> SharedCenter<'e> {
         ensures refused { OnErr result.1 (result.0 ≡ pass) }
     {
         let (shares, calls, seen) = (pass.shares(), pass.calls_left(), pass.seen());
+        let crowd = give_way(rt, pass.crowd(), seen);
         let mut seat = pass.into_seat();
-        match take_turn(rt, alloc, &self.board.shared, &mut seat, event) {
+        let mut waits = 0;
+        let answer = take_turn(rt, alloc, &self.board.shared, &mut seat, event, &mut waits);
+        let crowd = if waits > 0 { crowd + 1 } else { 0 };
+        match answer {
             Ok(receipt) => {
-                let pass = Pass::of_seat(seat, shares, calls - 1, receipt.place + 1);
+                let pass = Pass::of_seat(seat, shares, calls - 1, receipt.place + 1, crowd);
                 (pass, Ok(receipt))
             }
-            Err(no_memory) => (Pass::of_seat(seat, shares, calls, seen), Err(no_memory)),
+            Err(no_memory) => (
+                Pass::of_seat(seat, shares, calls, seen, crowd),
+                Err(no_memory),
+            ),
         }
     }
 
@@ -117,8 +124,8 @@ impl<'e> SharedCenter<'e> {
         let mut seat = pass.into_seat();
         let other = cut::<Brand>(&self.board.shared, &mut seat, shares, calls);
         (
-            Pass::of_seat(seat, all_shares - shares, all_calls - calls, seen),
-            Pass::of_seat(other, shares, calls, seen),
+            Pass::of_seat(seat, all_shares - shares, all_calls - calls, seen, 0),
+            Pass::of_seat(other, shares, calls, seen, 0),
         )
     }
 
@@ -134,7 +141,7 @@ impl<'e> SharedCenter<'e> {
         let mut seat = keep.into_seat();
         let other = give.into_seat();
         merge(&self.board.shared, &mut seat, other);
-        Pass::of_seat(seat, shares.0 + shares.1, calls.0 + calls.1, seen)
+        Pass::of_seat(seat, shares.0 + shares.1, calls.0 + calls.1, seen, 0)
     }
 
     /// Ends the shared center: the center, and the history of its calls. The pass has to have all

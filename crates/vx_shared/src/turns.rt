@@ -1,6 +1,6 @@
 //! A seat's way through a turn: it draws a number, waits for its turn, takes the center, calls it, puts
 //! it back, counts the call and gives the turn to the next number.
-ghost use Rattle.std.specs.Prelude.{◌≡◌, ◌<◌, ◌++◌, ◌∷◌, [], IfOk, OnErr, OnOk};
+ghost use Rattle.std.specs.Prelude.{◌≡◌, ◌<◌, ◌≤◌, ◌++◌, ◌∷◌, [], IfOk, OnErr, OnOk};
 ghost use Rattle.vx_events.specs.Fits.{Fits};
 ghost use Rattle.vx_shared.specs.Calls.{HasTurned};
 ghost use Rattle.vx_shared.specs.Legal.{IsLegal, entry};
@@ -14,8 +14,31 @@ use crate::plays::{Count, Draw, Leave, Look};
 use crate::sharing::Receipt;
 use std::alloc::Global;
 use std::sync::Wait;
+use std::sync::atomic::AtomicU64;
+use std::time::Duration;
 use vx_base::OutOfMemory;
 use vx_events::{Event, Reply};
+
+/// How many calls of a pass have to wait for their turns, one after another, before it lets others go first.
+const CROWD: u32 = 8;
+
+/// For how many milliseconds it lets them.
+const REST: u64 = 2;
+
+/// Sleeps a while where so many calls had to wait that others call all the time: they need not give the
+/// turn away after each call then. Two passes that wait for each other by turns would both sleep at once;
+/// so the one that has seen an even history makes one more call. Answers how many had to wait, no more
+/// than one more than that many.
+pub fn give_way<R: Wait>(rt: &R, crowd: u32, seen: u64) -> u32
+    ensures { result ≤ 9 }
+{
+    if crowd < CROWD || (crowd == CROWD && seen % 2 == 0) {
+        return crowd;
+    }
+    let quiet = AtomicU64::new(0);
+    quiet.park_timeout(rt, 0, Duration::from_millis(REST));
+    CROWD + 1
+}
 
 /// A whole turn. Where there is no memory for the call, nothing is counted and the seat is as before.
 pub fn take_turn<'e, R: Wait>(
@@ -24,6 +47,7 @@ pub fn take_turn<'e, R: Wait>(
     steps: &Steps<'e>,
     seat: &mut Place<'e>,
     event: Event,
+    waits: &mut u32,
 ) -> Result<Receipt, OutOfMemory>
     requires place { seat.old.table_id ≡ steps.now.table_id }
     requires board { IsBoard steps.now.table_id }
@@ -34,7 +58,7 @@ pub fn take_turn<'e, R: Wait>(
     ensures called { IfOk result (λ receipt. HasTurned seat.old.me event receipt.place receipt.reply seat.new.me) }
     ensures refused { OnErr result (seat.new.me ≡ seat.old.me) }
 {
-    enter(rt, steps, seat);
+    enter(rt, steps, seat, waits);
     match work(alloc, steps, seat, event) {
         Ok(reply) => {
             let place = count(steps, seat);
@@ -49,7 +73,7 @@ pub fn take_turn<'e, R: Wait>(
 }
 
 /// Draws a number and waits for its turn.
-fn enter<'e, R: Wait>(rt: &R, steps: &Steps<'e>, seat: &mut Place<'e>)
+fn enter<'e, R: Wait>(rt: &R, steps: &Steps<'e>, seat: &mut Place<'e>, waits: &mut u32)
     requires place { seat.old.table_id ≡ steps.now.table_id }
     requires board { IsBoard steps.now.table_id }
     requires ready { IsReady seat.old.me }
@@ -57,11 +81,11 @@ fn enter<'e, R: Wait>(rt: &R, steps: &Steps<'e>, seat: &mut Place<'e>)
     ensures turn { HasTurn seat.old.me seat.new.me }
 {
     let number = steps.fetch_add::<Draw>(seat, TICKET, 1);
-    wait(rt, steps, seat, number);
+    wait(rt, steps, seat, number, waits);
 }
 
-/// Waits for the turn of the seat's number, asleep while it is another's.
-fn wait<'e, R: Wait>(rt: &R, steps: &Steps<'e>, seat: &mut Place<'e>, number: u64)
+/// Waits for the turn of the seat's number, asleep while it is another's, and counts how often it slept.
+fn wait<'e, R: Wait>(rt: &R, steps: &Steps<'e>, seat: &mut Place<'e>, number: u64, waits: &mut u32)
     requires place { seat.old.table_id ≡ steps.now.table_id }
     requires board { IsBoard steps.now.table_id }
     requires waits { IsWaiting seat.old.me number }
@@ -73,6 +97,7 @@ fn wait<'e, R: Wait>(rt: &R, steps: &Steps<'e>, seat: &mut Place<'e>, number: u6
         if serving == number {
             return;
         }
+        *waits = waits.saturating_add(1);
         steps.park(rt, SERVING, (serving % (1 << 32)) as u32);
     }
     unreachable!()
