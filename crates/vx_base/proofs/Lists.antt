@@ -1,7 +1,7 @@
 -- Lists, their maps, and lists of lists one after another.
 use Rattle.std.proofs.Common.{◌≡◌, ℕ, ◌+◌, ◌*◌, ◌≤◌, List, [], ◌∷◌, ◌++◌, length, take, drop, map, get_or, refl, ap, ap₂, sym, ◌∙◌, arith, length-append, append-nil}
 use Rattle.std.specs.Prelude.{All, slice_get, Some}
-use Rattle.std.specs.List.{flat_map}
+use Rattle.std.specs.List.{AllZip, flat_map}
 use Rattle.std.proofs.Math.Seq.{take-append_seam, drop-append_seam}
 use Rattle.std.proofs.lemmas.List.{map-append, take_more}
 use Rattle.std.proofs.lemmas.List.Concat.{flat_map-append}
@@ -60,3 +60,10 @@ length-flat_map_le {X = X} f most (x ∷ xs) each =
     let here = All-head (λ (x : X). length (f x) ≤ most) x xs each in
     let there = length-flat_map_le f most xs (All-tail (λ (x : X). length (f x) ≤ most) x xs each) in
     omega (arith, length-append (f x) (flat_map f xs), here, there)
+
+-- a relation of two lists, place by place, that follows from another
+pub zip_weaker : {A B : Type 0} (R S : A → B → Type 0) → ((x : A) (y : B) → R x y → S x y) → (xs : List A) (ys : List B) → AllZip R xs ys → AllZip S xs ys
+zip_weaker R S follows [] [] each = tt
+zip_weaker R S follows [] (y ∷ ys) each = absurd each
+zip_weaker R S follows (x ∷ xs) [] each = absurd each
+zip_weaker R S follows (x ∷ xs) (y ∷ ys) each = (follows x y each.0, zip_weaker R S follows xs ys each.1)

@@ -14,6 +14,3 @@ pub use bytes::Bytes;
 pub use list::ListOf;
 pub use numeral::read_number;
 pub use std::alloc::AllocError as OutOfMemory;
-
-#[cfg(test)]
-mod tests;

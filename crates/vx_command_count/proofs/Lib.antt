@@ -1,5 +1,4 @@
 pub mod Waits
-pub mod Zipped
 pub mod Numbered
 pub mod SheetActs
 pub mod ImageActs

@@ -25,13 +25,6 @@ module _ {A B : Type 0} (R : A → B → Type 0) where
   pub zip_more : (xs : List A) (ys : List B) (k : ℕ) (y : B) → AllZip R (take k xs) ys → IsSomeAnd (slice_get xs k) (λ x. R x y) → AllZip R (take (k + 1) xs) (ys ++ y ∷ [])
   zip_more xs ys k y each at = rw add-one (more xs ys k y each at)
 
--- a relation that follows from another
-pub zip_weaker : {A B : Type 0} (R S : A → B → Type 0) → ((x : A) (y : B) → R x y → S x y) → (xs : List A) (ys : List B) → AllZip R xs ys → AllZip S xs ys
-zip_weaker R S follows [] [] each = tt
-zip_weaker R S follows [] (y ∷ ys) each = absurd each
-zip_weaker R S follows (x ∷ xs) [] each = absurd each
-zip_weaker R S follows (x ∷ xs) (y ∷ ys) each = (follows x y each.0, zip_weaker R S follows xs ys each.1)
-
 -- what holds of everything holds of what is there
 pub always : {A : Type 0} (o : Option A) (P : A → Type 0) → ((x : A) → P x) → IfSome o P
 always None P all = tt

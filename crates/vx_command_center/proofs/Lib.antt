@@ -1,0 +1,13 @@
+mod Centered
+mod Chosen
+mod Closing
+mod Ended
+mod Images
+mod Keepable
+mod Kept
+mod Readings
+mod Reported
+mod Scripts
+mod Starting
+mod Taken
+mod Walking

@@ -1,0 +1,18 @@
+use Rattle.std.proofs.Common.{Err, ap, ◌∙◌}
+use Rattle.std.proofs.lemmas.Result.{err_from_is_err_and}
+use Rattle.vx_command_center.proofs.Centered.{election_done, election_stopped}
+use Rattle.vx_command_center.proofs.command.center.Goals as goal
+
+pub returns-in_err-given-clause-done : goal.returns-in_err-given-clause-done
+returns-in_err-given-clause-done g c files told records kept =
+    let err = err_from_is_err_and c.from_residual.result c.from_residual.ensures.1 in
+    let taken = g.S.Sink.taken c.args.out.now in
+    let held = g.K.Keeper.held c.args.keeper.now in
+    rw (err.1 ∙ ap Err err.2)
+    (election_stopped c.steps_in_order.ensures c.args.election.now c.args.moment.now c.args.device.now c.args.items.now files records taken taken held held
+    c.lists_have_histories.ensures c.in_err-given.field-0.0 (c.in_err-given.ensures.told files told))
+
+pub returns-clause-done : goal.returns-clause-done
+returns-clause-done g c files told records kept =
+    election_done c.steps_in_order.ensures c.args.election.now c.args.moment.now c.args.device.now c.args.items.now files records (g.S.Sink.taken c.args.out.now) (g.S.Sink.taken c.center_planned.new.out) (g.K.Keeper.held c.args.keeper.now) (g.K.Keeper.held c.center_planned.new.keeper)
+    c.in_ok-given.given c.center_planned.result (c.in_ok-given.ensures.told files told) (c.center_planned.ensures.done files (c.in_ok-given.ensures.inputs.inputs.same ∙ told) records kept)

@@ -1,0 +1,10 @@
+use Rattle.std.proofs.Common.{◌≡◌, length}
+use Rattle.vx_command_center.proofs.rooms.lengths_for.Given as goal
+
+-- the lengths so far are had without a fault
+abbrev pub invariant-loop-item : goal.invariant-loop-item
+invariant-loop-item g l = record {
+  as_many : length l.lengths ≡ l.item-index;
+  same : g.I.Inputs.held l.inputs ≡ g.I.Inputs.held l.fn.inputs;
+  still : g.I.Inputs.faults l.inputs ≡ g.I.Inputs.faults l.fn.inputs;
+}

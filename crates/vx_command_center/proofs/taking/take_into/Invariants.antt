@@ -1,0 +1,19 @@
+use Rattle.std.proofs.Common.{◌≡◌, ◌+◌, ◌≤◌, drop, length, Some}
+use Rattle.std.specs.Prelude.{All}
+use Rattle.vx_io.specs.Outside.{Files}
+use Rattle.vx_command_center.specs.Items.{FitsItem, possible_in_all}
+use Rattle.vx_command_center.proofs.Taken.{HasTaken}
+use Rattle.vx_command_center.proofs.taking.take_into.Given as goal
+
+-- the items so far are taken, without a fault
+abbrev pub invariant-loop-item : goal.invariant-loop-item
+invariant-loop-item g l = record {
+  taken : (files : Files) → g.I.Inputs.held l.fn.inputs ≡ Some files → HasTaken l.election files l.words l.word l.before l.items (drop l.item-index l.words);
+  word : l.word ≡ 4 + l.item-index;
+  before : l.before ≡ possible_in_all l.items;
+  within : l.before ≤ 1000000;
+  fits : All (FitsItem l.election) l.items;
+  as_many : length l.items ≡ l.item-index;
+  same : g.I.Inputs.held l.inputs ≡ g.I.Inputs.held l.fn.inputs;
+  still : g.I.Inputs.faults l.inputs ≡ g.I.Inputs.faults l.fn.inputs;
+}

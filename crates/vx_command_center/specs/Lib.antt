@@ -1,0 +1,9 @@
+pub mod Histories
+pub mod Items
+pub mod Laws
+pub mod Outcome
+pub mod Reads
+pub mod Runs
+pub mod Setting
+pub mod Sheets
+pub mod Taking

@@ -1,0 +1,200 @@
+ghost use Rattle.std.specs.Prelude.{◌≡◌, ◌<◌, ◌≤◌, All, true, false, length};
+ghost use Rattle.std.specs.Option.{ForSome};
+ghost use Rattle.vx_election_model.specs.Valid.{IsValid};
+ghost use Rattle.vx_layout.specs.Plans.{ArePlansOf};
+ghost use Rattle.vx_words.specs.Items.{AreItemWords};
+ghost use Rattle.vx_command.specs.Devices.{LeavesInputs, LeavesKeeper, LeavesSink, is_read_fault, writes_nothing};
+ghost use Rattle.vx_command_center.specs.Items.{FitsItem, possible_in_all};
+ghost use Rattle.vx_command_center.specs.Runs.{Centers, CentersItems, CentersJournal, CentersPlanned, CentersSet};
+
+use crate::ending::end_center;
+use crate::item::Items;
+use crate::taking::take_items;
+use crate::working::work_off;
+use std::alloc::Global;
+use std::sync::Wait;
+use std::thread::Threads;
+use vx_command::{Halt, acts_in_order, plan_all, steps_in_order, take_election};
+use vx_election_model::Election;
+use vx_io::{Inputs, Keeper, Sink};
+use vx_journal::{Journal, journals_in_order, read_journal};
+use vx_layout::CardPlans;
+use vx_shared::lists_have_histories;
+use vx_words::ItemWord;
+use vx_workers::Gate;
+
+/// Does the items, and what is done when they have ended.
+fn do_items<'e, R: Threads + Wait + Sync, S: Sink, K: Keeper, G: Gate>(
+    rt: &R,
+    alloc: Global,
+    election: &'e Election,
+    plans: &CardPlans,
+    journal: Journal<'e>,
+    moment: &str,
+    device: &str,
+    items: &Items,
+    gate: &G,
+    out: &mut S,
+    keeper: &mut K,
+) -> Result<(), Halt>
+    requires valid { IsValid election.now }
+    requires plans { ArePlansOf election.now plans.now }
+    requires same { journal.center.election ≡ election.now }
+    requires some { 0 < length items.now }
+    requires few { length items.now ≤ 16 }
+    requires within { possible_in_all items.now ≤ 1000000 }
+    requires fits { All (FitsItem election.now) items.now }
+    ensures done { CentersItems election.now journal.entry moment.now device.now items.now
+        (S.taken out.old) (S.taken out.new) (K.held keeper.old) (K.held keeper.new) result }
+    ensures late { writes_nothing true result ≡ false }
+    ensures no_read_fault { is_read_fault result ≡ false }
+    ensures sink { LeavesSink (S.faults out.old) (S.faults out.new) result }
+    ensures keeper { LeavesKeeper (K.faults keeper.old) (K.faults keeper.new) result }
+{
+    acts_in_order();
+    lists_have_histories();
+    let ended = work_off(rt, alloc, election, plans, journal, items.as_slice(), gate)?;
+    end_center(alloc, election, &ended, moment, device, out, keeper)
+}
+
+/// Takes the items and does them.
+fn center_read<'e, R: Threads + Wait + Sync, I: Inputs, S: Sink, K: Keeper, G: Gate>(
+    rt: &R,
+    alloc: Global,
+    election: &'e Election,
+    plans: &CardPlans,
+    journal: Journal<'e>,
+    moment: &str,
+    device: &str,
+    items: &[ItemWord],
+    gate: &G,
+    inputs: &mut I,
+    out: &mut S,
+    keeper: &mut K,
+) -> Result<(), Halt>
+    requires valid { IsValid election.now }
+    requires plans { ArePlansOf election.now plans.now }
+    requires same { journal.center.election ≡ election.now }
+    requires words { AreItemWords items.now }
+    ensures done { ForSome (I.held inputs.old) (λ files.
+        CentersJournal election.now journal.entry moment.now device.now items.now files
+        (S.taken out.old) (S.taken out.new) (K.held keeper.old) (K.held keeper.new) result) }
+    ensures nothing_written { writes_nothing true result ≡ true → S.taken out.new ≡ S.taken out.old }
+    ensures nothing_kept { writes_nothing true result ≡ true → K.held keeper.new ≡ K.held keeper.old }
+    ensures inputs { LeavesInputs (I.held inputs.old) (I.held inputs.new)
+        (I.faults inputs.old) (I.faults inputs.new) result }
+    ensures sink { LeavesSink (S.faults out.old) (S.faults out.new) result }
+    ensures keeper { LeavesKeeper (K.faults keeper.old) (K.faults keeper.new) result }
+{
+    lists_have_histories();
+    let taken = take_items(rt, alloc, election, items, inputs)?;
+    do_items(
+        rt, alloc, election, plans, journal, moment, device, &taken, gate, out, keeper,
+    )
+}
+
+/// Reads the journal, and takes the items and does them.
+fn center_set<R: Threads + Wait + Sync, I: Inputs, S: Sink, K: Keeper, G: Gate>(
+    rt: &R,
+    alloc: Global,
+    election: &Election,
+    plans: &CardPlans,
+    moment: &str,
+    device: &str,
+    items: &[ItemWord],
+    gate: &G,
+    inputs: &mut I,
+    out: &mut S,
+    keeper: &mut K,
+) -> Result<(), Halt>
+    requires valid { IsValid election.now }
+    requires plans { ArePlansOf election.now plans.now }
+    requires words { AreItemWords items.now }
+    ensures done { ForSome (I.held inputs.old) (λ files. ForSome (K.held keeper.old) (λ records.
+        CentersSet election.now moment.now device.now items.now files records
+        (S.taken out.old) (S.taken out.new) (K.held keeper.old) (K.held keeper.new) result)) }
+    ensures nothing_written { writes_nothing true result ≡ true → S.taken out.new ≡ S.taken out.old }
+    ensures nothing_kept { writes_nothing true result ≡ true → K.held keeper.new ≡ K.held keeper.old }
+    ensures inputs { LeavesInputs (I.held inputs.old) (I.held inputs.new)
+        (I.faults inputs.old) (I.faults inputs.new) result }
+    ensures sink { LeavesSink (S.faults out.old) (S.faults out.new) result }
+    ensures keeper { LeavesKeeper (K.faults keeper.old) (K.faults keeper.new) result }
+{
+    journals_in_order();
+    lists_have_histories();
+    let journal = read_journal(alloc, election, keeper)?;
+    center_read(
+        rt, alloc, election, plans, journal, moment, device, items, gate, inputs, out, keeper,
+    )
+}
+
+/// Plans all cards, reads the journal, and does the items.
+fn center_planned<R: Threads + Wait + Sync, I: Inputs, S: Sink, K: Keeper, G: Gate>(
+    rt: &R,
+    alloc: Global,
+    election: &Election,
+    moment: &str,
+    device: &str,
+    items: &[ItemWord],
+    gate: &G,
+    inputs: &mut I,
+    out: &mut S,
+    keeper: &mut K,
+) -> Result<(), Halt>
+    requires valid { IsValid election.now }
+    requires words { AreItemWords items.now }
+    ensures done { ForSome (I.held inputs.old) (λ files. ForSome (K.held keeper.old) (λ records.
+        CentersPlanned election.now moment.now device.now items.now files records
+        (S.taken out.old) (S.taken out.new) (K.held keeper.old) (K.held keeper.new) result)) }
+    ensures nothing_written { writes_nothing true result ≡ true → S.taken out.new ≡ S.taken out.old }
+    ensures nothing_kept { writes_nothing true result ≡ true → K.held keeper.new ≡ K.held keeper.old }
+    ensures inputs { LeavesInputs (I.held inputs.old) (I.held inputs.new)
+        (I.faults inputs.old) (I.faults inputs.new) result }
+    ensures sink { LeavesSink (S.faults out.old) (S.faults out.new) result }
+    ensures keeper { LeavesKeeper (K.faults keeper.old) (K.faults keeper.new) result }
+{
+    steps_in_order::<CardPlans>();
+    lists_have_histories();
+    let plans = plan_all(alloc, election)?;
+    center_set(
+        rt, alloc, election, &plans, moment, device, items, gate, inputs, out, keeper,
+    )
+}
+
+/// Does the command `center`: takes the election under its name, which is word 1, plans all its cards, reads
+/// the journal, takes the items that the words from 4 on name, and has each done by a thread of its own at
+/// one shared center. When all have ended, the accepted events are appended in the order of the center's
+/// history, and the history, the lines of the sheets without an event and the report are written.
+///
+/// Whatever it answers, there is a history of these items by which its acts are done up to some place. It has
+/// Wait, and promises no return.
+pub fn center<R: Threads + Wait + Sync, I: Inputs, S: Sink, K: Keeper, G: Gate>(
+    rt: &R,
+    alloc: Global,
+    election: &str,
+    moment: &str,
+    device: &str,
+    items: &[ItemWord],
+    inputs: &mut I,
+    out: &mut S,
+    keeper: &mut K,
+    gate: &G,
+) -> Result<(), Halt>
+    requires words { AreItemWords items.now }
+    ensures done { ForSome (I.held inputs.old) (λ files. ForSome (K.held keeper.old) (λ records.
+        Centers election.now moment.now device.now items.now files records
+        (S.taken out.old) (S.taken out.new) (K.held keeper.old) (K.held keeper.new) result)) }
+    ensures nothing_written { writes_nothing true result ≡ true → S.taken out.new ≡ S.taken out.old }
+    ensures nothing_kept { writes_nothing true result ≡ true → K.held keeper.new ≡ K.held keeper.old }
+    ensures inputs { LeavesInputs (I.held inputs.old) (I.held inputs.new)
+        (I.faults inputs.old) (I.faults inputs.new) result }
+    ensures sink { LeavesSink (S.faults out.old) (S.faults out.new) result }
+    ensures keeper { LeavesKeeper (K.faults keeper.old) (K.faults keeper.new) result }
+{
+    steps_in_order::<Election>();
+    lists_have_histories();
+    let given = take_election(alloc, inputs, election)?;
+    center_planned(
+        rt, alloc, &given, moment, device, items, gate, inputs, out, keeper,
+    )
+}

@@ -1,0 +1,164 @@
+//! What is done when all items have ended: the accepted events are appended, and the history, the lines of the
+//! sheets without an event and the report are written.
+ghost use Rattle.std.specs.Prelude.{◌≡◌, ◌<◌, ◌++◌, ◌^◌, false, IfOk, OnOk, length, string_bytes};
+ghost use Rattle.vx_election_model.specs.Valid.{IsValid};
+ghost use Rattle.vx_command.specs.Acts.{work, writing};
+ghost use Rattle.vx_command.specs.Devices.{LeavesKeeper, LeavesSink, TouchesSink, is_read_fault};
+ghost use Rattle.vx_command.specs.Done.{IsDone, IsWritten};
+ghost use Rattle.vx_cvr.specs.Report.{report_of};
+ghost use Rattle.vx_journal.specs.Keeping.{begin_acts};
+ghost use Rattle.vx_journal.specs.Steps.{IsRecorded, TouchesKeeper};
+ghost use Rattle.vx_shared.specs.Legal.{done_events, done_of};
+ghost use Rattle.vx_command_center.specs.Outcome.{append_acts, event_head, event_line, history_acts, written_acts};
+
+use crate::working::Ended;
+use std::alloc::Global;
+use vx_base::{Bytes, OutOfMemory};
+use vx_center::Center;
+use vx_command::{Halt, acts_in_order, write_text};
+use vx_cvr::report;
+use vx_election_model::Election;
+use vx_io::{Keeper, Sink};
+use vx_journal::{append_event, begin_journal};
+use vx_records::encode;
+use vx_refusals::Reply;
+use vx_shared::Entry;
+
+/// Appends the record of a call's event, where it was answered with Done.
+fn append_call<K: Keeper>(alloc: Global, call: &Entry, keeper: &mut K) -> Result<(), Halt>
+    ensures done { IsRecorded (append_acts (done_of call.now)) (K.held keeper.old) (K.held keeper.new) result }
+    ensures keeper { TouchesKeeper (K.faults keeper.old) (K.faults keeper.new) result }
+{
+    acts_in_order();
+    match call.reply {
+        Reply::Done => append_event(alloc, keeper, &call.event),
+        _ => Ok(()),
+    }
+}
+
+/// Appends the records of the accepted events of a history, in order.
+pub(crate) fn append_history<K: Keeper>(
+    alloc: Global,
+    history: &[Entry],
+    keeper: &mut K,
+) -> Result<(), Halt>
+    ensures done { IsRecorded (append_acts (done_events history.now)) (K.held keeper.old) (K.held keeper.new) result }
+    ensures keeper { TouchesKeeper (K.faults keeper.old) (K.faults keeper.new) result }
+{
+    acts_in_order();
+    for call in history {
+        append_call(alloc, call, keeper)?;
+    }
+    Ok(())
+}
+
+/// The head of the line of a call that has a place in the history.
+fn push_head(text: &mut String, place: u64, reply: Reply) -> Result<(), OutOfMemory>
+    ensures { OnOk result (string_bytes text.new ≡ string_bytes text.old ++ event_head place reply) }
+{
+    write!(text, "event {place} {reply} : ")
+}
+
+/// The line of a call that has a place in the history.
+fn call_line(alloc: Global, place: u64, call: &Entry) -> Result<Bytes, OutOfMemory>
+    ensures { IfOk result (λ line. line ≡ event_line place call.now) }
+{
+    let mut head = String::new(alloc);
+    push_head(&mut head, place, call.reply)?;
+    let mut line = Bytes::from_vec(head.into_bytes());
+    let record = encode(alloc, &call.event)?;
+    line.extend_from_slice(record.as_slice())?;
+    line.push(b'\n')?;
+    Ok(line)
+}
+
+/// Writes the lines of a history.
+pub(crate) fn write_history<S: Sink>(
+    alloc: Global,
+    history: &[Entry],
+    out: &mut S,
+) -> Result<(), Halt>
+    requires { length history.now < 2 ^ 62 }
+    ensures done { IsWritten (work (history_acts 0 history.now)) (S.taken out.old) (S.taken out.new) result }
+    ensures sink { TouchesSink (S.faults out.old) (S.faults out.new) result }
+{
+    acts_in_order();
+    let mut place = 0;
+    for call in history {
+        let line = call_line(alloc, place, call)?;
+        write_text(out, line.as_slice())?;
+        place += 1;
+    }
+    Ok(())
+}
+
+/// Writes the report.
+fn write_report<S: Sink>(
+    alloc: Global,
+    election: &Election,
+    center: &Center<'_>,
+    moment: &str,
+    device: &str,
+    out: &mut S,
+) -> Result<(), Halt>
+    requires valid { IsValid election.now }
+    requires election { center.now.election ≡ election.now }
+    ensures done { IsWritten (writing (report_of election.now center.now.events moment.now device.now))
+        (S.taken out.old) (S.taken out.new) result }
+    ensures sink { TouchesSink (S.faults out.old) (S.faults out.new) result }
+{
+    acts_in_order();
+    let text = report(alloc, election, center, moment, device)?;
+    write_text(out, text.as_slice())
+}
+
+/// Writes the history, the lines of the sheets without an event, and the report of the center behind it.
+fn write_all<S: Sink>(
+    alloc: Global,
+    election: &Election,
+    ended: &Ended<'_>,
+    moment: &str,
+    device: &str,
+    out: &mut S,
+) -> Result<(), Halt>
+    requires valid { IsValid election.now }
+    requires election { ended.now.journal.center.election ≡ election.now }
+    requires few { length ended.now.history < 2 ^ 62 }
+    ensures done { IsWritten (work (written_acts election.now ended.now.journal.center.events
+        ended.now.history ended.now.text moment.now device.now))
+        (S.taken out.old) (S.taken out.new) result }
+    ensures sink { TouchesSink (S.faults out.old) (S.faults out.new) result }
+{
+    acts_in_order();
+    write_history(alloc, ended.history.as_slice(), out)?;
+    write_text(out, ended.text.as_slice())?;
+    write_text(out, b"report\n")?;
+    write_report(alloc, election, &ended.journal.center, moment, device, out)
+}
+
+/// Begins the journal where no record was there, appends the accepted events, and writes all.
+pub(crate) fn end_center<S: Sink, K: Keeper>(
+    alloc: Global,
+    election: &Election,
+    ended: &Ended<'_>,
+    moment: &str,
+    device: &str,
+    out: &mut S,
+    keeper: &mut K,
+) -> Result<(), Halt>
+    requires valid { IsValid election.now }
+    requires election { ended.now.journal.center.election ≡ election.now }
+    requires few { length ended.now.history < 2 ^ 62 }
+    ensures done { IsDone (work (begin_acts ended.now.journal ++ (append_acts (done_events ended.now.history)
+        ++ written_acts election.now ended.now.journal.center.events ended.now.history ended.now.text
+        moment.now device.now)))
+        (S.taken out.old) (S.taken out.new) (K.held keeper.old) (K.held keeper.new) result }
+    ensures no_read_fault { is_read_fault result ≡ false }
+    ensures sink { LeavesSink (S.faults out.old) (S.faults out.new) result }
+    ensures keeper { LeavesKeeper (K.faults keeper.old) (K.faults keeper.new) result }
+{
+    acts_in_order();
+    begin_journal(alloc, election, &ended.journal, keeper)?;
+    append_history(alloc, ended.history.as_slice(), keeper)?;
+    write_all(alloc, election, ended, moment, device, out)
+}
