@@ -1,12 +1,15 @@
 -- A journal stays one over each run for its election.
-use Rattle.std.proofs.Common.{◌≡◌, ℕ, false, List, [], ◌∷◌, ◌++◌, Some, Result, Ok, Err, refl, sym, ap, ◌∙◌, subst, append-nil}
+use Rattle.std.proofs.Common.{◌≡◌, ℕ, true, false, List, [], ◌∷◌, ◌++◌, Some, Result, Ok, Err, refl, sym, ap, ◌∙◌, subst, append-nil}
 use Rattle.std.specs.Prelude.{IsOk}
 use Rattle.std.specs.List.{flat_map}
+use Rattle.std.proofs.lemmas.Bool.{false≢true}
 use Rattle.vx_io.specs.Outside.{Files}
 use Rattle.vx_election_model.specs.declared.election.Election.{Election}
 use Rattle.vx_events.specs.declared.event.Event.{Event}
 use Rattle.vx_command.specs.Acts.{Answer, Outcome, records_of}
 use Rattle.vx_command.specs.Done.{Held, IsDone, Taken}
+use Rattle.vx_command_center.specs.Laws.{CenterKeepsJournals}
+use Rattle.vx_command_center.specs.Outcome.{center_outcome}
 use Rattle.vx_command_count.specs.Laws.{CountKeepsJournals}
 use Rattle.vx_command_count.specs.Outcome.{count_outcome}
 use Rattle.vx_command_decide.specs.Laws.{DecideKeepsJournals}
@@ -14,10 +17,11 @@ use Rattle.vx_command_decide.specs.Outcome.{decide_outcome}
 use Rattle.vx_journal.specs.Laws.{HoldsJournal, IsJournal, JournalsStay, StaysJournal}
 use Rattle.vx_journal.specs.Replay.{replay_of}
 use Rattle.vx_words.specs.declared.command.Command.{Command}
-use Rattle.vx_words.specs.declared.command.Command.TheVariants.{Print, Read, Check, Count, Decide, Queue, Export, Demo}
+use Rattle.vx_words.specs.declared.command.Command.TheVariants.{Print, Read, Check, Count, Decide, Queue, Export, Demo, Center}
 use Rattle.vx_words.specs.Words.{IsSound}
 use Rattle.vx_app.specs.Outcome.{appends, outcome_of}
-use Rattle.vx_app.specs.Journals.{AreRuns, HoldsMore, IsRun, Run, RunsLeaveJournals, IsFor}
+use Rattle.vx_app.specs.Journals.{AreRuns, HoldsMore, IsDoneOf, IsRun, Run, RunsLeaveJournals, IsFor}
+use Rattle.vx_app.specs.Runs.{is_run}
 use Rattle.vx_app.proofs.Growing.{longer}
 
 was_read : {A E : Type 0} (r : Result A E) → IsOk r → (x : A) × (r ≡ Ok x)
@@ -51,8 +55,20 @@ module _ (election : Election) (records : List (List ℕ)) (events : List Event)
         keeps = now.1 ∙ ap Ok further.is;
       }
 
-module _ (count : CountKeepsJournals) (decide : DecideKeepsJournals) (stays : JournalsStay) where
-  pub kept-over : (command : Command) (device : List ℕ) (files : Files) (election : Election) (records : List (List ℕ)) (events : List Event) (taken taken_now : Taken) (held_now : Held) (answer : Answer) → IsSound device command → IsFor command files election → replay_of election records ≡ Ok events → (appends command ≡ false → held_now ≡ Some records) → IsDone (outcome_of command files records) taken taken_now (Some records) held_now answer → HoldsMore election events held_now
+-- a command that `run` does
+pub done-of : (command : Command) (files : Files) (records : List (List ℕ)) (taken taken_now : Taken) (held_now : Held) (answer : Answer) → is_run command ≡ true → IsDone (outcome_of command files records) taken taken_now (Some records) held_now answer → IsDoneOf command files records taken taken_now held_now answer
+done-of (Print name card kind test) files records taken taken_now held_now answer runs done = done
+done-of (Read name scans) files records taken taken_now held_now answer runs done = done
+done-of (Check name scans readings) files records taken taken_now held_now answer runs done = done
+done-of (Count name batch workers scans) files records taken taken_now held_now answer runs done = done
+done-of (Decide name script) files records taken taken_now held_now answer runs done = done
+done-of (Queue name) files records taken taken_now held_now answer runs done = done
+done-of (Export name moment named) files records taken taken_now held_now answer runs done = done
+done-of (Demo seed sheets) files records taken taken_now held_now answer runs done = done
+done-of (Center name moment named items) files records taken taken_now held_now answer runs done = absurd (false≢true runs)
+
+module _ (count : CountKeepsJournals) (decide : DecideKeepsJournals) (center : CenterKeepsJournals) (stays : JournalsStay) where
+  pub kept-over : (command : Command) (device : List ℕ) (files : Files) (election : Election) (records : List (List ℕ)) (events : List Event) (taken taken_now : Taken) (held_now : Held) (answer : Answer) → IsSound device command → IsFor command files election → replay_of election records ≡ Ok events → (appends command ≡ false → held_now ≡ Some records) → IsDoneOf command files records taken taken_now held_now answer → HoldsMore election events held_now
   kept-over (Print name card kind test) device files election records events taken taken_now held_now answer sound for_it is held done = unchanged election records events is held_now (held refl)
   kept-over (Read name scans) device files election records events taken taken_now held_now answer sound for_it is held done = unchanged election records events is held_now (held refl)
   kept-over (Check name scans readings) device files election records events taken taken_now held_now answer sound for_it is held done = unchanged election records events is held_now (held refl)
@@ -65,6 +81,10 @@ module _ (count : CountKeepsJournals) (decide : DecideKeepsJournals) (stays : Jo
   kept-over (Queue name) device files election records events taken taken_now held_now answer sound for_it is held done = unchanged election records events is held_now (held refl)
   kept-over (Export name moment named) device files election records events taken taken_now held_now answer sound for_it is held done = unchanged election records events is held_now (held refl)
   kept-over (Demo seed sheets) device files election records events taken taken_now held_now answer sound for_it is held done = unchanged election records events is held_now (held refl)
+  kept-over (Center name moment named items) device files election records events taken taken_now held_now answer sound for_it is held done =
+      appended election records events is stays (center_outcome name moment named items files records done.history) taken taken_now held_now answer
+      (center name moment named items files records done.history election sound.are_items for_it (is_ok (replay_of election records) events is)
+      (λ kept taken_items replays are_taken. done.of_items election kept taken_items for_it replays are_taken)) done.done
 
   -- over one run, and over all
   over-run : (election : Election) (records : List (List ℕ)) (one : Run) → IsJournal election records → IsRun election records one → IsJournal election one.left

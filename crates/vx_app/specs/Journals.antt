@@ -6,10 +6,11 @@ use Rattle.vx_events.specs.declared.event.Event.{Event}
 use Rattle.vx_command.specs.Acts.{Answer}
 use Rattle.vx_command.specs.Done.{Taken, Held, IsDone}
 use Rattle.vx_command.specs.Elections.{election_in}
+use Rattle.vx_command_center.specs.Runs.{Centers}
 use Rattle.vx_journal.specs.Laws.{IsJournal}
 use Rattle.vx_journal.specs.Replay.{replay_of}
 use Rattle.vx_words.specs.declared.command.Command.{Command}
-use Rattle.vx_words.specs.declared.command.Command.TheVariants.{Print, Read, Check, Count, Decide, Queue, Export, Demo}
+use Rattle.vx_words.specs.declared.command.Command.TheVariants.{Print, Read, Check, Count, Decide, Queue, Export, Demo, Center}
 use Rattle.vx_words.specs.Words.{Spells}
 use Rattle.vx_app.specs.Outcome.{appends, outcome_of}
 
@@ -27,6 +28,7 @@ IsFor (Decide name script) = IsNamed name
 IsFor (Queue name) = IsNamed name
 IsFor (Export name moment device) = IsNamed name
 IsFor (Demo seed sheets) = λ files election. Unit {0}
+IsFor (Center name moment device items) = IsNamed name
 
 -- a keeper holds a journal of an election that keeps these events, and perhaps more behind them
 pub record HoldsMore (election : Election) (events : List Event) (held : Held) : Type 0 where
@@ -34,6 +36,13 @@ pub record HoldsMore (election : Election) (events : List Event) (held : Held) :
   pub are_held : held ≡ Some records
   pub more : List Event
   pub keeps : replay_of election records ≡ Ok (events ++ more)
+
+-- acts of a command are done up to some place, by its outcome; those of `center` by a history of its items
+abbrev pub IsDoneOf : Command → Files → List (List ℕ) → Taken → Taken → Held → Answer → Type 0
+IsDoneOf (Center name moment device items) files records taken taken_now held_now answer =
+    Centers name moment device items files records taken taken_now (Some records) held_now answer
+IsDoneOf command files records taken taken_now held_now answer =
+    IsDone (outcome_of command files records) taken taken_now (Some records) held_now answer
 
 -- a run of a command: the words, the files that it found, what the sink had taken before and after it, the records that
 -- it left, and its answer
@@ -46,11 +55,12 @@ pub record Run : Type 0 where
   pub left : List (List ℕ)
   pub answer : Answer
 
--- it is a run for an election over records, whatever it answered: so far as `run` promises of its acts and its keeper
+-- it is a run for an election over records, whatever it answered: so far as `run` and `run_center` promise of its acts and
+-- its keeper
 pub record IsRun (election : Election) (records : List (List ℕ)) (some : Run) : Type 0 where
   pub spelled : Spells some.words some.command
   pub for_it : IsFor some.command some.files election
-  pub done : IsDone (outcome_of some.command some.files records) some.taken some.taken_now (Some records) (Some some.left) some.answer
+  pub done : IsDoneOf some.command some.files records some.taken some.taken_now (Some some.left) some.answer
   pub held : appends some.command ≡ false → Some some.left ≡ Some records
 
 -- runs for one election, one after another: each over the records that the one before left

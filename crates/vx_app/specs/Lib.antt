@@ -1,4 +1,6 @@
 pub mod Outcome
+pub mod Runs
 pub mod Arguments
 pub mod Counting
 pub mod Journals
+pub mod Adding

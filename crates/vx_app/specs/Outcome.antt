@@ -1,7 +1,7 @@
 -- What each command does, and which devices it touches when.
 use Rattle.std.specs.Prelude.{ℕ, Bool, true, false, List}
 use Rattle.vx_io.specs.Outside.{Files}
-use Rattle.vx_command.specs.Acts.{Outcome}
+use Rattle.vx_command.specs.Acts.{Outcome, finished}
 use Rattle.vx_command_print.specs.Outcome.{print_outcome}
 use Rattle.vx_command_read.specs.Outcome.{read_outcome}
 use Rattle.vx_command_check.specs.Outcome.{check_outcome}
@@ -11,9 +11,10 @@ use Rattle.vx_command_queue.specs.Outcome.{queue_outcome}
 use Rattle.vx_command_export.specs.Outcome.{export_outcome}
 use Rattle.vx_command_demo.specs.Outcome.{demo_outcome}
 use Rattle.vx_words.specs.declared.command.Command.{Command}
-use Rattle.vx_words.specs.declared.command.Command.TheVariants.{Print, Read, Check, Count, Decide, Queue, Export, Demo}
+use Rattle.vx_words.specs.declared.command.Command.TheVariants.{Print, Read, Check, Count, Decide, Queue, Export, Demo, Center}
 
--- what a command does, by the files and the records of the journal
+-- what a command does, by the files and the records of the journal; the acts of `center`, which its history tells besides, stand
+-- in its own `Centers`, and nothing here
 abbrev pub outcome_of : Command → Files → List (List ℕ) → Outcome
 outcome_of (Print election card kind test) files records =
     print_outcome election (record { card = card; kind = kind; test = test }) files
@@ -24,6 +25,7 @@ outcome_of (Decide election script) files records = decide_outcome election scri
 outcome_of (Queue election) files records = queue_outcome election files records
 outcome_of (Export election moment device) files records = export_outcome election moment device files records
 outcome_of (Demo seed sheets) files records = demo_outcome seed sheets
+outcome_of (Center election moment device items) files records = finished
 
 -- a command that has an act of the keeper
 abbrev pub uses_keeper : Command → Bool
@@ -37,10 +39,12 @@ uses_keeper command = true
 abbrev pub appends : Command → Bool
 appends (Count election batch workers scans) = true
 appends (Decide election script) = true
+appends (Center election moment device items) = true
 appends command = false
 
 -- a command that takes all its inputs before it writes
 abbrev pub takes_first : Command → Bool
 takes_first (Print election card kind test) = true
 takes_first (Check election scans readings) = true
+takes_first (Center election moment device items) = true
 takes_first command = false

@@ -1,10 +1,15 @@
-//! What runs leave of a journal. This function does nothing; its contract is the law.
+//! What runs leave of a journal, and what `center` adds of scans that fit printed pages. These functions do
+//! nothing; their contracts are the laws.
 
+ghost use Rattle.vx_app.specs.Adding.{FittingSheetsAreInTheirItems};
 ghost use Rattle.vx_app.specs.Journals.{RunsLeaveJournals};
 
-use vx_command_count::count_keeps_journals;
+use vx_command_center::center_keeps_journals;
+use vx_command_count::{count_keeps_journals, fitting_sheets_are_added};
 use vx_command_decide::decide_keeps_journals;
+use vx_election::defined_elections_are_valid;
 use vx_journal::journals_stay;
+use vx_pbm::images_are_whole;
 
 /// Any list of runs for one election that began without a record leaves a journal of that election,
 /// whatever each of them answered: no later command refuses it.
@@ -13,5 +18,17 @@ pub fn runs_leave_journals()
 {
     count_keeps_journals();
     decide_keeps_journals();
+    center_keeps_journals();
     journals_stay();
+}
+
+/// Among the events of each scan item that `center` takes, one adds each sheet of two images that fit the
+/// facing pages of a card with some marks, as that sheet with those marks; the others add sheets before or
+/// behind it.
+pub fn fitting_sheets_are_in_their_items()
+    ensures { FittingSheetsAreInTheirItems }
+{
+    defined_elections_are_valid();
+    images_are_whole();
+    fitting_sheets_are_added();
 }

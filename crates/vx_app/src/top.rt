@@ -12,14 +12,17 @@ ghost use Rattle.vx_election_model.specs.declared.election.Election.{Election};
 ghost use Rattle.vx_events.specs.declared.event.Event.{Event};
 ghost use Rattle.vx_journal.specs.Replay.{replay_of};
 ghost use Rattle.vx_words.specs.declared.command.Command.{Command as CommandOf};
-ghost use Rattle.vx_words.specs.Words.{IsSound, NoCommand, Spells};
+ghost use Rattle.vx_words.specs.Words.{IsSound, Spells};
 ghost use Rattle.vx_app.specs.Outcome.{appends, outcome_of, takes_first, uses_keeper};
 ghost use Rattle.vx_app.specs.Counting.{IsCount};
 ghost use Rattle.vx_app.specs.Journals.{HoldsMore, IsFor};
+ghost use Rattle.vx_app.specs.Runs.{NoRun, SpellsRun, is_run};
 
+use crate::centering::is_center;
 use std::alloc::Global;
 use std::thread::Threads;
 use vx_command::{Halt, Status, acts_in_order, status_of};
+use vx_command_center::center_keeps_journals;
 use vx_command_check::{certified_pages_say_what_fits, check};
 use vx_command_count::{count, count_keeps_journals, fitting_sheets_are_kept};
 use vx_command_decide::{decide, decide_keeps_journals};
@@ -43,7 +46,8 @@ fn obey<R: Threads + Sync, I: Inputs, S: Sink, K: Keeper, G: Gate>(
     keeper: &mut K,
     gate: &G,
 ) -> Result<(), Halt>
-    requires { (device : List ℕ) × IsSound device command }
+    requires sound { (device : List ℕ) × IsSound device command }
+    requires is_run { is_run command ≡ true }
     ensures done { (files : Files) → I.held inputs.old ≡ Some files →
         (records : List (List ℕ)) → (uses_keeper command ≡ true → K.held keeper.old ≡ Some records) →
         IsDone (outcome_of command files records)
@@ -122,10 +126,11 @@ fn obey<R: Threads + Sync, I: Inputs, S: Sink, K: Keeper, G: Gate>(
             keeper,
         ),
         Command::Demo { seed, sheets } => demo(rt, alloc, seed, sheets, out),
+        Command::Center { .. } => unreachable!(),
     }
 }
 
-/// Does the command that the words spell; the workers of `count` go through the gate.
+/// Does the command that the words spell, unless it is `center`; the workers of `count` go through the gate.
 fn run_words<R: Threads + Sync, I: Inputs, S: Sink, K: Keeper, G: Gate>(
     rt: &R,
     alloc: Global,
@@ -135,14 +140,14 @@ fn run_words<R: Threads + Sync, I: Inputs, S: Sink, K: Keeper, G: Gate>(
     keeper: &mut K,
     gate: &G,
 ) -> Status
-    ensures usage { (result ≡ Status.Usage) ↔ NoCommand words.now }
+    ensures usage { (result ≡ Status.Usage) ↔ NoRun words.now }
     ensures done { (files : Files) → I.held inputs.old ≡ Some files →
-        (command : CommandOf) → Spells words.now command →
+        (command : CommandOf) → SpellsRun words.now command →
         (records : List (List ℕ)) → (uses_keeper command ≡ true → K.held keeper.old ≡ Some records) →
         IsDone (outcome_of command files records)
         (S.taken out.old) (S.taken out.new) (K.held keeper.old) (K.held keeper.new) (answer_of result) }
     // What halts the command before its first text comes before anything is written.
-    ensures nothing_written { (command : CommandOf) → Spells words.now command →
+    ensures nothing_written { (command : CommandOf) → SpellsRun words.now command →
         writes_nothing (takes_first command) (answer_of result) ≡ true →
         S.taken out.new ≡ S.taken out.old }
     ensures usage_writes_nothing { result ≡ Status.Usage → S.taken out.new ≡ S.taken out.old }
@@ -151,11 +156,14 @@ fn run_words<R: Threads + Sync, I: Inputs, S: Sink, K: Keeper, G: Gate>(
         (I.faults inputs.old) (I.faults inputs.new) (answer_of result) }
     ensures sink { LeavesSink (S.faults out.old) (S.faults out.new) (answer_of result) }
     ensures keeper { LeavesKeeper (K.faults keeper.old) (K.faults keeper.new) (answer_of result) }
-    ensures keeper_held { (command : CommandOf) → Spells words.now command →
+    ensures keeper_held { (command : CommandOf) → SpellsRun words.now command →
         appends command ≡ false → K.held keeper.new ≡ K.held keeper.old }
 {
     acts_in_order();
     words_spell_one_command();
+    if is_center(words) {
+        return Status::Usage;
+    }
     match parse(alloc, words) {
         Err(UsageFault::OutOfMemory) => Status::NoMemory,
         Err(UsageFault::Usage) => Status::Usage,
@@ -163,8 +171,8 @@ fn run_words<R: Threads + Sync, I: Inputs, S: Sink, K: Keeper, G: Gate>(
     }
 }
 
-/// Does a command, whole: reads its words, takes its inputs, writes what it writes and keeps what
-/// it keeps.
+/// Does a command but `center`, whole: reads its words, takes its inputs, writes what it writes and keeps
+/// what it keeps. The words of `center` are Usage here: `run_center` does them.
 ///
 /// Where the inputs tell what they hold, and the keeper if the command uses it, the acts of the
 /// command's outcome are done in order: all of them, and the status is the outcome's; or up to one at
@@ -183,14 +191,14 @@ pub fn run<R: Threads + Sync, I: Inputs, S: Sink, K: Keeper>(
     out: &mut S,
     keeper: &mut K,
 ) -> Status
-    ensures usage { (result ≡ Status.Usage) ↔ NoCommand words.now }
+    ensures usage { (result ≡ Status.Usage) ↔ NoRun words.now }
     ensures done { (files : Files) → I.held inputs.old ≡ Some files →
-        (command : CommandOf) → Spells words.now command →
+        (command : CommandOf) → SpellsRun words.now command →
         (records : List (List ℕ)) → (uses_keeper command ≡ true → K.held keeper.old ≡ Some records) →
         IsDone (outcome_of command files records)
         (S.taken out.old) (S.taken out.new) (K.held keeper.old) (K.held keeper.new) (answer_of result) }
     // What halts the command before its first text comes before anything is written.
-    ensures nothing_written { (command : CommandOf) → Spells words.now command →
+    ensures nothing_written { (command : CommandOf) → SpellsRun words.now command →
         writes_nothing (takes_first command) (answer_of result) ≡ true →
         S.taken out.new ≡ S.taken out.old }
     ensures usage_writes_nothing { result ≡ Status.Usage → S.taken out.new ≡ S.taken out.old }
@@ -200,7 +208,7 @@ pub fn run<R: Threads + Sync, I: Inputs, S: Sink, K: Keeper>(
     ensures sink { LeavesSink (S.faults out.old) (S.faults out.new) (answer_of result) }
     ensures keeper { LeavesKeeper (K.faults keeper.old) (K.faults keeper.new) (answer_of result) }
     // A command that appends nothing leaves what the keeper holds.
-    ensures keeper_held { (command : CommandOf) → Spells words.now command →
+    ensures keeper_held { (command : CommandOf) → SpellsRun words.now command →
         appends command ≡ false → K.held keeper.new ≡ K.held keeper.old }
     // Each image of the scans that fits a printed page of the election with some marks, as it lies or
     // turned, is told as that page with those marks.
@@ -224,7 +232,7 @@ pub fn run<R: Threads + Sync, I: Inputs, S: Sink, K: Keeper>(
     // Whatever the status, a journal of the command's election stays one, which keeps the events that it kept,
     // and perhaps more behind them.
     ensures journal_kept { (files : Files) → I.held inputs.old ≡ Some files →
-        (command : CommandOf) → Spells words.now command →
+        (command : CommandOf) → SpellsRun words.now command →
         (election : Election) → IsFor command files election →
         (records : List (List ℕ)) → K.held keeper.old ≡ Some records →
         (events : List Event) → replay_of election records ≡ Ok events →
@@ -242,6 +250,7 @@ pub fn run<R: Threads + Sync, I: Inputs, S: Sink, K: Keeper>(
     fitting_sheets_are_kept();
     count_keeps_journals();
     decide_keeps_journals();
+    center_keeps_journals();
     journals_stay();
     exports_write_what_was_kept();
     run_words(rt, alloc, words, inputs, out, keeper, &OpenGate)

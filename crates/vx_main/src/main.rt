@@ -3,13 +3,16 @@
 //! error and ends with the status's number.
 #![tactic(auto)]
 
+use std::alloc::Global;
 use std::env;
 use std::process::ExitCode;
+use std::sync::Wait;
 use std::thread::Threads;
-use vx_app::{arguments_status, command_words, run};
+use vx_app::{arguments_status, command_words, is_center, run, run_center};
 use vx_command::{Message, Status};
-use vx_io::{KeeperCalls, MemKeeper, Records, StdInputs, StdSink, Words};
+use vx_io::{Inputs, Keeper, KeeperCalls, MemKeeper, Records, Sink, StdInputs, StdSink, Words};
 use vx_keep_sqlite::SqliteKeeper;
+use vx_workers::OpenGate;
 
 /// The arguments of the command line, the program's name before them.
 fn arguments_of_line(rt: &HostRuntime) -> Result<Vec<String>, Status> {
@@ -22,12 +25,28 @@ fn arguments_of_line(rt: &HostRuntime) -> Result<Vec<String>, Status> {
     }
 }
 
+/// Does a command: `center` alone may wait.
+fn run_command<R: Threads + Wait + Sync, I: Inputs, S: Sink, K: Keeper>(
+    threads: &R,
+    alloc: Global,
+    words: &Words,
+    inputs: &mut I,
+    out: &mut S,
+    keeper: &mut K,
+) -> Status {
+    if is_center(words) {
+        run_center(threads, alloc, words, inputs, out, keeper, &OpenGate)
+    } else {
+        run(threads, alloc, words, inputs, out, keeper)
+    }
+}
+
 /// Does a command with a journal in memory, which lasts for this run.
-fn run_in_memory<R: Threads + Sync>(rt: &HostRuntime, threads: &R, words: &Words) -> Status {
+fn run_in_memory<R: Threads + Wait + Sync>(rt: &HostRuntime, threads: &R, words: &Words) -> Status {
     let mut inputs = StdInputs::new(rt);
     let mut out = StdSink::new(rt);
     let mut keeper = MemKeeper::new(Records::new(rt.alloc()), KeeperCalls::new(rt.alloc()));
-    run(
+    run_command(
         threads,
         rt.alloc(),
         words,
@@ -38,7 +57,7 @@ fn run_in_memory<R: Threads + Sync>(rt: &HostRuntime, threads: &R, words: &Words
 }
 
 /// Does a command with a journal in the file of this name.
-fn run_on_file<R: Threads + Sync>(
+fn run_on_file<R: Threads + Wait + Sync>(
     rt: &HostRuntime,
     threads: &R,
     journal: &str,
@@ -47,7 +66,7 @@ fn run_on_file<R: Threads + Sync>(
     let mut inputs = StdInputs::new(rt);
     let mut out = StdSink::new(rt);
     match SqliteKeeper::new(rt, journal) {
-        Ok(mut keeper) => run(
+        Ok(mut keeper) => run_command(
             threads,
             rt.alloc(),
             words,
@@ -60,7 +79,7 @@ fn run_on_file<R: Threads + Sync>(
 }
 
 /// Does a command with the journal that the first argument names.
-fn run_with<R: Threads + Sync>(
+fn run_with<R: Threads + Wait + Sync>(
     rt: &HostRuntime,
     threads: &R,
     journal: &str,
@@ -74,7 +93,7 @@ fn run_with<R: Threads + Sync>(
 }
 
 /// Does the command of the command line.
-fn answer<R: Threads + Sync>(rt: &HostRuntime, threads: &R) -> Result<Status, Status> {
+fn answer<R: Threads + Wait + Sync>(rt: &HostRuntime, threads: &R) -> Result<Status, Status> {
     let arguments = arguments_of_line(rt)?;
     let words = command_words(rt.alloc(), arguments.as_slice())?;
     match arguments.as_slice() {

@@ -1,10 +1,12 @@
-//! What trials share: the town's election, and a command over devices in memory.
+//! What trials share: the town's election, a command over devices in memory, and a gate.
 #![tactic(auto)]
 
+mod crossing;
 mod devices;
 mod town;
 
+pub use crossing::Crossing;
 pub use devices::{
     Answer, Devices, Failing, Held, answer_of, attempt, copy_of, records_of, words_of,
 };
-pub use town::{TOWN, TOWN_HEADER, on_legal};
+pub use town::{BORDER, TOWN, TOWN_HEADER, on_legal};

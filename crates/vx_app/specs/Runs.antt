@@ -1,0 +1,28 @@
+-- Which commands `run` does, and which words are `run_center`'s.
+use Rattle.std.specs.Prelude.{◌≡◌, ℕ, Bool, true, false, List, Some, codes, slice_get}
+use Rattle.vx_words.specs.declared.command.Command.{Command}
+use Rattle.vx_words.specs.declared.command.Command.TheVariants.{Center}
+use Rattle.vx_words.specs.declared.command.ItemWord.{ItemWord}
+use Rattle.vx_words.specs.Words.{Spells}
+
+-- a command that `run` does: each but `center`
+abbrev pub is_run : Command → Bool
+is_run (Center election moment device items) = false
+is_run command = true
+
+-- the words are this command, which `run` does
+pub record SpellsRun (words : List (List ℕ)) (command : Command) : Type 0 where
+  pub spells : Spells words command
+  pub is_run : is_run command ≡ true
+
+-- the words are no command that `run` does
+abbrev pub NoRun : List (List ℕ) → Type 0
+NoRun words = (command : Command) → SpellsRun words command → ⊥
+
+-- the words are no `center`
+abbrev pub NoCenter : List (List ℕ) → Type 0
+NoCenter words = (election moment device : List ℕ) (items : List ItemWord) → Spells words (Center election moment device items) → ⊥
+
+-- the first word names `center`
+abbrev pub NamesCenter : List (List ℕ) → Type 0
+NamesCenter words = slice_get words 0 ≡ Some (codes "center")
