@@ -4,11 +4,11 @@ ghost use Rattle.vx_election_model.specs.Valid.{IsValid};
 ghost use Rattle.vx_styles.specs.Cards.{cards_of};
 
 use crate::outside;
-use crate::town::TOWN;
 use std::alloc::{AllocError, Global};
 use std::test::*;
 use vx_election::{Election, read_election};
 use vx_styles::{cards, contests_of};
+use vx_town::TOWN;
 
 // A valid definition with a part of each kind.
 const VALID: &str = r#"{"title":"Town","date":"2024-11-05","state":"S","county":7,

@@ -1,9 +1,9 @@
 // Cards as planned pages. What is expected was worked out by hand from the rules of the page.
-use crate::town::{TOWN, on_legal};
 use std::alloc::{AllocError, Global};
 use std::test::*;
 use vx_election::read_election;
 use vx_layout::{CardPlan, PagePlan, plan_card, plan_cards};
+use vx_town::{TOWN, on_legal};
 
 // The bubbles of a page, then its texts.
 fn push_page(text: &mut String, page: &PagePlan) -> Result<(), AllocError> {

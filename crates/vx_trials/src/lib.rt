@@ -2,8 +2,6 @@
 #![tactic(auto)]
 
 #[cfg(test)]
-mod commands;
-#[cfg(test)]
 mod elections;
 #[cfg(test)]
 mod layouts;

@@ -7,22 +7,13 @@ use std::alloc::Global;
 use std::test::Fail;
 use vx_election::{Election, read_election};
 use vx_grid::Paper;
-
-/// The town's definition.
-pub(crate) const TOWN: &str =
-    r#"{"title":"Town","date":"2024-11-05","districts":[{"id":"d","name":"Town"}],"precincts":[{"id":"p","name":"North"}],"contests":[{"id":"mayor","type":"candidate","districtId":"d","title":"Mayor","seats":1,"candidates":[{"id":"a","name":"Ada"},{"id":"b","name":"Bo"}]}],"ballotStyles":[{"id":"s","precincts":["p"],"districts":["d"]}]}"#;
-
-/// A definition, on legal paper.
-pub(crate) fn on_legal(alloc: Global, definition: &str) -> Result<String, Fail> {
-    let front = definition.strip_suffix("}").ok_or("no object")?;
-    Ok(format!(in alloc; "{front},\"vxPaper\":\"legal\"}}")?)
-}
+use vx_town::{TOWN, on_legal};
 
 /// The town's definition on a paper.
 pub(crate) fn definition_on(alloc: Global, paper: Paper) -> Result<String, Fail> {
     match paper {
         Paper::Letter => Ok(String::from_str(alloc, TOWN)?),
-        Paper::Legal => on_legal(alloc, TOWN),
+        Paper::Legal => Ok(on_legal(alloc, TOWN)?),
     }
 }
 

@@ -80,6 +80,22 @@ fn told(rt: &HostRuntime, words: &Words) -> Result<String, Fail> {
             )?
         }
         Ok(Command::Demo { seed, sheets }) => format!(in rt.alloc(); "demo {seed} {sheets}")?,
+        Ok(
+            Command::Center {
+                election,
+                moment,
+                device,
+                items,
+            },
+        ) => {
+            format!(in rt.alloc();
+                "center {} {} {} {}",
+                election.as_str(),
+                moment.as_str(),
+                device.as_str(),
+                items.len()
+            )?
+        }
         Err(UsageFault::Usage) => String::from_str(rt.alloc(), "usage")?,
         Err(UsageFault::OutOfMemory) => String::from_str(rt.alloc(), "no memory")?,
     })
@@ -158,6 +174,18 @@ const LINES: &[(&[&str], &str)] = &[
     (&["demo", "+7", "1"], "usage"),
     (&["demo", "7"], "usage"),
     (&["demo", "7", "1", "more"], "usage"),
+    (
+        &[
+            "center",
+            "e",
+            "2024-02-29T23:59:59Z",
+            DEVICE,
+            "script:a:b",
+            "scan:b1:scan:s",
+        ],
+        "center e 2024-02-29T23:59:59Z 00000000-0000-4000-8000-00000000000a 2",
+    ),
+    (&["center", "e", "2024-02-29T23:59:59Z", DEVICE], "usage"),
     (&["export", "e", "2023-02-29T00:00:00Z", DEVICE], "usage"),
     (&["export", "e", "2024-02-30T00:00:00Z", DEVICE], "usage"),
     (&["export", "e", "2024-11-06T08:00:60Z", DEVICE], "usage"),

@@ -1,13 +1,12 @@
 //! Commands over devices in memory: what they write, and what stands where a device fails.
 
-use crate::readings::BORDER;
-use crate::town::{TOWN, on_legal};
 use std::alloc::{AllocError, Global};
 use std::test::Fail;
 use std::thread::Threads;
 use vx_app::run;
 use vx_base::Bytes;
 use vx_io::{Calls, KeeperCalls, MemInputs, MemKeeper, MemSink, NamedBytes, Records, Words};
+use vx_town::{BORDER, TOWN, on_legal};
 
 /// How many bytes a printed page has.
 const PAGE: u64 = 468_613;
