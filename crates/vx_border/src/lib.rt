@@ -12,6 +12,3 @@ mod laws;
 
 pub use following::{BorderFault, expected, first_left, is_near, leader_of, right_of, trace};
 pub use laws::{a_list_is_followed, borders_are_one};
-
-#[cfg(test)]
-mod tests;

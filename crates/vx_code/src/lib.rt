@@ -10,8 +10,6 @@ mod boxes;
 mod code;
 mod laws;
 mod reading;
-#[cfg(test)]
-mod tests;
 
 pub use boxes::{boxes_of, place_of_box};
 pub use code::{CodeFault, PageCode, number_of, tag_of, version_of};

@@ -11,8 +11,6 @@ mod cut;
 mod laws;
 mod packed;
 mod row_sums;
-#[cfg(test)]
-mod tests;
 
 pub use counter::Counter;
 pub use laws::turned_twice_is_as_before;

@@ -18,6 +18,3 @@ pub use fitting::{fits, is_batch, is_decision, is_key, is_station};
 pub use key::Key;
 pub use options::Options;
 pub use vx_refusals::Reply;
-
-#[cfg(test)]
-mod tests;

@@ -5,7 +5,5 @@
 #![tactic(auto)]
 
 mod glyphs;
-#[cfg(test)]
-mod tests;
 
 pub use glyphs::{dots, has_glyph};

@@ -7,8 +7,6 @@
 
 mod laws;
 mod shear;
-#[cfg(test)]
-mod tests;
 
 pub use laws::{
     slants_are_bijections, slants_are_rigid, slants_conserve_counts, slants_move_nearby,

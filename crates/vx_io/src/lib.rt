@@ -37,6 +37,3 @@ pub use std_inputs::StdInputs;
 pub use std_sink::StdSink;
 pub use taking::{TakeFault, take, take_reusing};
 pub use words::Words;
-
-#[cfg(test)]
-mod tests;

@@ -15,6 +15,3 @@ pub use fault::JsonFault;
 pub use kinds::{flag_of, list_of, need, string_of, text_of, whole_of};
 pub use path::Path;
 pub use text::{Text, Texts, characters_of};
-
-#[cfg(test)]
-mod tests;

@@ -15,6 +15,3 @@ mod refusal;
 mod table;
 
 pub use keeper::SqliteKeeper;
-
-#[cfg(test)]
-mod tests;

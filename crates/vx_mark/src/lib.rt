@@ -19,6 +19,3 @@ pub use corner::first_corner;
 pub use judge::{accepted, deficit};
 pub use laws::{the_best_place_is_one, the_corner_is_one};
 pub use search::best_near;
-
-#[cfg(test)]
-mod tests;

@@ -17,8 +17,6 @@ mod plain;
 mod raw;
 mod reader;
 mod step;
-#[cfg(test)]
-mod tests;
 
 pub use fault::PbmFault;
 pub use image::Image;

@@ -18,8 +18,6 @@ mod lines;
 mod numbers;
 mod reader;
 mod said;
-#[cfg(test)]
-mod tests;
 mod words;
 mod writing;
 

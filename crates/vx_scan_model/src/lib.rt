@@ -20,8 +20,6 @@ mod frame;
 mod laws;
 mod named;
 mod reading;
-#[cfg(test)]
-mod tests;
 
 pub use counts::{box_counts, bubble_score};
 pub use fault::PageFault;

@@ -11,6 +11,3 @@ mod tasks;
 
 pub use gate::{Gate, OpenGate};
 pub use tasks::map_tasks;
-
-#[cfg(test)]
-mod tests;

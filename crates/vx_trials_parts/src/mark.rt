@@ -1,11 +1,11 @@
 ghost use Rattle.std.specs.Prelude.{◌≤◌};
 
-use super::{accepted, best_near, deficit, first_corner};
 use std::alloc::Global;
 use std::test::Fail;
 use vx_bits::BitPage;
 use vx_count::Counter;
 use vx_grid::Point;
+use vx_mark::{accepted, best_near, deficit, first_corner};
 
 /// A scan with the shape of a timing mark round each of two places.
 fn scan(alloc: Global, u: u32, v: u32, other_u: u32, other_v: u32) -> Result<Counter, Fail>

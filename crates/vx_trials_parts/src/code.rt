@@ -1,7 +1,7 @@
 ghost use Rattle.vx_code.specs.Code.{IsInRange};
 
-use super::*;
 use std::test::Fail;
+use vx_code::*;
 use vx_grid::{Kind, Paper};
 
 // The SHA-256 of the three bytes `abc`.

@@ -1,5 +1,5 @@
-use super::*;
 use std::test::Fail;
+use vx_events::*;
 use vx_grid::{Kind, State, States};
 use vx_json::Text;
 use vx_rules::{ContestMarks, ContestMarksList, SheetMarks};

@@ -1,7 +1,3 @@
-use crate::{
-    Calls, Failed, Inputs, Keeper, KeeperCalls, MemInputs, MemKeeper, MemSink, NamedBytes, Records,
-    StdInputs, StdSink, TakeFault, Words, give, take,
-};
 use std::alloc::{AllocError, Global};
 use std::cell::RefCell;
 use std::fmt::Display;
@@ -10,6 +6,10 @@ use std::rt::Files;
 use std::test::Fail;
 use std::{env, fs, io, process};
 use vx_base::Bytes;
+use vx_io::{
+    Calls, Failed, Inputs, Keeper, KeeperCalls, MemInputs, MemKeeper, MemSink, NamedBytes, Records,
+    StdInputs, StdSink, TakeFault, Words, give, take,
+};
 
 /// The bytes taken, where they were.
 fn assert_takes(

@@ -1,7 +1,7 @@
-use super::*;
 use std::alloc::{AllocError, Global};
 use std::test::Fail;
 use vx_bits::{BitPage, BitView};
+use vx_count::*;
 use vx_grid::Rect;
 
 macro_rules! rect {

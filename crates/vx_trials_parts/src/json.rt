@@ -1,7 +1,7 @@
-use super::*;
 use serde_json::Value;
 use std::alloc::Global;
 use std::test::Fail;
+use vx_json::*;
 
 // The value of a text. It has no clause, so that no proof computes a reading.
 fn value_of(alloc: Global, text: &str) -> Result<Value, Fail> {

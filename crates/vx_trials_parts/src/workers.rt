@@ -1,11 +1,11 @@
 ghost use Rattle.std.specs.Prelude.{◌≡◌, ◌<◌, ◌≤◌, ◌*◌, ◌^◌, length, map, All, IfOk};
 
-use super::*;
 use std::alloc::Global;
 use std::sync::atomic::{AtomicBool, AtomicU64, Ordering};
 use std::test::Fail;
 use std::thread::Threads;
 use vx_base::OutOfMemory;
+use vx_workers::*;
 
 /// The turns for which a gate holds an item, each of them one load.
 const TURNS: u32 = 100_000_000;

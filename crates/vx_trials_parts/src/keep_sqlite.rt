@@ -1,8 +1,8 @@
-use crate::SqliteKeeper;
 use std::test::Fail;
 use std::{env, fs, process};
 use vx_base::Bytes;
 use vx_io::{Keeper, KeeperError};
+use vx_keep_sqlite::SqliteKeeper;
 
 /// Records that were appended are found by another keeper on the same file, also where the first
 /// one just ended.

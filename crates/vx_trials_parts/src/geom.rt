@@ -1,4 +1,4 @@
-use super::*;
+use vx_geom::*;
 use vx_grid::Point;
 
 /// The steepest shear of a page in a frame of 1800 by 2240.

@@ -1,8 +1,8 @@
-use crate::PageFault;
 use std::test::Fail;
 use vx_border::BorderFault;
 use vx_code::CodeFault;
 use vx_grid::{Point, Side};
+use vx_scan_model::PageFault;
 
 #[test]
 fn faults_have_their_texts(rt: HostRuntime) -> Result<(), Fail> {

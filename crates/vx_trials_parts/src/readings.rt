@@ -1,10 +1,10 @@
 ghost use Rattle.std.specs.Prelude.{◌<◌, ◌^◌, length};
 
-use super::*;
 use std::alloc::Global;
 use std::test::Fail;
 use vx_base::OutOfMemory;
 use vx_grid::Paper;
+use vx_readings::*;
 
 const FIRST: &str = "page 1 card 7 side 3 kind test-absentee\nborder";
 

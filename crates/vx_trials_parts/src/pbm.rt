@@ -1,11 +1,11 @@
 ghost use Rattle.std.specs.Prelude.{◌≤◌};
 
-use super::{PbmFault, PbmReader, write_p4};
 use std::alloc::Global;
 use std::process::Abort;
 use std::test::Fail;
 use vx_base::{Bytes, OutOfMemory};
 use vx_bits::{BitPage, BitView};
+use vx_pbm::{PbmFault, PbmReader, write_p4};
 
 /// The images of the bytes are so many, and then comes the end or a fault, twice.
 fn walk(rt: &(impl Abort + AllocGlobal), bytes: &[u8], images: u32, fault: Option<PbmFault>) {

@@ -1,8 +1,8 @@
 ghost use Rattle.std.specs.Prelude.{◌<◌};
 
-use super::*;
 use std::alloc::{AllocError, Global};
 use std::test::Fail;
+use vx_font::*;
 
 // The glyphs of the codes 32 to 126 and the blank of 127, eight to a band of seven rows.
 #[rattlefmt::skip]

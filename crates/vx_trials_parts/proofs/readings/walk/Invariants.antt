@@ -1,5 +1,5 @@
 use Rattle.std.proofs.Common.{length}
-use Rattle.vx_readings.proofs.tests.walk.Given as goal
+use Rattle.vx_trials_parts.proofs.readings.walk.Given as goal
 
 abbrev pub decreases-pages : goal.decreases-pages
 decreases-pages l = length l.reader.left.lines
