@@ -108,6 +108,27 @@ def seconds(command):
     return least
 
 
+def spent(command):
+    """The seconds that a command takes by the clock and of the processor, its output thrown away."""
+    start = time.monotonic()
+    process = subprocess.Popen(command, stdout=subprocess.DEVNULL)
+    _, status, usage = os.wait4(process.pid, 0)
+    took = time.monotonic() - start
+    process.returncode = os.waitstatus_to_exitcode(status)
+    if process.returncode != 0:
+        raise SystemExit("%s ends with %d" % (" ".join(command), process.returncode))
+    return took, usage.ru_utime + usage.ru_stime
+
+
+def least_spent(commands, rounds):
+    """The same of commands that are run in turns, so many times each: the least of each."""
+    least = [(float("inf"), float("inf"))] * len(commands)
+    for _ in range(rounds):
+        for place, command in enumerate(commands):
+            least[place] = tuple(map(min, least[place], spent(command)))
+    return least
+
+
 def pages_a_second(runs):
     """How many pages a program does in a second by the wall clock, from two pairs of a number of pages
     and a command: what both do once, the start included, doesn't count."""
