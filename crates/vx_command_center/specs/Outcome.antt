@@ -122,6 +122,11 @@ append_acts events = map (λ (event : Event). Append (record_of event)) events
 abbrev pub report_line : List ℕ
 report_line = codes "report" ++ 10 ∷ []
 
+-- what is done of a history besides the report: its accepted events are appended, and its lines are written, and then
+-- those of the sheets without an event
+abbrev pub kept_acts : List Entry → List ℕ → List Act
+kept_acts history text = append_acts (done_events history) ++ (history_acts 0 history ++ Write text ∷ [])
+
 -- what is written when all items have ended with a history: its lines, those of the sheets without an event, and the
 -- report of the events that are kept then
 abbrev pub written_acts : Election → List Event → List Entry → List ℕ → List ℕ → List ℕ → List Act

@@ -13,7 +13,7 @@ use crate::taking::take_items;
 use crate::working::work_off;
 use std::alloc::Global;
 use std::sync::Wait;
-use std::thread::Threads;
+use std::thread::{Threads, spawn};
 use vx_command::{Halt, acts_in_order, plan_all, steps_in_order, take_election};
 use vx_election_model::Election;
 use vx_io::{Inputs, Keeper, Sink};
@@ -23,7 +23,7 @@ use vx_shared::lists_have_histories;
 use vx_words::ItemWord;
 use vx_workers::Gate;
 
-/// Does the items, and what is done when they have ended.
+/// Does the items, and what is done when they have ended. A thread of its own gives their memory back meanwhile.
 fn do_items<'e, R: Threads + Wait + Sync, S: Sink, K: Keeper, G: Gate>(
     rt: &R,
     alloc: Global,
@@ -32,7 +32,7 @@ fn do_items<'e, R: Threads + Wait + Sync, S: Sink, K: Keeper, G: Gate>(
     journal: Journal<'e>,
     moment: &str,
     device: &str,
-    items: &Items,
+    items: Items,
     gate: &G,
     out: &mut S,
     keeper: &mut K,
@@ -40,11 +40,11 @@ fn do_items<'e, R: Threads + Wait + Sync, S: Sink, K: Keeper, G: Gate>(
     requires valid { IsValid election.now }
     requires plans { ArePlansOf election.now plans.now }
     requires same { journal.center.election ≡ election.now }
-    requires some { 0 < length items.now }
-    requires few { length items.now ≤ 16 }
-    requires within { possible_in_all items.now ≤ 1000000 }
-    requires fits { All (FitsItem election.now) items.now }
-    ensures done { CentersItems election.now journal.entry moment.now device.now items.now
+    requires some { 0 < length items }
+    requires few { length items ≤ 16 }
+    requires within { possible_in_all items ≤ 1000000 }
+    requires fits { All (FitsItem election.now) items }
+    ensures done { CentersItems election.now journal.entry moment.now device.now items
         (S.taken out.old) (S.taken out.new) (K.held keeper.old) (K.held keeper.new) result }
     ensures late { writes_nothing true result ≡ false }
     ensures no_read_fault { is_read_fault result ≡ false }
@@ -54,7 +54,12 @@ fn do_items<'e, R: Threads + Wait + Sync, S: Sink, K: Keeper, G: Gate>(
     acts_in_order();
     lists_have_histories();
     let ended = work_off(rt, alloc, election, plans, journal, items.as_slice(), gate)?;
-    end_center(alloc, election, &ended, moment, device, out, keeper)
+    let giving_back = spawn(rt, move || drop(items));
+    let answer = end_center(rt, alloc, election, &ended, moment, device, out, keeper);
+    if let Ok(thread) = giving_back {
+        thread.join(rt);
+    }
+    answer
 }
 
 /// Takes the items and does them.
@@ -89,7 +94,7 @@ fn center_read<'e, R: Threads + Wait + Sync, I: Inputs, S: Sink, K: Keeper, G: G
     lists_have_histories();
     let taken = take_items(rt, alloc, election, items, inputs)?;
     do_items(
-        rt, alloc, election, plans, journal, moment, device, &taken, gate, out, keeper,
+        rt, alloc, election, plans, journal, moment, device, taken, gate, out, keeper,
     )
 }
 

@@ -1,22 +1,21 @@
 //! What is done when all items have ended: the accepted events are appended, and the history, the lines of the
 //! sheets without an event and the report are written.
-ghost use Rattle.std.specs.Prelude.{◌≡◌, ◌<◌, ◌++◌, ◌^◌, false, IfOk, OnOk, length, string_bytes};
+ghost use Rattle.std.specs.Prelude.{◌≡◌, ◌<◌, ◌++◌, ◌∷◌, ◌^◌, [], ℕ, List, false, IfOk, OnOk, length, string_bytes};
 ghost use Rattle.vx_election_model.specs.Valid.{IsValid};
-ghost use Rattle.vx_command.specs.Acts.{work, writing};
+ghost use Rattle.vx_command.specs.Acts.{Write, work, writing};
 ghost use Rattle.vx_command.specs.Devices.{LeavesKeeper, LeavesSink, TouchesSink, is_read_fault};
 ghost use Rattle.vx_command.specs.Done.{IsDone, IsWritten};
-ghost use Rattle.vx_cvr.specs.Report.{report_of};
 ghost use Rattle.vx_journal.specs.Keeping.{begin_acts};
 ghost use Rattle.vx_journal.specs.Steps.{IsRecorded, TouchesKeeper};
 ghost use Rattle.vx_shared.specs.Legal.{done_events, done_of};
-ghost use Rattle.vx_command_center.specs.Outcome.{append_acts, event_head, event_line, history_acts, written_acts};
+ghost use Rattle.vx_command_center.specs.Outcome.{append_acts, event_head, event_line, history_acts, kept_acts, report_line, written_acts};
 
+use crate::telling::{ReportOf, Reporter};
 use crate::working::Ended;
 use std::alloc::Global;
+use std::thread::{Threads, join_mut};
 use vx_base::{Bytes, OutOfMemory};
-use vx_center::Center;
 use vx_command::{Halt, acts_in_order, write_text};
-use vx_cvr::report;
 use vx_election_model::Election;
 use vx_io::{Keeper, Sink};
 use vx_journal::{append_event, begin_journal};
@@ -92,52 +91,75 @@ pub(crate) fn write_history<S: Sink>(
     Ok(())
 }
 
-/// Writes the report.
-fn write_report<S: Sink>(
+/// Appends the records of the accepted events of a history, and writes its lines and those of the sheets without
+/// an event.
+fn keep_history<S: Sink, K: Keeper>(
     alloc: Global,
-    election: &Election,
-    center: &Center<'_>,
-    moment: &str,
-    device: &str,
+    history: &[Entry],
+    text: &[u8],
     out: &mut S,
+    keeper: &mut K,
 ) -> Result<(), Halt>
-    requires valid { IsValid election.now }
-    requires election { center.now.election ≡ election.now }
-    ensures done { IsWritten (writing (report_of election.now center.now.events moment.now device.now))
-        (S.taken out.old) (S.taken out.new) result }
+    requires few { length history.now < 2 ^ 62 }
+    ensures done { IsDone (work (kept_acts history.now text.now))
+        (S.taken out.old) (S.taken out.new) (K.held keeper.old) (K.held keeper.new) result }
+    ensures no_read_fault { is_read_fault result ≡ false }
+    ensures sink { LeavesSink (S.faults out.old) (S.faults out.new) result }
+    ensures keeper { LeavesKeeper (K.faults keeper.old) (K.faults keeper.new) result }
+{
+    acts_in_order();
+    append_history(alloc, history, keeper)?;
+    write_history(alloc, history, out)?;
+    write_text(out, text)
+}
+
+/// The same, while a thread makes the report.
+fn keep_beside<R: Threads, T: Reporter, S: Sink, K: Keeper>(
+    rt: &R,
+    alloc: Global,
+    reporter: &T,
+    history: &[Entry],
+    text: &[u8],
+    out: &mut S,
+    keeper: &mut K,
+) -> (Result<Bytes, OutOfMemory>, Result<(), Halt>)
+    requires may { T.may reporter.now }
+    requires few { length history.now < 2 ^ 62 }
+    ensures told { IfOk result.0 (λ told. told ≡ T.line reporter.now) }
+    ensures done { IsDone (work (kept_acts history.now text.now))
+        (S.taken out.old) (S.taken out.new) (K.held keeper.old) (K.held keeper.new) result.1 }
+    ensures no_read_fault { is_read_fault result.1 ≡ false }
+    ensures sink { LeavesSink (S.faults out.old) (S.faults out.new) result.1 }
+    ensures keeper { LeavesKeeper (K.faults keeper.old) (K.faults keeper.new) result.1 }
+{
+    join_mut(
+        rt,
+        &mut || -> Result<Bytes, OutOfMemory>
+            requires { T.may reporter.now }
+            ensures { IfOk result (λ told. told ≡ T.line reporter.entry.now) }
+        { reporter.report(alloc) },
+        &mut || -> Result<(), Halt>
+            requires { length history.now < 2 ^ 62 }
+        { keep_history(alloc, history, text, out, keeper) },
+    )
+}
+
+/// Writes a report, where there was memory for it, behind a line of its own.
+fn write_report<S: Sink>(told: Result<Bytes, OutOfMemory>, out: &mut S) -> Result<(), Halt>
+    ensures done { (line : List ℕ) → IfOk told (λ text. text ≡ line) → IsWritten (work (Write report_line
+        ∷ Write line ∷ [])) (S.taken out.old) (S.taken out.new) result }
     ensures sink { TouchesSink (S.faults out.old) (S.faults out.new) result }
 {
     acts_in_order();
-    let text = report(alloc, election, center, moment, device)?;
+    write_text(out, b"report\n")?;
+    let text = told?;
     write_text(out, text.as_slice())
 }
 
-/// Writes the history, the lines of the sheets without an event, and the report of the center behind it.
-fn write_all<S: Sink>(
-    alloc: Global,
-    election: &Election,
-    ended: &Ended<'_>,
-    moment: &str,
-    device: &str,
-    out: &mut S,
-) -> Result<(), Halt>
-    requires valid { IsValid election.now }
-    requires election { ended.now.journal.center.election ≡ election.now }
-    requires few { length ended.now.history < 2 ^ 62 }
-    ensures done { IsWritten (work (written_acts election.now ended.now.journal.center.events
-        ended.now.history ended.now.text moment.now device.now))
-        (S.taken out.old) (S.taken out.new) result }
-    ensures sink { TouchesSink (S.faults out.old) (S.faults out.new) result }
-{
-    acts_in_order();
-    write_history(alloc, ended.history.as_slice(), out)?;
-    write_text(out, ended.text.as_slice())?;
-    write_text(out, b"report\n")?;
-    write_report(alloc, election, &ended.journal.center, moment, device, out)
-}
-
-/// Begins the journal where no record was there, appends the accepted events, and writes all.
-pub(crate) fn end_center<S: Sink, K: Keeper>(
+/// Begins the journal where no record was there, appends the accepted events, and writes all. A thread makes the
+/// report meanwhile.
+pub(crate) fn end_center<R: Threads, S: Sink, K: Keeper>(
+    rt: &R,
     alloc: Global,
     election: &Election,
     ended: &Ended<'_>,
@@ -159,6 +181,21 @@ pub(crate) fn end_center<S: Sink, K: Keeper>(
 {
     acts_in_order();
     begin_journal(alloc, election, &ended.journal, keeper)?;
-    append_history(alloc, ended.history.as_slice(), keeper)?;
-    write_all(alloc, election, ended, moment, device, out)
+    let reporter = ReportOf {
+        election,
+        center: &ended.journal.center,
+        moment,
+        device,
+    };
+    let (told, kept) = keep_beside(
+        rt,
+        alloc,
+        &reporter,
+        ended.history.as_slice(),
+        ended.text.as_slice(),
+        out,
+        keeper,
+    );
+    kept?;
+    write_report(told, out)
 }

@@ -16,6 +16,7 @@ mod lines;
 mod rooms;
 mod scanning;
 mod taking;
+mod telling;
 mod two;
 mod working;
 

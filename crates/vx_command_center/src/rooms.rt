@@ -1,20 +1,19 @@
 //! Memory for what the items' inputs hold. New memory takes longer to be had than a scan takes to be read into
-//! it, so that of all items is made ready side by side.
-ghost use Rattle.std.specs.Prelude.{◌≡◌, ◌≤◌, IfErr, IfOk, length};
+//! it, so threads make that of the items behind the first ready, while the inputs before are read.
+ghost use Rattle.std.specs.Prelude.{◌≡◌, IfErr, IfOk, length};
 ghost use Rattle.vx_command.specs.Devices.{TouchesInputs};
 ghost use Rattle.vx_command_center.specs.Taking.{BreaksBefore};
 
 use crate::item::input_for;
 use std::alloc::Global;
-use std::thread::Threads;
+use std::thread::{JoinHandle, Threads, spawn};
 use vx_base::{Bytes, ListOf, OutOfMemory};
 use vx_command::Halt;
 use vx_io::Inputs;
 use vx_words::ItemWord;
-use vx_workers::{OpenGate, map_tasks};
 
-/// The most threads that make memory ready, which is the most items that there are.
-const THREADS: u32 = 16;
+/// A thread that makes memory ready for an input; none where the memory is had when the input is read.
+pub(crate) type Room = Option<JoinHandle<Result<Bytes, OutOfMemory>>>;
 
 /// How many bytes the input of an item has; 0 where there is none, or more than it may have.
 fn length_for<I: Inputs>(item: &ItemWord, inputs: &mut I) -> Result<usize, Halt>
@@ -56,22 +55,59 @@ fn zeros(alloc: Global, length: usize) -> Result<Bytes, OutOfMemory> {
     Ok(Bytes::from_vec(bytes))
 }
 
-/// Memory of the length of each item's input, that of the last item first, whatever is in it. It asks for the
+/// Begins to make memory of these lengths ready but for the first, by a thread for each, that of the last first.
+fn begin_rooms<R: Threads>(
+    rt: &R,
+    alloc: Global,
+    lengths: &[usize],
+) -> Result<Vec<Room>, OutOfMemory> {
+    let mut rooms = Vec::new(alloc);
+    for length in lengths {
+        let length = *length;
+        let room = if rooms.is_empty() {
+            None
+        } else {
+            spawn(rt, move || -> Result<Bytes, OutOfMemory> {
+                zeros(alloc, length)
+            })
+            .ok()
+        };
+        rooms.push(room)?;
+    }
+    rooms.reverse();
+    Ok(rooms)
+}
+
+/// Begins to make memory of the length of each item's input ready, that of the last item first. It asks for the
 /// sizes alone.
-pub(crate) fn rooms_for<R: Threads + Sync, I: Inputs>(
+pub(crate) fn rooms_for<R: Threads, I: Inputs>(
     rt: &R,
     alloc: Global,
     words: &[ItemWord],
     inputs: &mut I,
-) -> Result<Vec<Bytes>, Halt>
-    requires { length words.now ≤ 16 }
+) -> Result<Vec<Room>, Halt>
     ensures broke { IfErr result BreaksBefore }
     ensures inputs { TouchesInputs (I.held inputs.old) (I.held inputs.new)
         (I.faults inputs.old) (I.faults inputs.new) result }
 {
     let lengths = lengths_for(alloc, words, inputs)?;
-    let task = |length: &usize| -> Result<Bytes, OutOfMemory> { zeros(alloc, *length) };
-    let mut rooms = map_tasks(rt, alloc, lengths.as_slice(), THREADS, &OpenGate, &task)?;
-    rooms.reverse();
+    let rooms = begin_rooms(rt, alloc, lengths.as_slice())?;
     Ok(rooms)
+}
+
+/// The memory that stands last of what is left, when it is ready, whatever is in it.
+pub(crate) fn next_room<R: Threads>(rt: &R, alloc: Global, rooms: &mut Vec<Room>) -> Bytes {
+    match rooms.pop() {
+        Some(Some(thread)) => thread.join(rt).unwrap_or(Bytes::new(alloc)),
+        Some(None) | None => Bytes::new(alloc),
+    }
+}
+
+/// Waits for the threads that are left, and gives their memory back.
+pub(crate) fn leave_rooms<R: Threads>(rt: &R, rooms: Vec<Room>) {
+    for room in rooms {
+        if let Some(thread) = room {
+            let _unused = thread.join(rt);
+        }
+    }
 }

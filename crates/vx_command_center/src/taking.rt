@@ -13,7 +13,7 @@ ghost use Rattle.vx_command_center.specs.Taking.{TakesItems};
 
 use crate::item::{Item, Items, input_for, possible_in};
 use crate::lines::{scan_item, script_events};
-use crate::rooms::rooms_for;
+use crate::rooms::{Room, leave_rooms, next_room, rooms_for};
 use std::alloc::Global;
 use std::thread::Threads;
 use vx_base::Bytes;
@@ -90,10 +90,11 @@ fn take_item<I: Inputs>(
 }
 
 /// Takes the items that the words from 4 on name, each into the memory that stands last of what is left.
-fn take_into<I: Inputs>(
+fn take_into<R: Threads, I: Inputs>(
+    rt: &R,
     alloc: Global,
     election: &Election,
-    mut rooms: Vec<Bytes>,
+    rooms: &mut Vec<Room>,
     words: &[ItemWord],
     inputs: &mut I,
 ) -> Result<Items, Halt>
@@ -112,7 +113,7 @@ fn take_into<I: Inputs>(
     let mut word = 4;
     let mut before = 0;
     for item in words {
-        let room = rooms.pop().unwrap_or(Bytes::new(alloc));
+        let room = next_room(rt, alloc, rooms);
         let taken = take_item(alloc, room, election, word, before, item, inputs)?;
         before += possible_in(&taken);
         items.push(taken)?;
@@ -122,7 +123,7 @@ fn take_into<I: Inputs>(
 }
 
 /// Takes the items that the words from 4 on name. It asks for the sizes of all their inputs first.
-pub(crate) fn take_items<R: Threads + Sync, I: Inputs>(
+pub(crate) fn take_items<R: Threads, I: Inputs>(
     rt: &R,
     alloc: Global,
     election: &Election,
@@ -139,6 +140,8 @@ pub(crate) fn take_items<R: Threads + Sync, I: Inputs>(
         (I.faults inputs.old) (I.faults inputs.new) result }
 {
     steps_in_order::<Item>();
-    let rooms = rooms_for(rt, alloc, words, inputs)?;
-    take_into(alloc, election, rooms, words, inputs)
+    let mut rooms = rooms_for(rt, alloc, words, inputs)?;
+    let taken = take_into(rt, alloc, election, &mut rooms, words, inputs);
+    leave_rooms(rt, rooms);
+    taken
 }

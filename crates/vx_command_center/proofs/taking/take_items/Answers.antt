@@ -10,4 +10,4 @@ returns-in_err-rooms-clause-told g c files told =
     (none_taken c.steps_in_order.ensures c.args.election.now files c.args.words.now c.requires.words.some c.in_err-rooms.field-0.0 c.in_err-rooms.ensures.broke)
 
 pub returns-clause-told : goal.returns-clause-told
-returns-clause-told g c files told = c.take_into.ensures.told files (c.in_ok-rooms.ensures.inputs.inputs.same ∙ told)
+returns-clause-told g c files told = c.take_into-taken.ensures.told files (c.in_ok-rooms.ensures.inputs.inputs.same ∙ told)
