@@ -8,12 +8,12 @@ ghost use Rattle.vx_command_center.specs.Items.{FitsItem, possible_in_all};
 ghost use Rattle.vx_command_center.specs.Runs.{Centers, CentersItems, CentersJournal, CentersPlanned, CentersSet};
 
 use crate::ending::end_center;
-use crate::item::Items;
+use crate::item::{Item, Items};
 use crate::taking::take_items;
 use crate::working::work_off;
 use std::alloc::Global;
 use std::sync::Wait;
-use std::thread::{Threads, spawn};
+use std::thread::{Threads, map_vec};
 use vx_command::{Halt, acts_in_order, plan_all, steps_in_order, take_election};
 use vx_election_model::Election;
 use vx_io::{Inputs, Keeper, Sink};
@@ -23,7 +23,12 @@ use vx_shared::lists_have_histories;
 use vx_words::ItemWord;
 use vx_workers::Gate;
 
-/// Does the items, and what is done when they have ended. A thread of its own gives their memory back meanwhile.
+/// Gives the memory of items back, by a thread for each. It comes last, as whoever asks for memory meanwhile waits.
+fn give_back<R: Threads + Sync>(rt: &R, items: Items) {
+    let _given_back = map_vec(rt, items.into_vec(), &|_item: Item| {});
+}
+
+/// Does the items, and what is done when they have ended, and gives their memory back.
 fn do_items<'e, R: Threads + Wait + Sync, S: Sink, K: Keeper, G: Gate>(
     rt: &R,
     alloc: Global,
@@ -54,11 +59,8 @@ fn do_items<'e, R: Threads + Wait + Sync, S: Sink, K: Keeper, G: Gate>(
     acts_in_order();
     lists_have_histories();
     let ended = work_off(rt, alloc, election, plans, journal, items.as_slice(), gate)?;
-    let giving_back = spawn(rt, move || drop(items));
     let answer = end_center(rt, alloc, election, &ended, moment, device, out, keeper);
-    if let Ok(thread) = giving_back {
-        thread.join(rt);
-    }
+    give_back(rt, items);
     answer
 }
 
