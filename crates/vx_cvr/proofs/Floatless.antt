@@ -1,5 +1,5 @@
--- A report holds no number with a fraction.
-use Rattle.std.proofs.Common.{◌≡◌, ℕ, Bool, true, false, ◌||◌, List, [], ◌∷◌, ◌++◌, length, map, refl, sym, ap, ap₂, ◌∙◌}
+-- The parts of a report hold no number with a fraction.
+use Rattle.std.proofs.Common.{◌≡◌, ℕ, Bool, true, false, ◌||◌, List, [], ◌∷◌, ◌++◌, length, map, refl}
 use Rattle.std.specs.Prelude.{Option, None, Some, if◌then◌else◌}
 use Rattle.std.specs.List.{flat_map, range_with_len}
 use Rattle.std.specs.Prelude.{codes, slice_index_or}
@@ -111,13 +111,12 @@ snapshot election row =
     both (items_have_float (items_of (map (spec.counted_in election) row.finals))) false
     (made (spec.counted_in election) row.finals (λ final. counted (slice_index_or election.contests final.contest spec.no_contest) final)) refl
 
-sheet : (election : Election) (row : ExportSheet) → has_float (spec.sheet election row) ≡ false
+pub sheet : (election : Election) (row : ExportSheet) → has_float (spec.sheet election row) ≡ false
 sheet election row =
     both (has_float (spec.snapshot election row) || false) false
     (both (has_float (spec.snapshot election row)) false (snapshot election row) refl) refl
 
-pub report : (election : Election) (rows : List ExportSheet) (moment id : List ℕ) → has_float (spec.report_over election rows moment id) ≡ false
-report given rows moment id =
-    both (items_have_float (items_of (map (spec.sheet given) rows))) _ (made (spec.sheet given) rows (sheet given))
-    (both (has_float (spec.election_object given) || false) _ (both (has_float (spec.election_object given)) false (election given) refl)
-    (both (items_have_float (items_of (map spec.precinct given.precincts))) false (made spec.precinct given.precincts (λ named. refl)) refl))
+pub behind : (election : Election) (moment id : List ℕ) → has_float (described (spec.behind_sheets election moment id)) ≡ false
+behind given moment id =
+    both (has_float (spec.election_object given) || false) _ (both (has_float (spec.election_object given)) false (election given) refl)
+    (both (items_have_float (items_of (map spec.precinct given.precincts))) false (made spec.precinct given.precincts (λ named. refl)) refl)

@@ -3,3 +3,4 @@ pub mod Floatless
 pub mod Order
 pub mod Keyed
 pub mod Rows
+pub mod Texts

@@ -211,17 +211,22 @@ HasOptions given =
 abbrev pub HasItsContests : Election → ExportSheet → Type 0
 HasItsContests election row = All (IsOfElection election) row.finals
 
+-- the members of a report behind its sheets
+abbrev pub behind_sheets : Election → List ℕ → List ℕ → List (List ℕ × Data)
+behind_sheets election moment id =
+    (codes "Election", list (election_object election ∷ []))
+    ∷ (codes "GeneratedDate", text moment)
+    ∷ (codes "GpUnit", list (places election))
+    ∷ (codes "ReportGeneratingDeviceIds", list (text (device_name id) ∷ []))
+    ∷ (codes "ReportingDevice", list (device id ∷ []))
+    ∷ (codes "Version", text (codes "1.0.0")) ∷ []
+
 -- the report of rows
 abbrev pub report_over : Election → List ExportSheet → List ℕ → List ℕ → Data
 report_over election rows moment id = described
     (class (codes "CastVoteRecordReport")
     ∷ (codes "CVR", list (map (sheet election) rows))
-    ∷ (codes "Election", list (election_object election ∷ []))
-    ∷ (codes "GeneratedDate", text moment)
-    ∷ (codes "GpUnit", list (places election))
-    ∷ (codes "ReportGeneratingDeviceIds", list (text (device_name id) ∷ []))
-    ∷ (codes "ReportingDevice", list (device id ∷ []))
-    ∷ (codes "Version", text (codes "1.0.0")) ∷ [])
+    ∷ behind_sheets election moment id)
 
 -- the report of the kept events: one line of text
 unfoldable pub report_of : Election → List Event → List ℕ → List ℕ → List ℕ

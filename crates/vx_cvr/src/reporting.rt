@@ -1,8 +1,9 @@
-ghost use Rattle.std.specs.Prelude.{◌≡◌, ◌++◌, ◌∷◌, [], All, IfOk, map};
+ghost use Rattle.std.specs.Prelude.{◌≡◌, ◌++◌, ◌∷◌, [], ℕ, List, All, IfOk, OnOk, codes, false, map, true};
+ghost use Rattle.serde_json.specs.Data.{Data, Members, member, object};
 ghost use Rattle.serde_json.specs.View.{view};
-ghost use Rattle.serde_json.specs.Written.{compact_text};
+ghost use Rattle.serde_json.specs.Written.{compact_text, has_float, members_text};
 ghost use Rattle.vx_election_model.specs.Valid.{IsValid};
-ghost use Rattle.vx_cvr.specs.Json.{list};
+ghost use Rattle.vx_cvr.specs.Json.{described};
 ghost use Rattle.vx_cvr.specs.Report as spec;
 
 use crate::contests::election as election_object;
@@ -16,43 +17,30 @@ use vx_center::{Center, ExportSheet};
 use vx_election_model::Election;
 use vx_styles::cards;
 
-/// The sheets of a report.
-fn sheets(
-    alloc: Global,
-    election: &Election,
-    rows: &[ExportSheet],
-) -> Result<Vec<Value>, OutOfMemory>
-    requires election { IsValid election.now }
-    requires contests { All (spec.HasItsContests election.now) rows.now }
-    ensures { IfOk result (λ values. map view values.items ≡ map (spec.sheet election.now) rows.now) }
+/// Writes what stands before the sheets of a report.
+fn push_front(text: &mut Bytes) -> Result<(), OutOfMemory>
+    ensures { OnOk result (text.new
+        ≡ text.old ++ codes "{\"@type\":\"CVR.CastVoteRecordReport\",\"CVR\":[") }
 {
-    let cards = cards(alloc, election)?;
-    let mut values = Vec::with_capacity(alloc, rows.len())?;
-    push_sheets(alloc, &mut values, election, cards.as_slice(), rows)?;
-    Ok(values)
+    text.extend_from_slice(b"{\"@type\":\"CVR.CastVoteRecordReport\",\"CVR\":[")
 }
 
-/// The report of rows as a value.
-fn report_over(
+/// The members of a report behind its sheets, as a value.
+fn behind_sheets(
     alloc: Global,
     election: &Election,
-    rows: &[ExportSheet],
     moment: &str,
     device: &str,
 ) -> Result<Value, OutOfMemory>
-    requires election { IsValid election.now }
-    requires contests { All (spec.HasItsContests election.now) rows.now }
+    requires { IsValid election.now }
     ensures { IfOk result (λ value. view value
-        ≡ spec.report_over election.now rows.now moment.now device.now) }
+        ≡ described (spec.behind_sheets election.now moment.now device.now)) }
 {
-    let sheets = sheets(alloc, election, rows)?;
     let given = election_object(alloc, election)?;
     let places = places(alloc, election)?;
     let name = device_name(alloc, device)?;
     let reporting = device_object(alloc, device)?;
     json!(in alloc; {
-        "@type": "CVR.CastVoteRecordReport",
-        "CVR": sheets,
         "Election": [given],
         "GeneratedDate": moment,
         "GpUnit": places,
@@ -60,6 +48,42 @@ fn report_over(
         "ReportingDevice": [reporting],
         "Version": "1.0.0"
     })
+}
+
+/// Writes the members of an object behind others, and its closing brace.
+fn push_members(alloc: Global, text: &mut Bytes, value: &Value) -> Result<(), OutOfMemory>
+    requires { has_float (view value.now) ≡ false }
+    ensures { OnOk result ((key : List ℕ) (of : Data) (others : Members) →
+        view value.now ≡ object (member key of others) →
+        text.new ≡ text.old ++ members_text true (member key of others)) }
+{
+    let whole = value.to_vec(alloc)?;
+    text.push(b',')?;
+    match whole.as_slice().split_first() {
+        Some((_brace, members)) => text.extend_from_slice(members),
+        None => Ok(()),
+    }
+}
+
+/// Writes the report of rows.
+fn push_report(
+    alloc: Global,
+    text: &mut Bytes,
+    election: &Election,
+    rows: &[ExportSheet],
+    moment: &str,
+    device: &str,
+) -> Result<(), OutOfMemory>
+    requires election { IsValid election.now }
+    requires contests { All (spec.HasItsContests election.now) rows.now }
+    ensures { OnOk result (text.new
+        ≡ text.old ++ compact_text (spec.report_over election.now rows.now moment.now device.now)) }
+{
+    let cards = cards(alloc, election)?;
+    push_front(text)?;
+    push_sheets(alloc, text, election, cards.as_slice(), rows)?;
+    let behind = behind_sheets(alloc, election, moment, device)?;
+    push_members(alloc, text, &behind)
 }
 
 /// The report of a count as one line of text: the sheets that the center has kept, with their exported
@@ -79,8 +103,8 @@ pub fn report(
     // What the kept events are: no key stands in them twice, so that their rows have one order.
     let _kept = center.events();
     let rows = center.export_rows(alloc)?;
-    let value = report_over(alloc, election, rows.as_slice(), moment, device)?;
-    let mut text = value.to_vec(alloc)?;
+    let mut text = Bytes::new(alloc);
+    push_report(alloc, &mut text, election, rows.as_slice(), moment, device)?;
     text.push(b'\n')?;
-    Ok(Bytes::from_vec(text))
+    Ok(text)
 }

@@ -1,7 +1,8 @@
 //! The sheets, with their exported contests and what they count as.
 
-ghost use Rattle.std.specs.Prelude.{◌≡◌, ◌++◌, ◌+◌, ◌/◌, All, IfOk, OnOk, map, slice_index_or, string_bytes};
-ghost use Rattle.serde_json.specs.View.{view};
+ghost use Rattle.std.specs.Prelude.{◌≡◌, ◌++◌, ◌+◌, ◌/◌, All, IfOk, OnOk, false, map, slice_index_or, string_bytes};
+ghost use Rattle.serde_json.specs.View.{items_of, view};
+ghost use Rattle.serde_json.specs.Written.{comma_if, compact_text, has_float, items_text};
 ghost use Rattle.std.specs.Fmt.{decimal};
 ghost use Rattle.vx_styles.specs.Cards.{cards_of, no_card, no_style};
 ghost use Rattle.vx_cvr.specs.Json.{list, text};
@@ -16,7 +17,7 @@ use crate::votes::{
 };
 use serde_json::{Value, json};
 use std::alloc::Global;
-use vx_base::OutOfMemory;
+use vx_base::{Bytes, OutOfMemory};
 use vx_center::{ExportSheet, Final, WriteInName};
 use vx_election_model::{Contest, Election};
 use vx_styles::Card;
@@ -296,21 +297,43 @@ fn sheet(
     sheet_with(alloc, names, row.key.batch.as_str(), style, taken)
 }
 
-/// Adds sheets in order.
+/// Writes a value behind others of a list: a comma, where one stands before, and its text.
+fn push_item(
+    alloc: Global,
+    text: &mut Bytes,
+    is_later: bool,
+    value: &Value,
+) -> Result<(), OutOfMemory>
+    requires { has_float (view value.now) ≡ false }
+    ensures { OnOk result (text.new
+        ≡ text.old ++ (comma_if is_later ++ compact_text (view value.now))) }
+{
+    if is_later {
+        text.push(b',')?;
+    }
+    let own = value.to_vec(alloc)?;
+    text.extend_from_slice(own.as_slice())
+}
+
+/// Writes sheets in order, as the items of a list, and its closing bracket. A sheet's value goes once its text
+/// stands, so that no more than one is held.
 pub fn push_sheets(
     alloc: Global,
-    values: &mut Vec<Value>,
+    text: &mut Bytes,
     election: &Election,
     cards: &[Card],
     rows: &[ExportSheet],
 ) -> Result<(), OutOfMemory>
     requires cards { cards.now ≡ cards_of election.now }
     requires contests { All (spec.HasItsContests election.now) rows.now }
-    ensures { OnOk result (map view values.new.items
-        ≡ map view values.old.items ++ map (spec.sheet election.now) rows.now) }
+    ensures { OnOk result (text.new
+        ≡ text.old ++ items_text false (items_of (map (spec.sheet election.now) rows.now))) }
 {
+    let mut is_later = false;
     for row in rows {
-        values.push(sheet(alloc, election, cards, row)?)?;
+        let value = sheet(alloc, election, cards, row)?;
+        push_item(alloc, text, is_later, &value)?;
+        is_later = true;
     }
-    Ok(())
+    text.push(b']')
 }

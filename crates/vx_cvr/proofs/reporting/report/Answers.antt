@@ -1,7 +1,5 @@
-use Rattle.std.proofs.Common.{◌≡◌, ◌++◌, ◌∷◌, [], ℕ, List, Bool, false, rules, sym, ap, ◌∙◌, subst}
-use Rattle.serde_json.specs.Data.{Data}
-use Rattle.serde_json.specs.View.{view}
-use Rattle.serde_json.specs.Written.{compact_text, has_float}
+use Rattle.std.proofs.Common.{◌≡◌, ◌++◌, ◌∷◌, [], ℕ, List, rules, sym, ap, ◌∙◌, subst}
+use Rattle.serde_json.specs.Written.{compact_text}
 use Rattle.vx_election_model.specs.declared.election.Election.{Election}
 use Rattle.vx_events.specs.declared.event.Event.{Event}
 use Rattle.vx_center.specs.declared.rows.ExportSheet.{ExportSheet}
@@ -9,7 +7,6 @@ use Rattle.vx_center.specs.Exports.{AreExportRows}
 use Rattle.vx_center.specs.Histories.{IsHistory}
 use Rattle.vx_cvr.specs.Report.{report_of, report_over}
 use Rattle.vx_cvr.specs.Rows.{rows_of}
-use Rattle.vx_cvr.proofs.Floatless as floatless
 use Rattle.vx_cvr.proofs.Rows.{contests_there, rows_are}
 use Rattle.vx_cvr.proofs.reporting.report.Goals as goal
 
@@ -19,8 +16,8 @@ exported : (election other : Election) (kept : List Event) (given rows : List Ex
 exported election other kept given rows same shown are =
     subst (λ (e : Election). AreExportRows e kept given) same (subst (λ (r : List ExportSheet). AreExportRows other kept r) (sym shown) are)
 
-pub report_over-requires-clause-contests : goal.report_over-requires-clause-contests
-report_over-requires-clause-contests c =
+pub push_report-requires-clause-contests : goal.push_report-requires-clause-contests
+push_report-requires-clause-contests c =
     let shown : c.as_slice.result.now ≡ c.in_ok-rows.rows = search rules in
     contests_there c.args.election.now c.args.center.now.events c.as_slice.result.now
     (exported c.args.election.now c.args.center.now.election c.args.center.now.events c.as_slice.result.now c.in_ok-rows.rows c.requires.election shown c.in_ok-rows.ensures)
@@ -35,13 +32,8 @@ returns c =
     exported election c.args.center.now.election kept c.as_slice.result.now c.in_ok-rows.rows c.requires.election shown c.in_ok-rows.ensures in
     let history : IsHistory election kept = subst (λ (e : Election). IsHistory e kept) c.requires.election c.events-kept.ensures.history in
     let rows : c.as_slice.result.now ≡ rows_of election kept = rows_are election kept c.as_slice.result.now history own in
-    let value : view c.in_ok-value.value ≡ report_over election c.as_slice.result.now c.args.moment.now c.args.device.now = c.in_ok-value.ensures in
-    let none : has_float (view c.in_ok-value.value) ≡ false =
-    ap has_float value ∙ floatless.report election c.as_slice.result.now c.args.moment.now c.args.device.now in
-    let text : c.in_ok-text.text.items ≡ compact_text (view c.in_ok-value.value) = c.in_ok-text.ensures.text none in
-    let pushed : c.push.new.self.items ≡ c.in_ok-text.text.items ++ 10 ∷ [] = search rules in
-    let whole : c.from_vec.result ≡ c.push.new.self.items = search rules in
-    whole ∙ pushed
+    let written : c.push_report.new.text ≡ compact_text (report_over election c.as_slice.result.now c.args.moment.now c.args.device.now) = search rules in
+    let pushed : c.push.new.self ≡ c.push_report.new.text ++ 10 ∷ [] = search rules in
+    pushed
     ∙ ap (λ (line : List ℕ). line ++ 10 ∷ [])
-    (text ∙ ap compact_text value
-    ∙ ap (λ (r : List ExportSheet). compact_text (report_over election r c.args.moment.now c.args.device.now)) rows)
+    (written ∙ ap (λ (r : List ExportSheet). compact_text (report_over election r c.args.moment.now c.args.device.now)) rows)
