@@ -1,5 +1,5 @@
 -- Truth values, and choices by one.
-use Rattle.std.proofs.Common.{◌≡◌, Bool, true, false, cond, refl}
+use Rattle.std.proofs.Common.{◌≡◌, ℕ, ◌≤◌, Bool, true, false, cond, refl, sym}
 use Rattle.std.specs.Prelude.{◌&&◌, ◌||◌, Option, None, Some, Result, Ok, Err}
 
 pub and-both : (a b : Bool) → a ≡ true → b ≡ true → a && b ≡ true
@@ -40,3 +40,31 @@ chosen-unless false r e x h = (refl, h)
 pub chosen-none : {A : Type 0} (b : Bool) (x : A) (rest : Option A) → cond b (Some x) rest ≡ None → (b ≡ false) × (rest ≡ None)
 chosen-none true x rest h = absurd cc
 chosen-none false x rest h = (refl, h)
+
+pub and-no : (a b : Bool) → b ≡ false → a && b ≡ false
+and-no true b h = h
+and-no false b h = refl
+
+pub is-false : (b : Bool) → (b ≡ true → ⊥) → b ≡ false
+is-false true h = absurd (h refl)
+is-false false h = refl
+
+pub is-true : (b : Bool) → (b ≡ false → ⊥) → b ≡ true
+is-true true h = refl
+is-true false h = absurd (h refl)
+
+pub not-both : (b : Bool) → b ≡ true → b ≡ false → ⊥
+not-both true h g = absurd cc
+not-both false h g = absurd cc
+
+-- two tests that hold together are one
+pub same-bool : (a b : Bool) → (a ≡ true → b ≡ true) → (b ≡ true → a ≡ true) → a ≡ b
+same-bool true true to from = refl
+same-bool true false to from = sym (to refl)
+same-bool false true to from = from refl
+same-bool false false to from = refl
+
+-- either of two numbers that are at most so large
+pub either-le : (b : Bool) (m n most : ℕ) → m ≤ most → n ≤ most → cond b m n ≤ most
+either-le true m n most h k = h
+either-le false m n most h k = k

@@ -1,4 +1,5 @@
 pub mod Booleans
+pub mod Integers
 pub mod Lists
 pub mod Numbers
 pub mod Numerals

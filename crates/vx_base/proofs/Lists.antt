@@ -1,12 +1,12 @@
 -- Lists, their maps, and lists of lists one after another.
-use Rattle.std.proofs.Common.{◌≡◌, ℕ, ◌+◌, ◌*◌, ◌≤◌, List, [], ◌∷◌, ◌++◌, length, take, drop, map, get_or, refl, ap, ap₂, sym, ◌∙◌, arith, length-append, append-nil}
-use Rattle.std.specs.Prelude.{All, slice_get, Some}
+use Rattle.std.proofs.Common.{◌≡◌, ◌⊎◌, inl, inr, ℕ, zero, suc, ◌+◌, ◌*◌, ◌≤◌, ◌<◌, Bool, true, false, cond, List, [], ◌∷◌, ◌++◌, length, take, drop, map, get_or, refl, ap, ap₂, sym, ◌∙◌, arith, length-append, append-nil, append_assoc, drop-cons, add-one}
+use Rattle.std.specs.Prelude.{All, find, slice_get, Some}
 use Rattle.std.specs.List.{AllZip, flat_map}
 use Rattle.std.proofs.Math.Seq.{take-append_seam, drop-append_seam}
 use Rattle.std.proofs.lemmas.List.{map-append, take_more}
 use Rattle.std.proofs.lemmas.List.Concat.{flat_map-append}
 use Rattle.std.proofs.lemmas.List.Elements.{All-nil, All-cons, All-head, All-tail, All-append}
-use Rattle.std.proofs.lemmas.Option.{slice_get_within, get_or_from_slice_get}
+use Rattle.std.proofs.lemmas.Option.{same_Some, slice_get_within, get_or_from_slice_get}
 
 -- the front part of a list and the rest, by their lengths
 pub take-front : {X : Type 0} (front back : List X) (n : ℕ) → length front ≡ n → take n (front ++ back) ≡ front
@@ -67,3 +67,42 @@ zip_weaker R S follows [] [] each = tt
 zip_weaker R S follows [] (y ∷ ys) each = absurd each
 zip_weaker R S follows (x ∷ xs) [] each = absurd each
 zip_weaker R S follows (x ∷ xs) (y ∷ ys) each = (follows x y each.0, zip_weaker R S follows xs ys each.1)
+
+-- an element behind a front
+pub at-seam : {X : Type 0} (front : List X) (x : X) (back : List X) → slice_get (front ++ x ∷ back) (length front) ≡ Some x
+at-seam [] x back = refl
+at-seam (y ∷ front) x back = at-seam front x back
+
+-- an element of a list with one more: it stands in the list, or is that one
+pub at-push : {X : Type 0} (xs : List X) (y : X) (i : ℕ) (x : X) → slice_get (xs ++ y ∷ []) i ≡ Some x → ((i < length xs) × (slice_get xs i ≡ Some x)) ⊎ ((i ≡ length xs) × (y ≡ x))
+at-push [] y zero x h = inr (refl, same_Some y x h)
+at-push [] y (suc i) x h = absurd cc
+at-push (z ∷ xs) y zero x h = inl (omega arith, h)
+at-push (z ∷ xs) y (suc i) x h = by (at-push xs y i x h)
+  where
+    by : ((i < length xs) × (slice_get xs i ≡ Some x)) ⊎ ((i ≡ length xs) × (y ≡ x)) → ((suc i < suc (length xs)) × (slice_get xs i ≡ Some x)) ⊎ ((suc i ≡ suc (length xs)) × (y ≡ x))
+    by (inl front) = inl (omega (arith, front.0), front.1)
+    by (inr last) = inr (omega (arith, last.0), last.1)
+
+-- what is left from a place on begins with what stands there
+pub left-from : {X : Type 0} (xs : List X) (i : ℕ) (x : X) → slice_get xs i ≡ Some x → drop i xs ≡ x ∷ drop (i + 1) xs
+left-from {X} xs i x is =
+    drop-cons xs i x (slice_get_within xs i x is)
+    ∙ ap (λ (y : X). y ∷ drop (suc i) xs) (get_or_from_slice_get xs i x x is)
+    ∙ ap (λ (n : ℕ). x ∷ drop n xs) (sym (add-one i))
+
+-- what was moved so far, and what is left, are all: one element more
+pub one-moved : {X : Type 0} (moved xs all : List X) (i : ℕ) (x : X) → slice_get xs i ≡ Some x → moved ++ drop i xs ≡ all → (moved ++ x ∷ []) ++ drop (i + 1) xs ≡ all
+one-moved {X} moved xs all i x at is =
+    append_assoc moved (x ∷ []) (drop (i + 1) xs)
+    ∙ ap (λ (left : List X). moved ++ left) (sym (left-from xs i x at))
+    ∙ is
+
+-- what is found in front is found where more stands behind
+pub find-front : {X : Type 0} (p : X → Bool) (xs ys : List X) (x : X) → find p xs ≡ Some x → find p (xs ++ ys) ≡ Some x
+find-front p [] ys x h = absurd cc
+find-front {X} p (y ∷ xs) ys x h = by (p y) h (find-front p xs ys x)
+  where
+    by : (b : Bool) → cond b (Some y) (find p xs) ≡ Some x → (find p xs ≡ Some x → find p (xs ++ ys) ≡ Some x) → cond b (Some y) (find p (xs ++ ys)) ≡ Some x
+    by true h rest = h
+    by false h rest = rest h

@@ -1,6 +1,6 @@
 -- Results: what follows from one that was given, and answers that are what they are defined to be.
-use Rattle.std.proofs.Common.{◌≡◌, List, ◌++◌, Bool, true, false, cond, refl, ◌∙◌}
-use Rattle.std.specs.Prelude.{Option, Some, None, Result, Ok, Err, IfOk, OnOk, is_ok, ok_or}
+use Rattle.std.proofs.Common.{◌≡◌, List, ◌++◌, Bool, true, false, cond, refl, sym, subst, ◌∙◌}
+use Rattle.std.specs.Prelude.{Option, Some, None, Result, Ok, Err, IfOk, IsOk, OnOk, is_ok, ok_or}
 use Rattle.std.proofs.lemmas.Result.{IfOk-at_ok, IfOk-weaker}
 use Rattle.vx_base.specs.Results.{◌>>=◌}
 use Rattle.vx_base.specs.Refusals.{Unless, Gives}
@@ -87,3 +87,11 @@ Gives-same is_no_memory (Err e) defined h = Unless-always (is_no_memory e) h
 pub Gives-holds : {A F : Type 0} (is_no_memory : F → Bool) {P : A → Type 0} (result : Result A F) {defined : Result A F} → Gives is_no_memory result defined → Holds P defined → IfOk result P
 Gives-holds is_no_memory {P = P} (Ok x) h holds = IfOk-at_ok P h holds.is
 Gives-holds is_no_memory (Err e) h holds = tt
+
+-- what an answer that isn't refused gives
+pub ok-is : {A F : Type 0} (r : Result A F) → IsOk r → (x : A) × (r ≡ Ok x)
+ok-is (Ok x) h = (x, refl)
+ok-is (Err e) h = absurd cc
+
+pub is-ok_from : {A F : Type 0} (r : Result A F) (x : A) → r ≡ Ok x → IsOk r
+is-ok_from {A} {F} r x is = let Good : Result A F → Type 0 = λ some. IsOk some in subst Good (sym is) refl

@@ -1,5 +1,5 @@
 -- The region of a page inside its frame of timing marks.
-use Rattle.std.specs.Prelude.{ℕ, ◌+◌, ◌-◌, ◌*◌, not, pos}
+use Rattle.std.specs.Prelude.{◌+◌, ◌-◌, ◌*◌, not, pos}
 use Rattle.vx_plane.specs.Plane.{Pixels, rectangle}
 use Rattle.vx_grid.specs.declared.paper.Paper.{Paper}
 use Rattle.vx_grid.specs.Paper.{last_row, first_y}

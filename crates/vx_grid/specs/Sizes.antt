@@ -1,5 +1,5 @@
 -- How large a timing mark, a bubble and a box of the page code are, and how far round them one looks.
-use Rattle.std.specs.Prelude.{ℕ, ◌+◌, ℤ, pos, ◌-ℤ◌}
+use Rattle.std.specs.Prelude.{ℕ, ◌+◌, pos, ◌-ℤ◌}
 use Rattle.vx_plane.specs.Plane.{Pixels, rectangle}
 use Rattle.vx_grid.specs.declared.sizes.HalfSides.{HalfSides}
 
