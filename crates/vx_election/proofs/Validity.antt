@@ -44,7 +44,10 @@ use Rattle.vx_election.specs.Styles.{style_places_in, style_at, style_in, styles
 use Rattle.vx_election.specs.Settings.{pixels_of, are_in_order, default_thresholds, stated_thresholds_in, thresholds_in, default_reasons, reason_list_in, stated_reasons_in, reasons_in}
 use Rattle.vx_election_model.specs.Reasons.{has_reason}
 use Rattle.vx_election.specs.Papers.{paper_in}
-use Rattle.vx_election.specs.Reading.{date_member, parties_in, named_member, contests_member, styles_member, election_in}
+use Rattle.vx_election.specs.declared.reading.Opening.{Opening}
+use Rattle.vx_election.specs.declared.reading.Directories.{Directories}
+use Rattle.vx_election.specs.declared.reading.Rules.{Rules}
+use Rattle.vx_election.specs.Reading.{date_member, parties_in, named_member, contests_member, styles_member, opening_in, directories_in, rules_in, election_in}
 use Rattle.vx_election_model.specs.Valid.{IsText, AreDistinct, IsNamed, AreNamed, IsCandidate, IsContest, ArePlaces, IsStyle, AreThresholds, AreContests, AreStyles, IsValid}
 use Rattle.vx_election.proofs.Places.{none-parts}
 use Rattle.vx_election.proofs.Readings.{optional_holds, text_member_holds, optional_text_holds, whole_member_holds, id_member_holds, reference_member_holds, optional_reference_holds, new_reference_in_holds, list_member_holds, optional_list_holds, each_holds}
@@ -340,17 +343,61 @@ styles_valid parties districts precincts value =
     then (all_kept (λ (one : Style). one.id) Is (style_in parties districts precincts at) (λ found element. style_valid parties districts precincts (element_path at (length found)) (style_ids found) element) 1000 values few) (λ styles all.
     where_true (nat_le (card_count styles) 1024) styles _ (λ e. record { few = all.0; distinct = all.1.distinct; each = all.1.each; cards = at_most-from_yes (card_count styles) 1024 e })))
 
+-- a title and a day
+record IsOpening (opening : Opening) : Type 0 where
+  title : IsText 1 256 opening.title
+  date : is_date opening.date ≡ true
+
+opening_valid : (value : Data) → Holds IsOpening (opening_in value)
+unfolding opening_in
+opening_valid value =
+    then (text_member_holds value [] (codes "title") 1 256) (λ title is_title.
+    then (date_valid value) (λ date is_day. after (optional_text value [] (codes "state") 0 256 []) (λ state.
+    given (record { title = is_title; date = is_day }))))
+
+-- lists that others refer to
+record AreDirectories (lists : Directories) : Type 0 where
+  parties : AreNamed 200 lists.parties
+  districts : AreNamed 2000 lists.districts
+  precincts : AreNamed 2000 lists.precincts
+
+directories_valid : (value : Data) → Holds AreDirectories (directories_in value)
+unfolding directories_in
+directories_valid value =
+    then (parties_valid value) (λ parties are_parties.
+    then (named_member_valid value (codes "districts")) (λ districts are_districts.
+    then (named_member_valid value (codes "precincts")) (λ precincts are_precincts.
+    given (record { parties = are_parties; districts = are_districts; precincts = are_precincts }))))
+
+-- rules of reading
+record AreRules (rules : Rules) : Type 0 where
+  thresholds : AreThresholds rules.thresholds
+  reasons : has_reason rules.reasons MarginalMark ≡ true
+
+rules_valid : (value : Data) → Holds AreRules (rules_in value)
+unfolding rules_in
+rules_valid value =
+    then (thresholds_valid value) (λ thresholds are_thresholds.
+    then (reasons_valid value) (λ reasons are_reasons. after (paper_in value) (λ paper.
+    given (record { thresholds = are_thresholds; reasons = are_reasons }))))
+
 -- an election that was read is valid
 pub election_valid : (digest : List ℕ) (value : Data) → Holds IsValid (election_in digest value)
 unfolding election_in
 election_valid digest value =
-    then (text_member_holds value [] (codes "title") 1 256) (λ title is_title.
-    then (date_valid value) (λ date is_day. after (optional_text value [] (codes "state") 0 256 []) (λ state.
-    then (parties_valid value) (λ parties are_parties.
-    then (named_member_valid value (codes "districts")) (λ districts are_districts.
-    then (named_member_valid value (codes "precincts")) (λ precincts are_precincts.
-    then (contests_valid parties districts value) (λ contests are_contests.
-    then (styles_valid parties districts precincts value) (λ styles are_styles.
-    then (thresholds_valid value) (λ thresholds are_thresholds.
-    then (reasons_valid value) (λ reasons are_reasons. after (paper_in value) (λ paper.
-    given (record { title = is_title; date = is_day; parties = are_parties; districts = are_districts; precincts = are_precincts; contests = are_contests; styles = are_styles; thresholds = are_thresholds; reasons = are_reasons }))))))))))))
+    then (opening_valid value) (λ opening is_opening.
+    then (directories_valid value) (λ lists are_lists.
+    then (contests_valid lists.parties lists.districts value) (λ contests are_contests.
+    then (styles_valid lists.parties lists.districts lists.precincts value) (λ styles are_styles.
+    then (rules_valid value) (λ rules are_rules.
+    given (record {
+      title = is_opening.title;
+      date = is_opening.date;
+      parties = are_lists.parties;
+      districts = are_lists.districts;
+      precincts = are_lists.precincts;
+      contests = are_contests;
+      styles = are_styles;
+      thresholds = are_rules.thresholds;
+      reasons = are_rules.reasons;
+    }))))))

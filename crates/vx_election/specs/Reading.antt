@@ -9,6 +9,9 @@ use Rattle.vx_json.specs.Reading.{need_in}
 use Rattle.vx_election_model.specs.declared.election.Election.{Election}
 use Rattle.vx_election.specs.declared.fault.ElectionFault.{ElectionFault}
 use Rattle.vx_election.specs.declared.fault.ElectionFault.TheVariants.{NotJson, TooManyCards}
+use Rattle.vx_election.specs.declared.reading.Opening.{Opening}
+use Rattle.vx_election.specs.declared.reading.Directories.{Directories}
+use Rattle.vx_election.specs.declared.reading.Rules.{Rules}
 use Rattle.vx_election_model.specs.declared.named.Named.{Named}
 use Rattle.vx_election_model.specs.declared.style.Style.{Style}
 use Rattle.vx_election_model.specs.declared.contest.Contest.{Contest}
@@ -54,21 +57,39 @@ styles_member parties districts precincts value = do
   styles ← styles_in parties districts precincts names.ballot_styles list
   if nat_le (card_count styles) 1024 then Ok styles else Err (TooManyCards (card_count styles))
 
--- the members of the definition in their order
-unfoldable pub election_in : List ℕ → Data → Result Election ElectionFault
-election_in digest value = do
+-- what a definition begins with: its title and its day
+unfoldable pub opening_in : Data → Result Opening ElectionFault
+opening_in value = do
   title ← text_member value [] (codes "title") 1 256
   date ← date_member value
   _state ← optional_text value [] (codes "state") 0 256 []
+  Ok (record { title = title; date = date })
+
+-- its parties, districts and precincts
+unfoldable pub directories_in : Data → Result Directories ElectionFault
+directories_in value = do
   parties ← parties_in value
   districts ← named_member value (codes "districts")
   precincts ← named_member value (codes "precincts")
-  contests ← contests_member parties districts value
-  styles ← styles_member parties districts precincts value
+  Ok (record { parties = parties; districts = districts; precincts = precincts })
+
+-- how its ballots are read, and their paper
+unfoldable pub rules_in : Data → Result Rules ElectionFault
+rules_in value = do
   thresholds ← thresholds_in value
   reasons ← reasons_in value
   paper ← paper_in value
-  Ok (record { title = title; date = date; parties = parties; districts = districts; precincts = precincts; contests = contests; styles = styles; thresholds = thresholds; reasons = reasons; paper = paper; digest = digest })
+  Ok (record { thresholds = thresholds; reasons = reasons; paper = paper })
+
+-- the members of the definition in their order
+unfoldable pub election_in : List ℕ → Data → Result Election ElectionFault
+election_in digest value = do
+  opening ← opening_in value
+  lists ← directories_in value
+  contests ← contests_member lists.parties lists.districts value
+  styles ← styles_member lists.parties lists.districts lists.precincts value
+  rules ← rules_in value
+  Ok (record { title = opening.title; date = opening.date; parties = lists.parties; districts = lists.districts; precincts = lists.precincts; contests = contests; styles = styles; thresholds = rules.thresholds; reasons = rules.reasons; paper = rules.paper; digest = digest })
 
 -- the value that the bytes are, where they are JSON in UTF-8
 unfoldable pub value_of : List ℕ → Result Data ElectionFault

@@ -6,7 +6,7 @@ ghost use Rattle.sha2.specs.Sha256.{sha256};
 ghost use Rattle.vx_base.specs.Refusals.{Gives, GivesAs};
 ghost use Rattle.vx_election.specs.Faults.{is_no_memory};
 ghost use Rattle.vx_election_model.specs.Valid.{IsValid};
-ghost use Rattle.vx_election.specs.Reading.{date_member, parties_in, named_member, contests_member, styles_member, election_in, value_of, election_of};
+ghost use Rattle.vx_election.specs.Reading.{date_member, parties_in, named_member, contests_member, styles_member, opening_in, directories_in, rules_in, election_in, value_of, election_of};
 
 use crate::contests::contests_of;
 use crate::date::date_of;
@@ -20,11 +20,35 @@ use crate::styles::{card_count, styles_of};
 use serde_json::Value;
 use sha2::{Digest, Sha256};
 use std::alloc::Global;
-use vx_election_model::{Contests, Election, Styles};
+use vx_election_model::{Contests, Election, ReasonSet, Styles};
+use vx_grid::{Paper, Thresholds};
 use vx_json::{Path, Text, need};
 
 /// How many cards an election may have.
 const CARD_LIMIT: u64 = 1024;
+
+/// What a definition begins with.
+#[derive(Drop)]
+struct Opening {
+    title: Text,
+    date: Text,
+}
+
+/// The lists that others refer to.
+#[derive(Drop)]
+struct Directories {
+    parties: Directory,
+    districts: Directory,
+    precincts: Directory,
+}
+
+/// How ballots are read, and their paper.
+#[derive(Clone, Copy)]
+struct Rules {
+    thresholds: Thresholds,
+    reasons: ReasonSet,
+    paper: Paper,
+}
 
 #[tactic(auto, unfolding(crate::specs::Reading::date_member))]
 fn date_member(alloc: Global, value: &Value) -> Result<Text, ElectionFault>
@@ -96,34 +120,73 @@ fn styles_member(
     Ok(styles)
 }
 
-/// The members of the definition in their order.
-#[tactic(auto, unfolding(crate::specs::Reading::election_in))]
-fn election_in(alloc: Global, digest: [u8; 32], value: &Value) -> Result<Election, ElectionFault>
-    ensures { Gives is_no_memory result (election_in digest (view value.now)) }
+/// The title and the day; the state is read and let go.
+#[tactic(auto, unfolding(crate::specs::Reading::opening_in))]
+fn opening_of(alloc: Global, value: &Value) -> Result<Opening, ElectionFault>
+    ensures { Gives is_no_memory result (opening_in (view value.now)) }
 {
     let top = Path::root(alloc);
     let title = text_member(alloc, value, &top, "title", 1, 256)?;
     let date = date_member(alloc, value)?;
     let _state = optional_text(alloc, value, &top, "state", 0, 256, "")?;
+    Ok(Opening { title, date })
+}
+
+#[tactic(auto, unfolding(crate::specs::Reading::directories_in))]
+fn directories_of(alloc: Global, value: &Value) -> Result<Directories, ElectionFault>
+    ensures { Gives is_no_memory result (directories_in (view value.now)) }
+{
     let parties = parties_of(alloc, value)?;
     let districts = directory_member(alloc, value, "districts")?;
     let precincts = directory_member(alloc, value, "precincts")?;
-    let contests = contests_member(alloc, &parties, &districts, value)?;
-    let styles = styles_member(alloc, &parties, &districts, &precincts, value)?;
+    Ok(Directories {
+        parties,
+        districts,
+        precincts,
+    })
+}
+
+#[tactic(auto, unfolding(crate::specs::Reading::rules_in))]
+fn rules_of(alloc: Global, value: &Value) -> Result<Rules, ElectionFault>
+    ensures { Gives is_no_memory result (rules_in (view value.now)) }
+{
     let thresholds = thresholds_of(alloc, value)?;
     let reasons = reasons_of(alloc, value)?;
     let paper = paper_of(alloc, value)?;
-    Ok(Election {
-        title,
-        date,
-        parties: parties.into_list(),
-        districts: districts.into_list(),
-        precincts: precincts.into_list(),
-        contests,
-        styles,
+    Ok(Rules {
         thresholds,
         reasons,
         paper,
+    })
+}
+
+/// The members of the definition in their order.
+#[tactic(auto, unfolding(crate::specs::Reading::election_in))]
+fn election_in(alloc: Global, digest: [u8; 32], value: &Value) -> Result<Election, ElectionFault>
+    ensures { Gives is_no_memory result (election_in digest (view value.now)) }
+{
+    let opening = opening_of(alloc, value)?;
+    let lists = directories_of(alloc, value)?;
+    let contests = contests_member(alloc, &lists.parties, &lists.districts, value)?;
+    let styles = styles_member(
+        alloc,
+        &lists.parties,
+        &lists.districts,
+        &lists.precincts,
+        value,
+    )?;
+    let rules = rules_of(alloc, value)?;
+    Ok(Election {
+        title: opening.title,
+        date: opening.date,
+        parties: lists.parties.into_list(),
+        districts: lists.districts.into_list(),
+        precincts: lists.precincts.into_list(),
+        contests,
+        styles,
+        thresholds: rules.thresholds,
+        reasons: rules.reasons,
+        paper: rules.paper,
         digest,
     })
 }
