@@ -8,6 +8,7 @@ use Rattle.vx_grid.specs.declared.paper.Paper.{Paper}
 use Rattle.vx_grid.specs.Paper.{last_row}
 use Rattle.vx_grid.specs.Marks.{marks}
 use Rattle.vx_mark_model.specs.Following.{Closes}
+use Rattle.vx_mark_model.specs.Laws.{AcceptedAreFramed}
 use Rattle.vx_margin.specs.Chains.{IsChain}
 use Rattle.vx_code.specs.declared.code.PageCode.{PageCode}
 use Rattle.vx_code.specs.Code.{version_of, CodesAreGivenBack}
@@ -26,6 +27,7 @@ use Rattle.vx_check.proofs.Codes.{code-read, plan-named, named-plan, bubbles-are
 -- the laws that this stands on
 pub record AreLaws : Type 0 where
   pub tests : PlacesAreTested
+  pub framed : AcceptedAreFramed
   pub back : CodesAreGivenBack
   pub codes : CodesNamePrintedPages
 
@@ -65,7 +67,7 @@ module _ (laws : AreLaws) (election : Election) (page : Page) (reading : PageRea
       let code = both-passed (code_tested page reading.border reading.code) from_code tt border.1 in
       let plan = bind_ok (plan_tested election reading.code) from_plan tt code.1 in
       let of_paper : reading.border.paper ≡ election.paper = paper-same election.paper reading.border.paper paper.0 in
-      let is : IsTestedBorder page reading.border = border-passed laws.tests page reading.border border.0 in
+      let is : IsTestedBorder page reading.border = border-passed laws.tests laws.framed page reading.border border.0 in
       let named = plan-named election reading.code plan.0 plan.1 in
       let printed : IsPrintedCode election reading.code plan.0 = laws.codes.printed election reading.code plan.0 named.1 named.0 in
       let bubbles = bubbles-are election.thresholds page reading plan.0 plan.2 in
@@ -95,7 +97,7 @@ module _ (laws : AreLaws) (election : Election) (page : Page) (reading : PageRea
     pub marks-pass : border_tested page reading.border ≡ Ok tt
     marks-pass =
         let small = allowed-small election.paper page c.allowed in
-        border-passes laws.tests page reading.border small.0 small.1 (record {
+        border-passes laws.tests laws.framed page reading.border small.0 small.1 (record {
           start = c.start;
           chain = subst (λ (p : Paper). IsChain page (last_row p) (marks p) reading.border.places) (sym c.of_paper) c.chain;
           closes = subst (λ (p : Paper). Closes (last_row p) reading.border.places) (sym c.of_paper) c.closes;

@@ -17,7 +17,8 @@ use Rattle.vx_mark_model.specs.Region.{IsIn, is_in}
 use Rattle.vx_mark_model.specs.Mark.{deficit_of, IsAccepted, is_accepted}
 use Rattle.vx_mark_model.specs.Corner.{corner_region, IsInCornerRegion}
 use Rattle.vx_mark_model.specs.Best.{near, IsNear}
-use Rattle.vx_mark_model.specs.Following.{is_in_row, leader_of, right_of, below, expected_from, prediction_of, end_of, right_end_of, Closes}
+use Rattle.vx_mark_model.specs.Following.{leader_of, expected_from, prediction_of, end_of, right_end_of, Closes}
+use Rattle.vx_mark_model.specs.Laws.{AcceptedAreFramed}
 use Rattle.vx_margin.specs.Chains.{IsChain}
 use Rattle.vx_scan_model.specs.Reading.{is_allowed}
 use Rattle.vx_scan_model.specs.Certificate.{PlacesAreTested}
@@ -44,39 +45,12 @@ same-paper Legal Legal h = refl
 same-paper Letter Legal h = absurd (cc)
 same-paper Legal Letter h = absurd (cc)
 
--- an accepted place lies within the frame
-pub accepted-within : (page : Page) (p : Point) → page.width ≤ 4096 → page.height ≤ 4096 → IsAccepted page p → IsPointWithin 4096 p
-accepted-within page p wide high accepted = record {
-  u = record { low = omega (arith, ints, accepted.in_frame.left); high = omega (arith, ints, accepted.in_frame.right, wide) };
-  v = record { low = omega (arith, ints, accepted.in_frame.top); high = omega (arith, ints, accepted.in_frame.bottom, high) };
-}
-
+-- a point that lies within a bound lies within a larger one
 pub within-more : (m n : ℕ) (p : Point) → m ≤ n → IsPointWithin m p → IsPointWithin n p
 within-more m n p more h = record {
   u = record { low = omega (arith, ints, h.u.low, more); high = omega (arith, ints, h.u.high, more) };
   v = record { low = omega (arith, ints, h.v.low, more); high = omega (arith, ints, h.v.high, more) };
 }
-
--- the mark that leads to another comes before it
-pub leader-before : (last k : ℕ) → 0 < k → leader_of last k < k
-leader-before last k some = grind (arith, nat_tests)
-
--- where a mark is expected lies a step further at most
-one-of_two : (test : Bool) (p q : Point) → IsPointWithin 9000 p → IsPointWithin 9000 q → IsPointWithin 9000 (cond test p q)
-one-of_two true p q a b = a
-one-of_two false p q a b = b
-
-pub expected-within : (last k : ℕ) (p : Point) → IsPointWithin 4096 p → IsPointWithin 9000 (expected_from last k p)
-expected-within last k p h =
-    one-of_two (is_in_row last k) (right_of p) (below p)
-    (record {
-      u = record { low = omega (arith, ints, h.u.low); high = omega (arith, ints, h.u.high) };
-      v = record { low = omega (arith, ints, h.v.low); high = omega (arith, ints, h.v.high) };
-    })
-    (record {
-      u = record { low = omega (arith, ints, h.u.low); high = omega (arith, ints, h.u.high) };
-      v = record { low = omega (arith, ints, h.v.low); high = omega (arith, ints, h.v.high) };
-    })
 
 -- the place that a border answers is the one of its list
 pub at-point : (places : List Point) (k : ℕ) (p : Point) → slice_get places k ≡ Some p → point_at places k ≡ p
@@ -91,11 +65,11 @@ predicted-at last k leader places p q leads h is =
     is ∙ (ap (expected_from last k) (sym (at-point places leader p h)) ∙ ap (λ j. expected_from last k (point_at places j)) leads)
 
 -- accepted places lie within the frame, all of them
-pub all-within : (page : Page) (n m : ℕ) (places : List Point) → page.width ≤ 4096 → page.height ≤ 4096 → 4096 ≤ m → length places ≡ n
+pub all-within : AcceptedAreFramed → (page : Page) (n m : ℕ) (places : List Point) → page.width ≤ m → page.height ≤ m → length places ≡ n
     → ((k : ℕ) → k < n → IsAccepted page (point_at places k)) → AreWithin m places
-all-within page n m places wide high more all accepted k p h =
+all-within framed page n m places wide high all accepted k p h =
     let inside : k < n = omega (arith, slice_get_within places k p h, all) in
-    at-within m places k p h (within-more 4096 m (point_at places k) more (accepted-within page (point_at places k) wide high (accepted k inside)))
+    at-within m places k p h (framed page m (point_at places k) wide high (accepted k inside))
 
 within-countable : (p : Point) → IsPointWithin 4096 p → IsIn countable p
 within-countable p h = record {
@@ -169,7 +143,7 @@ pub ok-is : (r : Tested) → is_ok r ≡ true → r ≡ Ok tt
 ok-is (Ok x) h = refl
 ok-is (Err fault) h = absurd (cc)
 
-module _ (tests : PlacesAreTested) (page : Page) where
+module _ (tests : PlacesAreTested) (framed : AcceptedAreFramed) (page : Page) where
   -- a place that passes is accepted
   by-countable : (k : ℕ) (p : Point) (test : Bool) → is_in countable p ≡ test
       → cond test (passes (is_accepted page p) (MarkAt k p (deficit_of page p))) (Err (MarkAt k p light_deficit)) ≡ Ok tt → IsAccepted page p
@@ -182,7 +156,7 @@ module _ (tests : PlacesAreTested) (page : Page) where
   -- and the other way round
   pub accepted-mark : (k : ℕ) (p : Point) → page.width ≤ 4096 → page.height ≤ 4096 → IsAccepted page p → mark_tested page k p ≡ Ok tt
   accepted-mark k p wide high accepted =
-      let in_reach : is_in countable p ≡ true = (tests.region countable p).1 (within-countable p (accepted-within page p wide high accepted)) in
+      let in_reach : is_in countable p ≡ true = (tests.region countable p).1 (within-countable p (framed page 4096 p wide high accepted)) in
       ap (λ (b : Bool). cond b (passes (is_accepted page p) (MarkAt k p (deficit_of page p))) (Err (MarkAt k p light_deficit))) in_reach
       ∙ so-passes (is_accepted page p) (MarkAt k p (deficit_of page p)) ((tests.accepted page p).1 accepted)
 

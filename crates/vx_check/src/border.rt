@@ -8,10 +8,12 @@ ghost use Rattle.vx_mark_model.specs.Mark.{IsAccepted};
 ghost use Rattle.vx_check.specs.Tests as tests;
 
 use crate::passing::passes;
-use vx_border::{expected, first_left, is_near, leader_of, right_of};
 use vx_count::Counter;
 use vx_grid::{Border, Paper, Point, marks};
 use vx_mark::{accepted, deficit};
+use vx_mark_model::{
+    accepted_places_are_framed, expected, first_left, is_near, leader_of, right_of,
+};
 use vx_refusals::CheckFault;
 use vx_scan_model::places_are_tested;
 
@@ -102,6 +104,7 @@ fn check_place(counter: &Counter, border: &Border, k: u32) -> Result<(), CheckFa
     // For the proof alone: what these calls' clauses say of the page.
     let _width = counter.width();
     let _height = counter.height();
+    accepted_places_are_framed();
     places_are_tested();
     check_mark(counter, k, border.at(k))?;
     check_step(border, k)
@@ -115,6 +118,7 @@ fn check_places(counter: &Counter, border: &Border) -> Result<(), CheckFault>
     ensures accepted { OnOk result
         ((k : ℕ) → k < marks_of border.now.paper → IsAccepted counter.now (point_at border.now.places k)) }
 {
+    accepted_places_are_framed();
     places_are_tested();
     for k in 0..marks(border.paper()) {
         check_place(counter, border, k)?;
@@ -140,6 +144,7 @@ pub(crate) fn check_border(counter: &Counter, border: &Border) -> Result<(), Che
     // For the proof alone: what these calls' clauses say of the page.
     let _width = counter.width();
     let _height = counter.height();
+    accepted_places_are_framed();
     check_corner(border.at(0))?;
     check_places(counter, border)?;
     check_closing(border)

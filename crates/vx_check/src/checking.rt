@@ -16,6 +16,7 @@ use vx_count::{Counter, turned_twice_is_as_before};
 use vx_election_model::Election;
 use vx_grid::{Paper, Thresholds};
 use vx_layout::{CardPlans, PagePlan};
+use vx_mark_model::accepted_places_are_framed;
 use vx_refusals::CheckFault;
 use vx_scan_model::{
     PageReading, allowed_heights, certificates_say_what_fits, codes_name_printed_pages,
@@ -76,6 +77,7 @@ fn check_upright(
     ensures exact { result ≡ tests.upright_tested election.now counter.now reading.now }
     ensures certified { IsOk result ↔ CertifiesUpright election.now counter.now reading.now }
 {
+    accepted_places_are_framed();
     codes_are_given_back();
     codes_name_printed_pages();
     named_pages_stand_on_the_grid();

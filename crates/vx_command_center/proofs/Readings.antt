@@ -8,7 +8,7 @@ use Rattle.vx_plane.specs.Plane.{Page}
 use Rattle.vx_count.specs.Turned.{turned_page}
 use Rattle.vx_code.specs.declared.code.PageCode.{PageCode}
 use Rattle.vx_code.specs.declared.code.CodeFault.{CodeFault}
-use Rattle.vx_border.specs.declared.following.BorderFault.{BorderFault}
+use Rattle.vx_mark_model.specs.declared.fault.BorderFault.{BorderFault}
 use Rattle.vx_grid.specs.Borders.{MarkPlaces}
 use Rattle.vx_election_model.specs.declared.election.Election.{Election}
 use Rattle.vx_election_model.specs.Valid.{IsValid}

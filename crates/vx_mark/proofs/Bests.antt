@@ -197,23 +197,3 @@ found-best page predicted v rows found r end h = record {
 pub bound-most : (page : Page) (predicted : Point) (cap u v : ℕ) (best : Option Found) → cap ≤ 21 → IsBestSeen page predicted cap u v best → bound_of cap best ≤ 21
 bound-most page predicted cap u v None most h = most
 bound-most page predicted cap u v (Some found) most h = omega (arith, h.deficit, h.accepted.deficit)
-
--- of two different places one is better
-either-better : (page : Page) (p q : Point) → (IsBetter page p q → ⊥) → (IsBetter page q p → ⊥) → p ≡ q
-either-better page p q a b =
-    elim (cases_lt (deficit_of page p) (deficit_of page q)) [
-      | inl c ↦ absurd (a (inl c))
-      | inr c ↦ elim (cases_lt (deficit_of page q) (deficit_of page p)) [
-        | inl d ↦ absurd (b (inl d))
-        | inr d ↦
-            let same : deficit_of page p ≡ deficit_of page q = omega arith in
-            let back : deficit_of page q ≡ deficit_of page p = omega arith in
-            let rows : p.v ≡ q.v = by_lt_z p.v q.v (λ l. absurd (a (inr (inl (same, l))))) (λ m. by_lt_z q.v p.v (λ l. absurd (b (inr (inl (back, l))))) (λ n. omega (arith, ints))) in
-            let columns : p.u ≡ q.u = by_lt_z p.u q.u (λ l. absurd (a (inr (inr (same, rows, l))))) (λ m. by_lt_z q.u p.u (λ l. absurd (b (inr (inr (back, sym rows, l))))) (λ n. omega (arith, ints))) in
-            same_place p q columns rows
-      ]
-    ]
-
--- there is at most one best place
-pub best-unique : (page : Page) (predicted p q : Point) → IsBest page predicted p → IsBest page predicted q → p ≡ q
-best-unique page predicted p q a b = either-better page p q (b.best p a.accepted a.near) (a.best q b.accepted b.near)

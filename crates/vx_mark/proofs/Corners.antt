@@ -1,5 +1,5 @@
 -- The corner of a search that goes row by row.
-use Rattle.std.proofs.Common.{◌≡◌, ◌+◌, ◌-◌, ◌≤◌, ◌<◌, ◌↔◌, inl, inr, ℕ, pos, ◌+ℤ◌, ◌<ℤ◌, Option, Some, None, arith, ap, sym}
+use Rattle.std.proofs.Common.{◌≡◌, ◌+◌, ◌-◌, ◌≤◌, ◌<◌, ◌↔◌, inl, inr, ℕ, pos, ◌<ℤ◌, Option, Some, None, arith, ap}
 use Rattle.std.proofs.lemmas.Int.{ints, by_lt_z}
 use Rattle.std.proofs.lemmas.Bool.{cases_lt}
 use Rattle.vx_plane.specs.Plane.{Page}
@@ -115,14 +115,3 @@ corner-all page past v pixel limit end above = record {
 -- where there is none in them, there is none
 pub none-all : (page : Page) (past v : ℕ) → IsPast (pos 104) 11 page.height past → past ≤ v → IsFirstAbove page v None → (q : Point) → IsAccepted page q → IsInCornerRegion q → ⊥
 none-all page past v limit end none q good region = none q good region (row-above page past v q limit end good region)
-
--- of two different places one is first
-either-first : (p q : Point) → (ComesBefore p q → ⊥) → (ComesBefore q p → ⊥) → p ≡ q
-either-first p q a b =
-    let sums : p.u +ℤ p.v ≡ q.u +ℤ q.v = by_lt_z (p.u +ℤ p.v) (q.u +ℤ q.v) (λ l. absurd (a (inl l))) (λ m. by_lt_z (q.u +ℤ q.v) (p.u +ℤ p.v) (λ l. absurd (b (inl l))) (λ n. omega (arith, ints))) in
-    let rows : p.v ≡ q.v = by_lt_z p.v q.v (λ l. absurd (a (inr (sums, l)))) (λ m. by_lt_z q.v p.v (λ l. absurd (b (inr (sym sums, l)))) (λ n. omega (arith, ints))) in
-    same_place p q (omega (arith, ints)) rows
-
--- there is at most one corner
-pub corner-unique : (page : Page) (p q : Point) → IsCorner page p → IsCorner page q → p ≡ q
-corner-unique page p q a b = either-first p q (b.first p a.accepted a.in_region) (a.first q b.accepted b.in_region)

@@ -1,6 +1,6 @@
 -- How timing marks are followed: each is expected from one before it. This project's own rule.
 -- Marks are told by the last grid row of the paper, so that each rule stands once for both papers.
-use Rattle.std.specs.Prelude.{◌≡◌, ◌<◌, ℕ, ◌-◌, ◌==◌, ◌||◌, Bool, nat_lt, nat_le, if◌then◌else◌, List, pos, ◌+ℤ◌}
+use Rattle.std.specs.Prelude.{◌<◌, ℕ, ◌-◌, ◌==◌, ◌||◌, Bool, nat_lt, nat_le, if◌then◌else◌, List, pos, ◌+ℤ◌}
 use Rattle.vx_plane.specs.Plane.{Page}
 use Rattle.vx_grid.specs.declared.paper.Paper.{Paper}
 use Rattle.vx_grid.specs.declared.paper.Paper.TheVariants.{Letter}
@@ -36,6 +36,7 @@ expected_from last k leader = if is_in_row last k then right_of leader else belo
 abbrev pub prediction_of : ℕ → List Point → ℕ → Point
 prediction_of last places k = expected_from last k (point_at places (leader_of last k))
 
+-- the first n places of a list are followed: the corner, and then each the best place near where it
 -- is expected
 pub record IsFollowed (page : Page) (last n : ℕ) (places : List Point) : Type 0 where
   pub corner : IsCorner page (point_at places 0)

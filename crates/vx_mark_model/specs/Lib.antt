@@ -3,3 +3,5 @@ pub mod Mark
 pub mod Corner
 pub mod Best
 pub mod Following
+pub mod Border
+pub mod Laws

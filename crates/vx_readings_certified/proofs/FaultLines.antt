@@ -7,8 +7,8 @@ use Rattle.vx_base.proofs.Numbers.{equal-no, equal-yes}
 use Rattle.vx_grid.specs.declared.places.Point.{Point}
 use Rattle.vx_grid.specs.declared.side.Side.{Side}
 use Rattle.vx_grid.specs.declared.side.Side.TheVariants.{Top, Right, Left, Bottom}
-use Rattle.vx_border.specs.declared.following.BorderFault.{BorderFault}
-use Rattle.vx_border.specs.declared.following.BorderFault.TheVariants.{NoCorner, NoMark, OpenBorder}
+use Rattle.vx_mark_model.specs.declared.fault.BorderFault.{BorderFault}
+use Rattle.vx_mark_model.specs.declared.fault.BorderFault.TheVariants.{NoCorner, NoMark, OpenBorder}
 use Rattle.vx_code.specs.declared.code.CodeFault.{CodeFault}
 use Rattle.vx_code.specs.declared.code.CodeFault.TheVariants.{BadPair, BadVersion}
 use Rattle.vx_scan_model.specs.declared.fault.PageFault.{PageFault}

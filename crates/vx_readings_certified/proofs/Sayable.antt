@@ -13,8 +13,8 @@ use Rattle.vx_grid.specs.Marks.{marks}
 use Rattle.vx_grid.specs.Borders.{MarkPlaces}
 use Rattle.vx_grid.specs.Places.{IsPointWithin, AreWithin, point_at, bubble_window_of}
 use Rattle.vx_count.specs.Turned.{turned_page, shown_page}
-use Rattle.vx_border.specs.declared.following.BorderFault.{BorderFault}
-use Rattle.vx_border.specs.Border.{IsBorderOf}
+use Rattle.vx_mark_model.specs.declared.fault.BorderFault.{BorderFault}
+use Rattle.vx_mark_model.specs.Border.{IsBorderOf}
 use Rattle.vx_code.specs.declared.code.PageCode.{PageCode}
 use Rattle.vx_code.specs.declared.code.CodeFault.{CodeFault}
 use Rattle.vx_code.specs.Code.{tag_of}

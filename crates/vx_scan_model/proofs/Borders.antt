@@ -8,11 +8,11 @@ use Rattle.vx_grid.specs.Paper.{last_row}
 use Rattle.vx_grid.specs.Marks.{marks}
 use Rattle.vx_grid.specs.Borders.{MarkPlaces}
 use Rattle.vx_mark_model.specs.Best.{near}
-use Rattle.vx_border.specs.declared.following.BorderFault.{BorderFault}
-use Rattle.vx_border.specs.declared.following.BorderFault.TheVariants.{NoCorner, NoMark, OpenBorder}
+use Rattle.vx_mark_model.specs.declared.fault.BorderFault.{BorderFault}
+use Rattle.vx_mark_model.specs.declared.fault.BorderFault.TheVariants.{NoCorner, NoMark, OpenBorder}
 use Rattle.vx_mark_model.specs.Following.{end_of, right_end_of}
-use Rattle.vx_border.specs.Border.{IsBorderOf}
-use Rattle.vx_border.specs.Laws.{CornerIsFollowed, FollowedGrows, BorderIsOne}
+use Rattle.vx_mark_model.specs.Border.{IsBorderOf}
+use Rattle.vx_mark_model.specs.Laws.{CornerIsFollowed, FollowedGrows, BorderIsOne}
 use Rattle.vx_scan_model.specs.Border.{closes, if_closed, marks_of, border_of}
 use Rattle.vx_scan_model.proofs.Accepting.{in_from, in_true}
 use Rattle.vx_scan_model.proofs.Marks.{AreFollowed, IsLackOf, AreMarksOf, AreMarksOf-marks_of}

@@ -13,9 +13,9 @@ use Rattle.vx_grid.specs.Paper.{last_row}
 use Rattle.vx_grid.specs.Marks.{marks as marks_of, timing_marks}
 use Rattle.vx_grid.specs.Borders.{MarkPlaces}
 use Rattle.vx_count.specs.Turned.{turned, turned_page, shown_page, IsWhole, TurnsBack}
-use Rattle.vx_border.specs.declared.following.BorderFault.{BorderFault}
-use Rattle.vx_border.specs.Border.{IsBorder, IsBorderOf}
-use Rattle.vx_border.specs.Laws.{CornerIsFollowed, FollowedGrows}
+use Rattle.vx_mark_model.specs.declared.fault.BorderFault.{BorderFault}
+use Rattle.vx_mark_model.specs.Border.{IsBorder, IsBorderOf}
+use Rattle.vx_mark_model.specs.Laws.{CornerIsFollowed, FollowedGrows}
 use Rattle.vx_code.specs.declared.code.PageCode.{PageCode}
 use Rattle.vx_code.specs.declared.code.CodeFault.{CodeFault}
 use Rattle.vx_code.specs.declared.code.CodeFault.TheVariants.{BadVersion}

@@ -7,10 +7,10 @@ use Rattle.vx_grid.specs.Paper.{last_row}
 use Rattle.vx_grid.specs.Marks.{marks as marks_of}
 use Rattle.vx_grid.specs.Borders.{MarkPlaces}
 use Rattle.vx_mark_model.specs.Best.{IsNear, IsBest}
-use Rattle.vx_border.specs.declared.following.BorderFault.{BorderFault}
-use Rattle.vx_border.specs.declared.following.BorderFault.TheVariants.{NoCorner, NoMark, OpenBorder}
+use Rattle.vx_mark_model.specs.declared.fault.BorderFault.{BorderFault}
+use Rattle.vx_mark_model.specs.declared.fault.BorderFault.TheVariants.{NoCorner, NoMark, OpenBorder}
 use Rattle.vx_mark_model.specs.Following.{prediction_of, end_of, right_end_of}
-use Rattle.vx_border.specs.Border.{IsBorderOf}
+use Rattle.vx_mark_model.specs.Border.{IsBorderOf}
 use Rattle.vx_geom.specs.Slants.{Slant}
 use Rattle.vx_margin.specs.Marks.{mark_image}
 use Rattle.vx_margin.specs.Chains.{LieAtMarks}

@@ -11,11 +11,11 @@ use Rattle.vx_grid.specs.Marks.{marks}
 use Rattle.vx_grid.specs.Places.{point_at}
 use Rattle.vx_mark_model.specs.Corner.{IsCorner}
 use Rattle.vx_mark_model.specs.Best.{IsBest}
-use Rattle.vx_border.specs.declared.following.BorderFault.{BorderFault}
-use Rattle.vx_border.specs.declared.following.BorderFault.TheVariants.{NoCorner, NoMark, OpenBorder}
+use Rattle.vx_mark_model.specs.declared.fault.BorderFault.{BorderFault}
+use Rattle.vx_mark_model.specs.declared.fault.BorderFault.TheVariants.{NoCorner, NoMark, OpenBorder}
 use Rattle.vx_mark_model.specs.Following.{prediction_of, IsFollowed}
-use Rattle.vx_border.specs.Border.{side_of, index_of, LacksMark}
-use Rattle.vx_border.specs.Laws.{CornerIsFollowed, FollowedGrows}
+use Rattle.vx_mark_model.specs.Border.{side_of, index_of, LacksMark}
+use Rattle.vx_mark_model.specs.Laws.{CornerIsFollowed, FollowedGrows}
 use Rattle.vx_scan_model.specs.Border.{corner_of, best_of, with_found, with_mark, marks_of}
 use Rattle.vx_scan_model.proofs.Corners.{IsCornerOf, IsCornerOf-corner_of}
 use Rattle.vx_scan_model.proofs.Bests.{IsBestOf, IsBestOf-best_of}

@@ -17,8 +17,8 @@ use Rattle.vx_grid.specs.Borders.{MarkPlaces}
 use Rattle.vx_grid.specs.Sizes as sizes
 use Rattle.vx_grid.specs.Sizes.{zone_of, window_of}
 use Rattle.vx_count.specs.Turned.{turned, turned_page, IsWhole}
-use Rattle.vx_border.specs.declared.following.BorderFault.{BorderFault}
-use Rattle.vx_border.specs.Border.{IsBorder, IsBorderOf}
+use Rattle.vx_mark_model.specs.declared.fault.BorderFault.{BorderFault}
+use Rattle.vx_mark_model.specs.Border.{IsBorder, IsBorderOf}
 use Rattle.vx_fit.specs.Fit.{place_of}
 use Rattle.vx_code.specs.Code.{boxes_of, place_of_box, reserved_place, bit_of}
 use Rattle.vx_election_model.specs.declared.election.Election.{Election}

@@ -1,6 +1,6 @@
 -- The border of a scan, as a function of its page: the corner, the best place near a predicted one
 -- and the list that is followed from mark to mark. Where a place may be and which one is accepted are
--- the tests of `vx_mark`. This project's own rule.
+-- the tests of `vx_mark_model`. This project's own rule.
 use Rattle.std.specs.Prelude.{◌≡◌, ℕ, zero, suc, ◌+◌, ◌*◌, ◌/◌, ◌%◌, ◌==◌, ◌&&◌, ◌++◌, ◌∷◌, [], Bool, if◌then◌else◌, List, find, Option, Some, None, option_map, Result, Ok, Err, pos, ◌+ℤ◌, ◌-ℤ◌}
 use Rattle.std.specs.List.{range_with_len}
 use Rattle.vx_plane.specs.Plane.{Page}
@@ -13,10 +13,10 @@ use Rattle.vx_mark_model.specs.Region.{is_in}
 use Rattle.vx_mark_model.specs.Mark.{deficit_of, most_wrong, is_accepted}
 use Rattle.vx_mark_model.specs.Corner.{corner_region}
 use Rattle.vx_mark_model.specs.Best.{near}
-use Rattle.vx_border.specs.declared.following.BorderFault.{BorderFault}
-use Rattle.vx_border.specs.declared.following.BorderFault.TheVariants.{NoCorner, NoMark, OpenBorder}
+use Rattle.vx_mark_model.specs.declared.fault.BorderFault.{BorderFault}
+use Rattle.vx_mark_model.specs.declared.fault.BorderFault.TheVariants.{NoCorner, NoMark, OpenBorder}
 use Rattle.vx_mark_model.specs.Following.{prediction_of, end_of, right_end_of}
-use Rattle.vx_border.specs.Border.{side_of, index_of, IsBorderOf}
+use Rattle.vx_mark_model.specs.Border.{side_of, index_of, IsBorderOf}
 
 -- the places of the plane in the order of corners: by the sum of column and row, then by the row
 abbrev pub corner_place : ℕ → Point

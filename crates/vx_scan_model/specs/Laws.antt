@@ -1,5 +1,5 @@
 -- The laws of the crates below that those of readings stand on.
-use Rattle.vx_border.specs.Laws.{CornerIsFollowed, FollowedGrows}
+use Rattle.vx_mark_model.specs.Laws.{CornerIsFollowed, FollowedGrows}
 use Rattle.vx_code.specs.Code.{CodesAreGivenBack, NoBitIsRefused}
 use Rattle.vx_layout.specs.Printed.{PrintedKeepClear, PrintedHaveCodes, PrintedHavePaper}
 use Rattle.vx_margin.specs.Laws.{TimingMarksAreMarks, BordersAreFound, GridPlacesLieNear, WindowsHold, FollowedAreChains, TurnedChainsLieAtMarks, TurnedWindowsHold}

@@ -14,7 +14,7 @@ use Rattle.vx_layout.specs.declared.pages.PagePlan.{PagePlan}
 use Rattle.vx_code.specs.declared.code.PageCode.{PageCode}
 use Rattle.vx_code.specs.declared.code.CodeFault.{CodeFault}
 use Rattle.vx_code.specs.Code.{place_of_box, code_shown_by}
-use Rattle.vx_border.specs.declared.following.BorderFault.{BorderFault}
+use Rattle.vx_mark_model.specs.declared.fault.BorderFault.{BorderFault}
 use Rattle.vx_fit.specs.Fit.{place_of}
 use Rattle.vx_score.specs.Score.{score_of, code_count_of, state_of}
 use Rattle.vx_scan_model.specs.declared.reading.PageReading.{PageReading}

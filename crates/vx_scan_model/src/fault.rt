@@ -4,9 +4,9 @@ ghost use Rattle.vx_scan_model.specs.FaultTexts.{side_name};
 
 use std::alloc::AllocError;
 use std::fmt;
-use vx_border::BorderFault;
 use vx_code::CodeFault;
 use vx_grid::Side;
+use vx_mark_model::BorderFault;
 
 /// Why a scan can't be read: its first fault, in this order.
 #[derive(Clone, Copy, Debug, PartialEq, Eq)]

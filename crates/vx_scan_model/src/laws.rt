@@ -7,7 +7,6 @@ ghost use Rattle.vx_scan_model.specs.Ink.{BubblesAreOutlined};
 ghost use Rattle.vx_scan_model.specs.Fits.{TurnedPagesAreNone, FittingScansAreRead, FitsOnePage, ShearedPrintsFit, CleanPrintsFit};
 ghost use Rattle.vx_scan_model.specs.Laws.{AreLaws, AreTurnedLaws};
 
-use vx_border::{a_list_is_followed, borders_are_one};
 use vx_code::{codes_are_given_back, no_bit_is_refused};
 use vx_count::turned_twice_is_as_before;
 use vx_layout::{
@@ -19,6 +18,7 @@ use vx_margin::{
     grid_places_lie_near, timing_marks_are_marks, turned_chains_lie_at_marks, turned_windows_hold,
     windows_hold,
 };
+use vx_mark_model::{a_list_is_followed, borders_are_one};
 
 /// What is the border of a scan, or its first fault, is what the function of its page gives: so
 /// there is one answer for each scan.

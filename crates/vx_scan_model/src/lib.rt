@@ -4,13 +4,13 @@
 //! `specs/Border.antt` says what the border of a scan is, `specs/Named.antt` which page a code names, `specs/Reading.antt` what a scan's reading is, or
 //! its first fault, and `specs/FaultTexts.antt` how a fault is printed. Grid places stand in
 //! `specs/Fit.antt` of `vx_fit`, scores and states in `specs/Score.antt` of `vx_score`, deficits in
-//! `specs/Mark.antt` of `vx_mark`: all of them are counts of fixed rectangles of `vx_plane`.
+//! `specs/Mark.antt` of `vx_mark_model`: all of them are counts of fixed rectangles of `vx_plane`.
 //!
 //! `specs/Certificate.antt` says what a certificate of a scan is. What readers and checkers both count stands here
 //! once: the counts of code boxes and the scores of bubbles at the places of a border, and the plan
 //! that a code names.
 //!
-//! The border is a function of the page here and a relation in `vx_border`; that both say the same
+//! The border is a function of the page here and a relation in `vx_mark_model`; that both say the same
 //! are the laws `a_border_is_the_border` and `every_scan_has_its_border`.
 #![tactic(auto)]
 

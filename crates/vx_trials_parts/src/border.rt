@@ -1,7 +1,7 @@
 use std::alloc::{AllocError, Global};
 use std::test::Fail;
 use vx_bits::BitPage;
-use vx_border::{BorderFault, trace};
+use vx_border::trace;
 use vx_count::Counter;
 use vx_grid::{Paper, Point, Side, mark_of, marks};
 

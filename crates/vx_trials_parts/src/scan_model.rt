@@ -1,7 +1,7 @@
 use std::test::Fail;
-use vx_border::BorderFault;
 use vx_code::CodeFault;
 use vx_grid::{Point, Side};
+use vx_mark_model::BorderFault;
 use vx_scan_model::PageFault;
 
 #[test]

@@ -12,14 +12,15 @@ use Rattle.vx_grid.specs.Borders.{MarkPlaces}
 use Rattle.vx_grid.specs.Places.{IsPointWithin, AreWithin, point_at}
 use Rattle.vx_mark_model.specs.Best.{IsNear}
 use Rattle.vx_mark_model.specs.Following.{AreAllFollowed, right_of, end_of, right_end_of}
-use Rattle.vx_border.specs.Border.{IsBorder}
-use Rattle.vx_border.proofs.Follow.{followed_within, followed_same, within_more, expected_within}
+use Rattle.vx_mark_model.specs.Border.{IsBorder}
+use Rattle.vx_mark_model.specs.Laws.{AcceptedAreFramed, FollowedIsSame}
+use Rattle.vx_border.proofs.Follow.{followed_within}
 use Rattle.vx_border.proofs.following.trace.Goals as goal
 
-module _ (paper : Paper) (page : Page) (places : List Point) (w : page.width ≤ 4096) (h : page.height ≤ 4096) (followed : AreAllFollowed paper page places) where
+module _ (framed : AcceptedAreFramed) (same_followed : FollowedIsSame) (paper : Paper) (page : Page) (places : List Point) (w : page.width ≤ 4096) (h : page.height ≤ 4096) (followed : AreAllFollowed paper page places) where
   -- each place of a followed list of all marks lies in the frame
   place_within : (n k : ℕ) → 4096 ≤ n → k < marks paper → IsPointWithin n (point_at places k)
-  place_within n k most inside = within_more 4096 n (point_at places k) most (followed_within page (last_row paper) (marks paper) k places w h followed inside)
+  place_within n k most inside = followed_within framed page n (last_row paper) (marks paper) k places (omega arith) (omega arith) followed inside
 
   -- the places of all marks
   pub places_within : (border : MarkPlaces) → 168 ≤ length places → marks paper ≤ 168 → border ≡ record { paper = paper; places = take (marks paper) places } → AreWithin 9000 border.places
@@ -39,12 +40,6 @@ module _ (paper : Paper) (page : Page) (places : List Point) (w : page.width ≤
   pub right_within : (p : Point) → p ≡ right_end_of (last_row paper) places → IsPointWithin 9000 p
   right_within p is = let Within : Point → Type 0 = λ q. IsPointWithin 9000 q in subst Within (sym is) (place_within 9000 (first_left (last_row paper) - 1) (omega arith) (omega arith))
 
-  -- what the bottom row leads to lies not far out
-  pub end_within : (p q : Point) → p ≡ point_at places (marks paper - 1) → q ≡ right_of p → IsPointWithin 9000 q
-  end_within p q at is =
-      let Within : Point → Type 0 = λ x. IsPointWithin 9000 x in
-      subst Within (sym (is ∙ ap right_of at)) (expected_within 0 1 (point_at places (marks paper - 1)) (place_within 4096 (marks paper - 1) (omega arith) (omega arith)))
-
   -- the border of the places, where it closes
   pub border_of_places : (border : MarkPlaces) (p end found : Point) → 168 ≤ length places → marks paper ≤ 168 → border ≡ record { paper = paper; places = take (marks paper) places } → p ≡ point_at places (marks paper - 1) → end ≡ right_of p → found ≡ right_end_of (last_row paper) places → IsNear end found → IsBorder paper page border
   border_of_places border p end found long most is at leads ends near =
@@ -59,18 +54,15 @@ module _ (paper : Paper) (page : Page) (places : List Point) (w : page.width ≤
       subst Is (sym is) (record {
         of_paper = refl;
         all = length-take-le (marks paper) places (omega arith);
-        followed = followed_same page (last_row paper) (marks paper) places taken (omega arith) same followed;
+        followed = same_followed page (last_row paper) (marks paper) places taken (omega arith) same followed;
         closes = subst Found ends_there (subst End leads_there near);
       })
 
 pub right_of-end-requires : goal.right_of-end-requires
-right_of-end-requires c = bottom_within c.args.paper c.args.counter.now c.follow.new.places (omega arith) (omega arith) c.in_ok-follow.ensures.found c.bottom_end.result c.bottom_end.ensures
-
-pub is_near-requires-clause-predicted : goal.is_near-requires-clause-predicted
-is_near-requires-clause-predicted c = end_within c.args.paper c.args.counter.now c.follow.new.places (omega arith) (omega arith) c.in_ok-follow.ensures.found c.bottom_end.result c.right_of-end.result c.bottom_end.ensures c.right_of-end.ensures
+right_of-end-requires c = bottom_within c.accepted_places_are_framed.ensures c.a_list_is_followed.ensures.same c.args.paper c.args.counter.now c.follow.new.places (omega arith) (omega arith) c.in_ok-follow.ensures.found c.bottom_end.result c.bottom_end.ensures
 
 pub is_near-requires-clause-place : goal.is_near-requires-clause-place
-is_near-requires-clause-place c = right_within c.args.paper c.args.counter.now c.follow.new.places (omega arith) (omega arith) c.in_ok-follow.ensures.found c.right_end-found.result c.right_end-found.ensures
+is_near-requires-clause-place c = right_within c.accepted_places_are_framed.ensures c.a_list_is_followed.ensures.same c.args.paper c.args.counter.now c.follow.new.places (omega arith) (omega arith) c.in_ok-follow.ensures.found c.right_end-found.result c.right_end-found.ensures
 
 most_marks : (paper : Paper) → marks paper ≤ 168
 most_marks Letter = omega arith
@@ -78,11 +70,11 @@ most_marks Legal = omega arith
 
 pub returns-then-is_near-clause-border : goal.returns-then-is_near-clause-border
 returns-then-is_near-clause-border c =
-    border_of_places c.args.paper c.args.counter.now c.follow.new.places (omega arith) (omega arith) c.in_ok-follow.ensures.found
+    border_of_places c.accepted_places_are_framed.ensures c.a_list_is_followed.ensures.same c.args.paper c.args.counter.now c.follow.new.places (omega arith) (omega arith) c.in_ok-follow.ensures.found
     c.new.result c.bottom_end.result c.right_of-end.result c.right_end-found.result (omega (arith, c.in_ok-follow.ensures.all)) (most_marks c.args.paper)
-    c.new.ensures c.bottom_end.ensures c.right_of-end.ensures c.right_end-found.ensures (c.is_near.ensures.0 c.if-is_near.true)
+    c.new.ensures c.bottom_end.ensures c.right_of-end.ensures.exact c.right_end-found.ensures (c.is_near.ensures.0 c.if-is_near.true)
 
 pub returns-then-is_near-clause-within : goal.returns-then-is_near-clause-within
 returns-then-is_near-clause-within c =
-    places_within c.args.paper c.args.counter.now c.follow.new.places (omega arith) (omega arith) c.in_ok-follow.ensures.found
+    places_within c.accepted_places_are_framed.ensures c.a_list_is_followed.ensures.same c.args.paper c.args.counter.now c.follow.new.places (omega arith) (omega arith) c.in_ok-follow.ensures.found
     c.new.result (omega (arith, c.in_ok-follow.ensures.all)) (most_marks c.args.paper) c.new.ensures

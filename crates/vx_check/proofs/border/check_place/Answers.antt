@@ -4,7 +4,7 @@ use Rattle.vx_grid.specs.declared.places.Point.{Point}
 use Rattle.vx_grid.specs.Paper.{last_row}
 use Rattle.vx_grid.specs.Places.{point_at}
 use Rattle.vx_mark_model.specs.Mark.{IsAccepted}
-use Rattle.vx_check.proofs.Places.{at-point, accepted-within, mark-accepted, mark-fails, mark-passes}
+use Rattle.vx_check.proofs.Places.{at-point, mark-accepted, mark-fails, mark-passes}
 use Rattle.vx_check.proofs.border.check_place.Goals as goal
 
 pub returns-in_err-check_mark : goal.returns-in_err-check_mark
@@ -19,8 +19,8 @@ check_step-requires-clause-within c =
     let k = c.args.k in
     let own : IsAccepted page (point_at places k) =
     subst (λ (q : Point). IsAccepted page q) (sym (at-point places k c.at.result c.at.ensures.place))
-    (mark-accepted c.places_are_tested.ensures page k c.at.result (sym c.in_ok-check_mark.ensures)) in
-    λ j less. accepted-within page (point_at places j) (omega arith) (omega arith)
+    (mark-accepted c.places_are_tested.ensures c.accepted_places_are_framed.ensures page k c.at.result (sym c.in_ok-check_mark.ensures)) in
+    λ j less. c.accepted_places_are_framed.ensures page 4096 (point_at places j) (omega arith) (omega arith)
     (below_more (λ (i : ℕ). IsAccepted page (point_at places i)) k c.requires.before own j (omega (arith, less)))
 
 pub returns : goal.returns

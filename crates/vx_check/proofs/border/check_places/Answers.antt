@@ -36,5 +36,5 @@ returns-clause-accepted c =
     let last = last_row border.paper in
     let all : c.marks-k-end.result ≡ marks border.paper = c.marks-k-end.ensures.exact ∙ ap marks c.paper.ensures in
     λ k less.
-    mark-accepted c.places_are_tested.ensures page k (point_at border.places k)
+    mark-accepted c.places_are_tested.ensures c.accepted_places_are_framed.ensures page k (point_at border.places k)
     (both-passed (mark_tested page k (point_at border.places k)) (step_tested last border.places k) tt (c.loop-k.invariant k (omega (arith, less, all)))).0

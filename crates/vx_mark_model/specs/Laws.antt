@@ -1,15 +1,25 @@
--- What is proved of followed lists of places, and of the border of a scan.
-use Rattle.std.specs.Prelude.{◌≡◌, ◌<◌, ℕ, ◌+◌, List, Result}
+-- What is proved of accepted places, of followed lists of places, and of the border of a scan.
+use Rattle.std.specs.Prelude.{◌≡◌, ◌<◌, ◌≤◌, ℕ, ◌+◌, List, Result}
 use Rattle.vx_plane.specs.Plane.{Page}
 use Rattle.vx_grid.specs.declared.paper.Paper.{Paper}
 use Rattle.vx_grid.specs.declared.places.Point.{Point}
 use Rattle.vx_grid.specs.Borders.{MarkPlaces}
-use Rattle.vx_grid.specs.Places.{point_at}
+use Rattle.vx_grid.specs.Places.{IsPointWithin, point_at}
+use Rattle.vx_mark_model.specs.Mark.{IsAccepted}
 use Rattle.vx_mark_model.specs.Corner.{IsCorner}
 use Rattle.vx_mark_model.specs.Best.{IsBest}
-use Rattle.vx_border.specs.declared.following.BorderFault.{BorderFault}
-use Rattle.vx_mark_model.specs.Following.{prediction_of, IsFollowed}
-use Rattle.vx_border.specs.Border.{IsBorderOf}
+use Rattle.vx_mark_model.specs.declared.fault.BorderFault.{BorderFault}
+use Rattle.vx_mark_model.specs.Following.{leader_of, prediction_of, IsFollowed}
+use Rattle.vx_mark_model.specs.Border.{IsBorderOf}
+
+-- an accepted place lies in the frame: within n of the origin, where the frame does
+abbrev pub AcceptedAreFramed : Type 0
+AcceptedAreFramed =
+    (page : Page) (n : ℕ) (p : Point) → page.width ≤ n → page.height ≤ n → IsAccepted page p → IsPointWithin n p
+
+-- the mark that leads to another comes before it
+abbrev pub LeadersComeBefore : Type 0
+LeadersComeBefore = (last k : ℕ) → 0 < k → leader_of last k < k
 
 -- the corner alone is followed
 abbrev pub CornerIsFollowed : Type 0
@@ -24,6 +34,13 @@ FollowedGrows =
     → ((k : ℕ) → k < n → point_at longer k ≡ point_at places k)
     → IsBest page (prediction_of last places n) (point_at longer n)
     → IsFollowed page last (n + 1) longer
+
+-- a list that begins with followed places is followed as far
+abbrev pub FollowedIsSame : Type 0
+FollowedIsSame =
+    (page : Page) (last n : ℕ) (places others : List Point) → 0 < n
+    → ((k : ℕ) → k < n → point_at others k ≡ point_at places k)
+    → IsFollowed page last n places → IsFollowed page last n others
 
 -- two followed lists of the same number of marks have the same places
 abbrev pub FollowedIsOne : Type 0

@@ -12,11 +12,11 @@ use Rattle.vx_grid.specs.Borders.{MarkPlaces}
 use Rattle.vx_grid.specs.Places.{point_at}
 use Rattle.vx_mark_model.specs.Corner.{CornerIsOne}
 use Rattle.vx_mark_model.specs.Best.{IsNear, IsBest, BestPlaceIsOne}
-use Rattle.vx_border.specs.declared.following.BorderFault.{BorderFault}
-use Rattle.vx_border.specs.declared.following.BorderFault.TheVariants.{NoCorner, NoMark, OpenBorder}
+use Rattle.vx_mark_model.specs.declared.fault.BorderFault.{BorderFault}
+use Rattle.vx_mark_model.specs.declared.fault.BorderFault.TheVariants.{NoCorner, NoMark, OpenBorder}
 use Rattle.vx_mark_model.specs.Following.{leader_of, prediction_of, expected_from, right_of, end_of, right_end_of, IsFollowed, AreAllFollowed}
-use Rattle.vx_border.specs.Border.{side_of, index_of, IsBorder, LacksMark, StaysOpen, IsBorderOf}
-use Rattle.vx_border.proofs.Follow.{leader_before}
+use Rattle.vx_mark_model.specs.Border.{side_of, index_of, IsBorder, LacksMark, StaysOpen, IsBorderOf}
+use Rattle.vx_mark_model.proofs.Follow.{leader_before}
 
 module _ (corner_is_one : CornerIsOne) (best_is_one : BestPlaceIsOne) where
   -- two followed lists agree up to a place

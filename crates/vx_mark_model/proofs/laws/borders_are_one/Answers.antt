@@ -1,5 +1,5 @@
-use Rattle.vx_border.proofs.Once.{followed_once, answers_once}
-use Rattle.vx_border.proofs.laws.borders_are_one.Goals as goal
+use Rattle.vx_mark_model.proofs.Once.{followed_once, answers_once}
+use Rattle.vx_mark_model.proofs.laws.borders_are_one.Goals as goal
 
 pub returns : goal.returns
 returns c = record {

@@ -1,21 +1,18 @@
 -- The border of a scan: its timing marks, each found from one before it. This project's own rule.
 -- Marks are told by the last grid row of the paper, so that each rule stands once for both papers.
-use Rattle.std.specs.Prelude.{◌≡◌, ◌<◌, ℕ, ◌-◌, ◌==◌, ◌||◌, Bool, nat_lt, nat_le, if◌then◌else◌, List, length, pos, ◌+ℤ◌, Result, Ok, Err}
+use Rattle.std.specs.Prelude.{◌≡◌, ◌<◌, ℕ, nat_lt, if◌then◌else◌, List, length, Result, Ok, Err}
 use Rattle.vx_plane.specs.Plane.{Page}
 use Rattle.vx_grid.specs.declared.paper.Paper.{Paper}
-use Rattle.vx_grid.specs.declared.paper.Paper.TheVariants.{Letter}
 use Rattle.vx_grid.specs.declared.places.Point.{Point}
 use Rattle.vx_grid.specs.declared.side.Side.{Side}
 use Rattle.vx_grid.specs.declared.side.Side.TheVariants.{Top, Right, Left, Bottom}
 use Rattle.vx_grid.specs.Paper.{last_row}
-use Rattle.vx_grid.specs.Grid.{x_of, y_of}
-use Rattle.vx_grid.specs.Marks.{first_right, first_left, first_bottom, marks_to, marks, mark_of}
+use Rattle.vx_grid.specs.Marks.{first_right, first_left, first_bottom, marks, mark_of}
 use Rattle.vx_grid.specs.Borders.{MarkPlaces}
-use Rattle.vx_grid.specs.Places.{point_at}
 use Rattle.vx_mark_model.specs.Corner.{IsCorner}
 use Rattle.vx_mark_model.specs.Best.{IsNear, IsBest}
-use Rattle.vx_border.specs.declared.following.BorderFault.{BorderFault}
-use Rattle.vx_border.specs.declared.following.BorderFault.TheVariants.{NoCorner, NoMark, OpenBorder}
+use Rattle.vx_mark_model.specs.declared.fault.BorderFault.{BorderFault}
+use Rattle.vx_mark_model.specs.declared.fault.BorderFault.TheVariants.{NoCorner, NoMark, OpenBorder}
 use Rattle.vx_mark_model.specs.Following.{is_in_row, prediction_of, IsFollowed, AreAllFollowed, end_of, right_end_of, Closes}
 
 -- the side of the page that a mark stands on
@@ -30,7 +27,6 @@ side_of last k =
 abbrev pub index_of : ℕ → ℕ → ℕ
 index_of last k = if is_in_row last k then (mark_of last k).0 else (mark_of last k).1
 
--- the first n places of a list are followed: the corner, and then each the best place near where it
 -- a followed list of all marks that closes
 pub record IsBorder (paper : Paper) (page : Page) (border : MarkPlaces) : Type 0 where
   pub of_paper : border.paper ≡ paper

@@ -1,6 +1,6 @@
 use Rattle.std.proofs.Common.{arith}
 use Rattle.std.proofs.lemmas.Int.{ints}
-use Rattle.vx_border.proofs.following.is_near.Goals as goal
+use Rattle.vx_mark_model.proofs.steps.is_near.Goals as goal
 
 pub returns-then-is_close : goal.returns-then-is_close
 returns-then-is_close c =
