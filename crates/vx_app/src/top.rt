@@ -165,7 +165,7 @@ fn run_words<R: Threads + Sync, I: Inputs, S: Sink, K: Keeper, G: Gate>(
         return Status::Usage;
     }
     match parse(alloc, words) {
-        Err(UsageFault::OutOfMemory) => Status::NoMemory,
+        Err(UsageFault::OutOfMemory) => Status::Halted(Halt::NoMemory),
         Err(UsageFault::Usage) => Status::Usage,
         Ok(command) => status_of(obey(rt, alloc, command, inputs, out, keeper, gate)),
     }

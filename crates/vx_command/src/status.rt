@@ -3,44 +3,16 @@ ghost use Rattle.vx_command.specs.Status.{answer_of, number_of, status_of as sta
 
 use crate::halt::Halt;
 use std::fmt;
-use vx_election::ElectionFault;
-use vx_layout::LayoutFault;
-use vx_pbm::PbmFault;
-use vx_refusals::{CertFault, DecisionFault, JournalStop};
 
-/// What the program ends with. Words are counted from 0.
+/// What the program ends with.
 #[derive(Debug, Drop)]
 pub enum Status {
     /// The command did its work.
     Ok,
     /// The words aren't a command.
     Usage,
-    /// The inputs hold nothing under that word.
-    NoInput(u32),
-    /// That input has so many bytes, more than the limit.
-    TooLong(u32, u64),
-    /// The election definition is refused.
-    Election(ElectionFault),
-    /// The first card that can't be laid out, and why.
-    Layout(u32, LayoutFault),
-    /// The scan input of that word leaves the grammar of bitmaps.
-    Pbm(u32, PbmFault),
-    /// The readings aren't certified.
-    NotCertified(CertFault),
-    /// That line of the script is refused. Lines are counted from 1.
-    Decision(u32, DecisionFault),
-    /// The journal's record of that index, from 0, stops its reading.
-    Journal(u64, JournalStop),
-    /// The items up to the one of that word may have so many events, more than a shared center takes.
-    TooManyEvents(u32, u64),
-    /// The inputs failed.
-    ReadFault,
-    /// The sink failed.
-    WriteFault,
-    /// The keeper failed.
-    KeeperFault,
-    /// There was no memory.
-    NoMemory,
+    /// The command halted before its work was done.
+    Halted(Halt),
 }
 
 impl Status {
@@ -51,19 +23,7 @@ impl Status {
         match self {
             Status::Ok => 0,
             Status::Usage => 1,
-            Status::NoInput(_) => 2,
-            Status::TooLong(_, _) => 3,
-            Status::Election(_) => 4,
-            Status::Layout(_, _) => 5,
-            Status::Pbm(_, _) => 6,
-            Status::NotCertified(_) => 7,
-            Status::Decision(_, _) => 8,
-            Status::Journal(_, _) => 9,
-            Status::ReadFault => 10,
-            Status::WriteFault => 11,
-            Status::KeeperFault => 12,
-            Status::NoMemory => 13,
-            Status::TooManyEvents(_, _) => 18,
+            Status::Halted(cause) => cause.number(),
         }
     }
 }
@@ -75,19 +35,7 @@ pub fn status_of(answer: Result<(), Halt>) -> Status
 {
     match answer {
         Ok(()) => Status::Ok,
-        Err(Halt::NoInput(word)) => Status::NoInput(word),
-        Err(Halt::TooLong(word, size)) => Status::TooLong(word, size),
-        Err(Halt::Election(fault)) => Status::Election(fault),
-        Err(Halt::Layout(card, fault)) => Status::Layout(card, fault),
-        Err(Halt::Pbm(word, fault)) => Status::Pbm(word, fault),
-        Err(Halt::NotCertified(fault)) => Status::NotCertified(fault),
-        Err(Halt::Decision(line, fault)) => Status::Decision(line, fault),
-        Err(Halt::Journal(index, stop)) => Status::Journal(index, stop),
-        Err(Halt::TooManyEvents(word, count)) => Status::TooManyEvents(word, count),
-        Err(Halt::ReadFault) => Status::ReadFault,
-        Err(Halt::WriteFault) => Status::WriteFault,
-        Err(Halt::KeeperFault) => Status::KeeperFault,
-        Err(Halt::NoMemory) => Status::NoMemory,
+        Err(cause) => Status::Halted(cause),
     }
 }
 
@@ -102,19 +50,7 @@ impl fmt::Display for Status {
         match self {
             Status::Ok => f.write_str("ok"),
             Status::Usage => f.write_str("usage"),
-            Status::NoInput(word) => write!(f, "no input {word}"),
-            Status::TooLong(word, size) => write!(f, "too long {word} {size}"),
-            Status::Election(fault) => write!(f, "election {fault}"),
-            Status::Layout(card, fault) => write!(f, "layout {card} {fault}"),
-            Status::Pbm(word, fault) => write!(f, "pbm {word} {fault}"),
-            Status::NotCertified(fault) => write!(f, "not certified {fault}"),
-            Status::Decision(line, fault) => write!(f, "decision line {line} {fault}"),
-            Status::Journal(index, stop) => write!(f, "journal {index} {stop}"),
-            Status::TooManyEvents(word, count) => write!(f, "too many events {word} {count}"),
-            Status::ReadFault => f.write_str("read fault"),
-            Status::WriteFault => f.write_str("write fault"),
-            Status::KeeperFault => f.write_str("keeper fault"),
-            Status::NoMemory => f.write_str("no memory"),
+            Status::Halted(cause) => write!(f, "{cause}"),
         }
     }
 }

@@ -9,7 +9,7 @@ use std::process::ExitCode;
 use std::sync::Wait;
 use std::thread::Threads;
 use vx_app::{arguments_status, command_words, is_center, run, run_center};
-use vx_command::{Message, Status};
+use vx_command::{Halt, Message, Status};
 use vx_io::{Inputs, Keeper, KeeperCalls, MemKeeper, Records, Sink, StdInputs, StdSink, Words};
 use vx_keep_sqlite::SqliteKeeper;
 use vx_workers::OpenGate;
@@ -19,7 +19,7 @@ fn arguments_of_line(rt: &HostRuntime) -> Result<Vec<String>, Status> {
     match env::args(rt) {
         Ok(arguments) => match arguments.collect::<Vec<String>>(rt.alloc()) {
             Ok(list) => Ok(list),
-            Err(_refused) => Err(Status::NoMemory),
+            Err(_refused) => Err(Status::Halted(Halt::NoMemory)),
         },
         Err(fault) => Err(arguments_status(fault.kind())),
     }
@@ -74,7 +74,7 @@ fn run_on_file<R: Threads + Wait + Sync>(
             &mut out,
             &mut keeper,
         ),
-        Err(_refused) => Status::NoMemory,
+        Err(_refused) => Status::Halted(Halt::NoMemory),
     }
 }
 
