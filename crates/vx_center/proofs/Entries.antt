@@ -7,6 +7,7 @@ use Rattle.std.specs.Map.{values_of}
 use Rattle.indexmap.specs.IndexMap.{set_value_at}
 use Rattle.std.proofs.lemmas.List.{map_push}
 use Rattle.std.proofs.lemmas.Option.{same_Some, slice_get-map}
+use Rattle.vx_base.proofs.Lists.{at-push}
 use Rattle.vx_election_model.specs.declared.election.Election.{Election}
 use Rattle.vx_rules.specs.declared.marks.SheetMarks.{SheetMarks}
 use Rattle.vx_events.specs.declared.event.Event.{Event}
@@ -25,7 +26,7 @@ use Rattle.vx_center.specs.States.{Entry, entry_of, named_entry, name_of_key, Is
 use Rattle.vx_center.proofs.Places.{position_from-front, position_from-behind, position_from-none, map-same, map-but_one}
 use Rattle.vx_center.proofs.Adding.{sheets-push}
 use Rattle.vx_center.proofs.Keys.{same-self, same-equal, other-apart}
-use Rattle.vx_center.proofs.Following.{LeavesAlone, Asks, IsAdded, key_of, alone-add, alone-apart, holder-push, decided-push, holder-alone, decided-alone, done-asks, done-adds, slice-push, history-push, sheets-same, place-same}
+use Rattle.vx_center.proofs.Following.{LeavesAlone, Asks, IsAdded, key_of, alone-add, alone-apart, holder-push, decided-push, holder-alone, decided-alone, done-asks, done-adds, history-push, sheets-same, place-same}
 
 -- what is kept of a sheet stays where an event leaves it alone
 pub named-alone : (kept : List Event) (event : Event) (added : Added) → LeavesAlone added.key event → named_entry (kept ++ event ∷ []) added ≡ named_entry kept added
@@ -47,7 +48,7 @@ module _ (election : Election) (kept : List Event) (entries : List (SheetName ×
     valid = is.valid;
     history = history-push election kept event is.history fits done;
     entries = entries-are;
-    own = λ place added h. own-at place added (slice-push (sheets_in kept) new place added (ap (λ (s : List Added). slice_get s place) (sym sheets-are) ∙ h));
+    own = λ place added h. own-at place added (at-push (sheets_in kept) new place added (ap (λ (s : List Added). slice_get s place) (sym sheets-are) ∙ h));
     quiet = λ other none. quiet-alone kept event other (alone-add other key sheet) (is.quiet other (none-before other none));
   }
     where

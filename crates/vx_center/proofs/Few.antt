@@ -4,7 +4,7 @@ use Rattle.std.specs.Prelude.{◌&&◌, All, Option, Some, None, nat_lt, nat_le,
 use Rattle.std.specs.List.{list_all}
 use Rattle.std.proofs.lemmas.Option.{same_Some, slice_get_within, get_or_from_slice_get}
 use Rattle.std.proofs.lemmas.Bool.Decides.{nat_tests}
-use Rattle.vx_base.proofs.Booleans.{and-left, and-right, chosen-none}
+use Rattle.vx_base.proofs.Booleans.{and-left, and-right, chosen-none, either-le}
 use Rattle.vx_base.proofs.Numbers.{equal-from_yes, below-yes, below-from_yes, at_most-yes, at_most-from_yes}
 use Rattle.vx_election_model.specs.declared.contest.Contest.{Contest}
 use Rattle.vx_election_model.specs.declared.choice.Choice.{Choice}
@@ -34,10 +34,6 @@ ascending-room least n (number ∷ numbers) up none room =
 
 pub ascending-few : (n : ℕ) (numbers : List ℕ) → is_ascending numbers ≡ true → find (nat_le n) numbers ≡ None → length numbers ≤ n
 ascending-few n numbers up none = let room = ascending-room 0 n numbers up none (omega arith) in omega arith
-
-either-le : (b : Bool) (m n most : ℕ) → m ≤ most → n ≤ most → cond b m n ≤ most
-either-le true m n most h k = h
-either-le false m n most h k = k
 
 few-choices : (is_yes_no : Bool) (contest : Contest) → HasChoices is_yes_no contest → length contest.choices ≤ 100
 few-choices true contest has = let two = ap length has.answers.2 in omega (arith, two)

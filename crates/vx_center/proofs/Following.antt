@@ -6,6 +6,7 @@ use Rattle.std.proofs.lemmas.List.{take-append-le, take_at}
 use Rattle.std.proofs.lemmas.List.Sums.{fold_push}
 use Rattle.std.proofs.lemmas.List.Concat.{flat_map-append}
 use Rattle.std.proofs.lemmas.Option.{same_Some, slice_get_within}
+use Rattle.vx_base.proofs.Lists.{at-push}
 use Rattle.vx_election_model.specs.declared.election.Election.{Election}
 use Rattle.vx_rules.specs.declared.marks.SheetMarks.{SheetMarks}
 use Rattle.vx_events.specs.declared.event.Event.{Event}
@@ -141,22 +142,11 @@ done-adds election kept key sheet h = by (place_in kept key) (with-room election
     by None h = refl
     by (Some place) h = absurd cc
 
--- one element more
-pub slice-push : {X : Type 0} (xs : List X) (y : X) (i : ℕ) (x : X) → slice_get (xs ++ y ∷ []) i ≡ Some x → ((i < length xs) × (slice_get xs i ≡ Some x)) ⊎ ((i ≡ length xs) × (y ≡ x))
-slice-push [] y zero x h = inr (refl, same_Some y x h)
-slice-push [] y (suc i) x h = absurd cc
-slice-push (z ∷ xs) y zero x h = inl (omega arith, h)
-slice-push (z ∷ xs) y (suc i) x h = by (slice-push xs y i x h)
-  where
-    by : ((i < length xs) × (slice_get xs i ≡ Some x)) ⊎ ((i ≡ length xs) × (y ≡ x)) → ((suc i < suc (length xs)) × (slice_get xs i ≡ Some x)) ⊎ ((suc i ≡ suc (length xs)) × (y ≡ x))
-    by (inl front) = inl (omega (arith, front.0), front.1)
-    by (inr last) = inr (omega (arith, last.0), last.1)
-
 -- a history of one event more
 pub history-push : (election : Election) (kept : List Event) (event : Event) → IsHistory election kept → Fits election event → reply_of election kept event ≡ Done → IsHistory election (kept ++ event ∷ [])
 history-push election kept event history fits done = record {
-  fits = λ place one h. fits-at place one (slice-push kept event place one h);
-  done = λ place one h. done-at place one (slice-push kept event place one h);
+  fits = λ place one h. fits-at place one (at-push kept event place one h);
+  done = λ place one h. done-at place one (at-push kept event place one h);
 }
   where
     fits-at : (place : ℕ) (one : Event) → ((place < length kept) × (slice_get kept place ≡ Some one)) ⊎ ((place ≡ length kept) × (event ≡ one)) → Fits election one

@@ -3,7 +3,7 @@ use Rattle.std.proofs.Common.{◌≡◌, ◌≢◌, ℕ, ◌⊎◌, inl, inr, Bo
 use Rattle.std.specs.Prelude.{◌&&◌, ◌||◌, Option, Some, None, not, find, slice_get}
 use Rattle.std.specs.List.{flat_map, list_any}
 use Rattle.std.proofs.lemmas.List.Concat.{flat_map-append}
-use Rattle.vx_base.proofs.Booleans.{or-left}
+use Rattle.vx_base.proofs.Lists.{find-front}
 use Rattle.vx_base.proofs.Numbers.{equal-from_yes}
 use Rattle.vx_election_model.specs.declared.contest.Contest.{Contest}
 use Rattle.vx_election_model.specs.declared.election.Election.{Election}
@@ -27,15 +27,6 @@ use Rattle.vx_center.specs.Laws.{SheetsStay, ExportsStay, ClaimsAreFree, Release
 use Rattle.vx_center.specs.Histories.{IsHistory}
 use Rattle.vx_center.proofs.Adding.{sheets-push}
 use Rattle.vx_center.proofs.Following.{with-room, decided-push}
-
--- what is found in front is found where more stands behind
-find-front : {X : Type 0} (p : X → Bool) (xs ys : List X) (x : X) → find p xs ≡ Some x → find p (xs ++ ys) ≡ Some x
-find-front p [] ys x h = absurd cc
-find-front {X} p (y ∷ xs) ys x h = by (p y) h (find-front p xs ys x)
-  where
-    by : (b : Bool) → cond b (Some y) (find p xs) ≡ Some x → (find p xs ≡ Some x → find p (xs ++ ys) ≡ Some x) → cond b (Some y) (find p (xs ++ ys)) ≡ Some x
-    by true h rest = h
-    by false h rest = rest h
 
 sheet-front : (key : Key) (sheets more : List Added) (sheet : SheetMarks) → sheet_of (find (has_key key) sheets) ≡ Some sheet → sheet_of (find (has_key key) (sheets ++ more)) ≡ Some sheet
 sheet-front key sheets more sheet h = by (find (has_key key) sheets) refl h

@@ -9,3 +9,8 @@ pub mod Finding
 pub mod Answered
 pub mod Rowed
 pub mod Lasting
+pub mod Answering
+mod Histories
+mod OwnSheets
+mod FirstDecided
+mod Shown

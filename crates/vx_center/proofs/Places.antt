@@ -112,6 +112,23 @@ position_from-none {X} p from xs ys h = by (position_from p from xs) refl
     by None e = e
     by (Some place) e = let there = position_from-front p from xs ys place e in absurd cc
 
+-- the same of what is found itself
+pub find-behind : {X : Type 0} (p : X → Bool) (xs ys : List X) → find p xs ≡ None → find p (xs ++ ys) ≡ find p ys
+find-behind p [] ys h = refl
+find-behind {X} p (y ∷ xs) ys h = by (p y) h (find-behind p xs ys)
+  where
+    by : (b : Bool) → cond b (Some y) (find p xs) ≡ None → (find p xs ≡ None → find p (xs ++ ys) ≡ find p ys) → cond b (Some y) (find p (xs ++ ys)) ≡ find p ys
+    by true h rest = absurd cc
+    by false h rest = rest h
+
+-- where no place passes, nothing is found
+pub none-found : {X : Type 0} (p : X → Bool) (from : ℕ) (xs : List X) → position_from p from xs ≡ None → find p xs ≡ None
+none-found p from xs h = by (locate p from xs)
+  where
+    by : Missing p from xs ⊎ Located p from xs → find p xs ≡ None
+    by (inl missing) = missing.found
+    by (inr located) = let some = sym located.place ∙ h in absurd cc
+
 -- a list that is mapped by two functions that agree everywhere
 pub map-same : {X Y : Type 0} (f g : X → Y) (xs : List X) → ((i : ℕ) (x : X) → slice_get xs i ≡ Some x → g x ≡ f x) → map g xs ≡ map f xs
 map-same f g [] same = refl

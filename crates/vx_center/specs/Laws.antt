@@ -1,5 +1,5 @@
 -- What holds over whole runs of the counting machine.
-use Rattle.std.specs.Prelude.{◌≡◌, ◌⊎◌, ℕ, true, List, take, slice_get, Some, None}
+use Rattle.std.specs.Prelude.{◌≡◌, ◌⊎◌, ℕ, true, false, List, take, slice_get, Some, None}
 use Rattle.vx_election_model.specs.declared.election.Election.{Election}
 use Rattle.vx_rules.specs.declared.marks.ContestMarks.{ContestMarks}
 use Rattle.vx_rules.specs.declared.marks.SheetMarks.{SheetMarks}
@@ -7,17 +7,27 @@ use Rattle.vx_events.specs.declared.decision.Decision.{Decision}
 use Rattle.vx_events.specs.declared.event.Event.{Event}
 use Rattle.vx_events.specs.declared.event.Event.TheVariants.{Claim, Release, Decide}
 use Rattle.vx_events.specs.declared.key.Key.{Key}
-use Rattle.vx_center.specs.Sheets.{Added, sheet_in}
+use Rattle.vx_refusals.specs.declared.reply.Reply.{Reply}
+use Rattle.vx_refusals.specs.declared.reply.Reply.TheVariants.{Done}
+use Rattle.vx_center.specs.Sheets.{Added, sheet_in, sheets_in}
 use Rattle.vx_center.specs.Holders.{holder_of}
-use Rattle.vx_center.specs.Replies.{next_of}
+use Rattle.vx_center.specs.Replies.{is_done, next_of}
 use Rattle.vx_center.specs.Waiting.{exports}
 use Rattle.vx_center.specs.Histories.{IsHistory}
+use Rattle.vx_center.specs.Shown.{ShowsWhatWasKept}
 
 -- a sheet that was added is neither changed nor lost, whatever event comes
 abbrev pub SheetsStay : Type 0
 SheetsStay =
     (election : Election) (kept : List Event) (event : Event) (key : Key) (sheet : SheetMarks)
     → sheet_in kept key ≡ Some sheet → sheet_in (next_of election kept event) key ≡ Some sheet
+
+-- no two sheets of a history have one key
+abbrev pub SheetsHaveOwnKeys : Type 0
+SheetsHaveOwnKeys =
+    (election : Election) (kept : List Event) (place further : ℕ) (one other : Added)
+    → IsHistory election kept → slice_get (sheets_in kept) place ≡ Some one
+    → slice_get (sheets_in kept) further ≡ Some other → one.key ≡ other.key → one ≡ other
 
 -- a contest that is exported stays exported, whatever event comes
 abbrev pub ExportsStay : Type 0
@@ -45,3 +55,12 @@ DecisionsAreTheHolders =
     (election : Election) (kept : List Event) (place station contest : ℕ) (key : Key) (decision : Decision)
     → IsHistory election kept → slice_get kept place ≡ Some (Decide station key contest decision)
     → holder_of (take place kept) key ≡ Some station
+
+-- an export of any history shows what was kept
+abbrev pub HistoriesAreShown : Type 0
+HistoriesAreShown = (election : Election) (kept : List Event) → IsHistory election kept → ShowsWhatWasKept election kept
+
+-- which answers keep their event
+pub record RepliesAreDoneOrRefuse : Type 0 where
+  pub done : (reply : Reply) → is_done reply ≡ true → reply ≡ Done
+  pub refused : (reply : Reply) → (reply ≡ Done → ⊥) → is_done reply ≡ false

@@ -7,5 +7,6 @@ pub mod Replies
 pub mod Waiting
 pub mod Exports
 pub mod Histories
+pub mod Shown
 pub mod States
 pub mod Laws

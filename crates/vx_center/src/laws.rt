@@ -1,11 +1,25 @@
-//! Laws over whole runs of the counting machine. These functions do nothing; their contracts are the
-//! laws. Which lists of events a center may have kept is `IsHistory`, a clause of `Center::events`.
+//! Laws of the counting machine, most of them over whole runs. These functions do nothing; their contracts
+//! are the laws. Which lists of events a center may have kept is `IsHistory`, a clause of `Center::events`.
 
-ghost use Rattle.vx_center.specs.Laws.{ClaimsAreFree, DecisionsAreTheHolders, ExportsStay, ReleasesAreTheHolders, SheetsStay};
+ghost use Rattle.vx_center.specs.Laws.{
+  ClaimsAreFree,
+  DecisionsAreTheHolders,
+  ExportsStay,
+  HistoriesAreShown,
+  ReleasesAreTheHolders,
+  RepliesAreDoneOrRefuse,
+  SheetsHaveOwnKeys,
+  SheetsStay,
+};
 
 /// A sheet that was added is never changed or lost.
 pub fn sheets_stay()
     ensures { SheetsStay }
+{}
+
+/// No two sheets of a history have one key.
+pub fn sheets_have_own_keys()
+    ensures { SheetsHaveOwnKeys }
 {}
 
 /// A contest that is exported stays exported.
@@ -23,4 +37,15 @@ pub fn one_station_holds_a_sheet()
 /// A decision counts only from the station that holds the sheet.
 pub fn decisions_are_the_holders()
     ensures { DecisionsAreTheHolders }
+{}
+
+/// Of every history an export shows exactly the exported contests, as they were read with the last decisions
+/// applied; one with a marginal option only where it was ruled, and none that has a reason and no decision.
+pub fn exports_show_what_was_kept()
+    ensures { HistoriesAreShown }
+{}
+
+/// An answer that keeps its event is Done, and any other is a refusal.
+pub fn replies_are_done_or_refuse()
+    ensures { RepliesAreDoneOrRefuse }
 {}

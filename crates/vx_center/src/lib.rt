@@ -4,9 +4,10 @@
 //! The sheets, who holds them and what was decided of them are defined over that list in
 //! `specs/Sheets.antt`, `specs/Holders.antt` and `specs/Decisions.antt`; the answers in
 //! `specs/Replies.antt`; what a contest counts as in `specs/Finals.antt`; what waits in
-//! `specs/Waiting.antt`; what is exported in `specs/Exports.antt`. Beside the events a center keeps an
-//! entry for each sheet, `specs/States.antt`, so that no call looks through the list. What holds over
-//! whole runs are the laws of `specs/Laws.antt`.
+//! `specs/Waiting.antt`; what is exported in `specs/Exports.antt`, and which contests an export shows, and
+//! what as, in `specs/Shown.antt`. Beside the events a center keeps an entry for each sheet,
+//! `specs/States.antt`, so that no call looks through the list. What holds over whole runs are the laws of
+//! `specs/Laws.antt`.
 #![tactic(auto)]
 
 mod center;
@@ -22,6 +23,9 @@ mod waiting;
 
 pub use center::{Center, Events};
 pub use decided::Decided;
-pub use laws::{decisions_are_the_holders, exports_stay, one_station_holds_a_sheet, sheets_stay};
+pub use laws::{
+    decisions_are_the_holders, exports_show_what_was_kept, exports_stay, one_station_holds_a_sheet,
+    replies_are_done_or_refuse, sheets_have_own_keys, sheets_stay,
+};
 pub use rows::{ExportSheet, ExportSheets, Final, Finals, SlotNames};
 pub use vx_events::{Decision, Event, Key, Options, Reply, WriteInName};

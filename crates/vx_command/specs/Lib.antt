@@ -1,6 +1,7 @@
 pub mod Halts
 pub mod Acts
 pub mod Elections
+pub mod Images
 pub mod Done
 pub mod Devices
 pub mod Steps

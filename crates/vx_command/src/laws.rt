@@ -1,8 +1,12 @@
 //! Laws for the proofs of commands. These functions do nothing; their contracts are the laws. A body
 //! that calls one has its laws among the facts of that call, and hands them to its lemmas.
 
-ghost use Rattle.vx_command.specs.Laws.{ActLaws, StepLaws};
+ghost use Rattle.vx_command.specs.Images.{ScannedImagesAreWhole};
+ghost use Rattle.vx_command.specs.Laws.{ActLaws, StepLaws, TakenElectionsAreValid};
 ghost use Rattle.vx_command.specs.Texts.{TextsInOrder};
+
+use vx_election::defined_elections_are_valid;
+use vx_pbm::images_are_whole;
 
 /// Acts that are done, or broken off, and then the rest of a command.
 pub fn acts_in_order()
@@ -18,3 +22,17 @@ pub fn steps_in_order<T>()
 pub fn texts_in_order()
     ensures { TextsInOrder }
 {}
+
+/// The election that a command takes is valid.
+pub fn taken_elections_are_valid()
+    ensures { TakenElectionsAreValid }
+{
+    defined_elections_are_valid();
+}
+
+/// Each image of the scans that a command reads is whole.
+pub fn scanned_images_are_whole()
+    ensures { ScannedImagesAreWhole }
+{
+    images_are_whole();
+}

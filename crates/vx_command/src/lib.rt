@@ -16,7 +16,10 @@ mod taking;
 mod writing;
 
 pub use halt::{Halt, halt_of_bitmap, halt_of_card};
-pub use laws::{acts_in_order, steps_in_order, texts_in_order};
+pub use laws::{
+    acts_in_order, scanned_images_are_whole, steps_in_order, taken_elections_are_valid,
+    texts_in_order,
+};
 pub use plans::plan_all;
 pub use status::{Message, Status, status_of};
 pub use taking::{INPUT_LIMIT, take_election, take_input};

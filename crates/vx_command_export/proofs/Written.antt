@@ -5,7 +5,7 @@ use Rattle.vx_io.specs.Outside.{Files, Took}
 use Rattle.vx_election_model.specs.declared.election.Election.{Election}
 use Rattle.vx_events.specs.declared.event.Event.{Event}
 use Rattle.vx_refusals.specs.declared.journal.JournalStop.{JournalStop}
-use Rattle.vx_exports.specs.Laws.{HistoriesAreShown}
+use Rattle.vx_center.specs.Laws.{HistoriesAreShown}
 use Rattle.vx_cvr.specs.Report.{report_of}
 use Rattle.vx_command.specs.declared.halt.Halt.{Halt}
 use Rattle.vx_command.specs.Acts.{Act, Take, ReadJournal, Answer, Outcome, after, goes_on, taking, text_of, writing}

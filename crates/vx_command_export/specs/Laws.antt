@@ -4,7 +4,7 @@ use Rattle.vx_io.specs.Outside.{Files, Took}
 use Rattle.vx_election_model.specs.declared.election.Election.{Election}
 use Rattle.vx_events.specs.declared.event.Event.{Event}
 use Rattle.vx_center.specs.Histories.{IsHistory}
-use Rattle.vx_exports.specs.Shown.{ShowsWhatWasKept}
+use Rattle.vx_center.specs.Shown.{ShowsWhatWasKept}
 use Rattle.vx_cvr.specs.Report.{report_of}
 use Rattle.vx_command.specs.Acts.{Answer}
 use Rattle.vx_command.specs.Done.{Taken, Held, IsDone}

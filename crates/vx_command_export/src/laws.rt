@@ -2,7 +2,7 @@
 
 ghost use Rattle.vx_command_export.specs.Laws.{ExportsWriteWhatWasKept};
 
-use vx_exports::exports_show_what_was_kept;
+use vx_center::exports_show_what_was_kept;
 
 /// Whatever stands of the acts of `export`: where it ended well, all that it wrote is the report of
 /// exactly the events that the journal keeps, and the report shows what was kept.

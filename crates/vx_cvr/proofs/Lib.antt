@@ -1,6 +1,5 @@
 pub mod Made
 pub mod Floatless
 pub mod Order
-pub mod Keyed
 pub mod Rows
 pub mod Texts

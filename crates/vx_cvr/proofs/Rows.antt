@@ -1,5 +1,5 @@
 -- The rows of an export in order are one list, which the definition makes.
-use Rattle.std.proofs.Common.{◌≡◌, ℕ, ◌+◌, ◌⊎◌, inl, inr, cond, Bool, true, false, List, [], ◌∷◌, map, refl, sym, ap, ap₂, subst, ◌∙◌, arith}
+use Rattle.std.proofs.Common.{◌≡◌, ℕ, suc, ◌+◌, cond, Bool, true, false, List, [], ◌∷◌, map, refl, sym, ap, ap₂, subst, ◌∙◌, arith}
 use Rattle.std.specs.Prelude.{All, IsPermutation, IsSortedByKey, nat_lt, ◌==◌, Option, None, Some, slice_get}
 use Rattle.std.specs.List.{sum_by}
 use Rattle.std.specs.Cmp.{IsStrictWeakOrder, IsTotalOrder}
@@ -31,10 +31,10 @@ use Rattle.vx_center.specs.Decisions.{decided_of, decisions_on}
 use Rattle.vx_center.specs.Waiting.{exports_by}
 use Rattle.vx_center.specs.Exports.{AreExportRows, final_if_exported, final_in, final_of, key_order, row_of}
 use Rattle.vx_center.specs.Histories.{IsHistory}
+use Rattle.vx_center.specs.Laws.{SheetsHaveOwnKeys}
 use Rattle.vx_center.specs.Sheets.{Added, sheets_in}
 use Rattle.vx_cvr.specs.Report.{HasItsContests, IsOfElection}
 use Rattle.vx_cvr.specs.Rows.{in_order, placed, rows_of}
-use Rattle.vx_cvr.proofs.Keyed.{IsIn, keyed, one_sheet}
 use Rattle.vx_cvr.proofs.Order as order
 
 abbrev before : ExportSheet → ExportSheet → Bool
@@ -145,32 +145,37 @@ keys_tied one other first second =
 -- rows of sheets of a list
 record IsRowOf (election : Election) (kept : List Event) (row : ExportSheet) : Type 0 where
   added : Added
-  inside : IsIn added (sheets_in kept)
+  place : ℕ
+  there : slice_get (sheets_in kept) place ≡ Some added
   is : row ≡ row_of election kept added
 
-all_rows : (election : Election) (kept : List Event) (sheets : List Added) → ((added : Added) → IsIn added sheets → IsIn added (sheets_in kept))
+all_rows : (election : Election) (kept : List Event) (sheets : List Added) (from : ℕ) → ((place : ℕ) (added : Added) → slice_get sheets place ≡ Some added → slice_get (sheets_in kept) (from + place) ≡ Some added)
     → All (IsRowOf election kept) (map (row_of election kept) sheets)
-all_rows election kept [] inside = All-nil (IsRowOf election kept)
-all_rows election kept (added ∷ sheets) inside =
+all_rows election kept [] from there = All-nil (IsRowOf election kept)
+all_rows election kept (added ∷ sheets) from there =
     All-cons (IsRowOf election kept) (row_of election kept added) (map (row_of election kept) sheets)
-    (record { added = added; inside = inside added (inl refl); is = refl })
-    (all_rows election kept sheets (λ other further. inside other (inr further)))
+    (record { added = added; place = from + 0; there = there 0 added refl; is = refl })
+    (all_rows election kept sheets (from + 1)
+    (λ place other further.
+    let next : from + suc place ≡ from + 1 + place = omega arith in
+    ap (slice_get (sheets_in kept)) (sym next) ∙ there (suc place) other further))
 
-rows_tied : (election : Election) (kept : List Event) → IsHistory election kept → (one other : ExportSheet)
+rows_tied : SheetsHaveOwnKeys → (election : Election) (kept : List Event) → IsHistory election kept → (one other : ExportSheet)
     → IsRowOf election kept one → IsRowOf election kept other → before one other ≡ false → before other one ≡ false → one ≡ other
-rows_tied election kept history one other first second not_before not_behind =
+rows_tied keys election kept history one other first second not_before not_behind =
     let key : one.key ≡ other.key = keys_tied one.key other.key not_before not_behind in
     let same : first.added.key ≡ second.added.key =
     sym (ap (λ (row : ExportSheet). row.key) first.is) ∙ key ∙ ap (λ (row : ExportSheet). row.key) second.is in
-    let sheet : first.added ≡ second.added = one_sheet [] (sheets_in kept) (keyed election kept history) first.added second.added first.inside second.inside same in
+    let sheet : first.added ≡ second.added = keys election kept first.place second.place first.added second.added history first.there second.there same in
     first.is ∙ ap (row_of election kept) sheet ∙ sym second.is
 
 -- the rows that a center exports are those that are defined
-pub rows_are : (election : Election) (kept : List Event) (rows : List ExportSheet) → IsHistory election kept → AreExportRows election kept rows → rows ≡ rows_of election kept
-rows_are election kept rows history exported =
+pub rows_are : SheetsHaveOwnKeys → (election : Election) (kept : List Event) (rows : List ExportSheet) → IsHistory election kept → AreExportRows election kept rows → rows ≡ rows_of election kept
+rows_are keys election kept rows history exported =
     let made : List ExportSheet = map (row_of election kept) (sheets_in kept) in
-    let all : All (IsRowOf election kept) made = all_rows election kept (sheets_in kept) (λ added inside. inside) in
-    order.unique before ranks (IsRowOf election kept) (rows_tied election kept history) rows (in_order made)
+    let all : All (IsRowOf election kept) made = all_rows election kept (sheets_in kept) 0
+    (λ place added there. let same : 0 + place ≡ place = omega arith in ap (slice_get (sheets_in kept)) same ∙ there) in
+    order.unique before ranks (IsRowOf election kept) (rows_tied keys election kept history) rows (in_order made)
     (order.ascends before ranks rows exported.sorted) (in_order-ascends made)
     (All-permutation (IsRowOf election kept) made rows exported.all all) (in_order-all (IsRowOf election kept) made all)
     (λ f. sum_by-IsPermutation f made rows exported.all ∙ sym (in_order-sum f made))

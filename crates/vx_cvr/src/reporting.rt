@@ -13,7 +13,7 @@ use crate::sheets::push_sheets;
 use serde_json::{Value, json};
 use std::alloc::Global;
 use vx_base::{Bytes, OutOfMemory};
-use vx_center::{Center, ExportSheet};
+use vx_center::{Center, ExportSheet, sheets_have_own_keys};
 use vx_election_model::Election;
 use vx_styles::cards;
 
@@ -102,6 +102,7 @@ pub fn report(
 {
     // What the kept events are: no key stands in them twice, so that their rows have one order.
     let _kept = center.events();
+    sheets_have_own_keys();
     let rows = center.export_rows(alloc)?;
     let mut text = Bytes::new(alloc);
     push_report(alloc, &mut text, election, rows.as_slice(), moment, device)?;

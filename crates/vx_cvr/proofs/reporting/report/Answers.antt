@@ -31,7 +31,7 @@ returns c =
     let own : AreExportRows election kept c.as_slice.result.now =
     exported election c.args.center.now.election kept c.as_slice.result.now c.in_ok-rows.rows c.requires.election shown c.in_ok-rows.ensures in
     let history : IsHistory election kept = subst (λ (e : Election). IsHistory e kept) c.requires.election c.events-kept.ensures.history in
-    let rows : c.as_slice.result.now ≡ rows_of election kept = rows_are election kept c.as_slice.result.now history own in
+    let rows : c.as_slice.result.now ≡ rows_of election kept = rows_are c.sheets_have_own_keys.ensures election kept c.as_slice.result.now history own in
     let written : c.push_report.new.text ≡ compact_text (report_over election c.as_slice.result.now c.args.moment.now c.args.device.now) = search rules in
     let pushed : c.push.new.self ≡ c.push_report.new.text ++ 10 ∷ [] = search rules in
     pushed

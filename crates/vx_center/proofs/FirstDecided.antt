@@ -25,14 +25,9 @@ use Rattle.vx_center.specs.Finals.{options_from, selected_by}
 use Rattle.vx_center.specs.Holders.{holder_of}
 use Rattle.vx_center.specs.Replies.{decide_reply, decision_reply, first_of, if_held, least_marginal, on_contest, on_sheet, reply_of, slot_reply, unless_marginal}
 use Rattle.vx_center.specs.Sheets.{marks_on, same_key, sheet_in}
-use Rattle.vx_exports.specs.Shown.{is_ruling}
-use Rattle.vx_exports.proofs.Histories.{with-room}
-
-same-equal : (one other : Key) → same_key one other ≡ true → one ≡ other
-same-equal one other h =
-    let batch = (bytes_eq-Decides one.batch other.batch).0 (and-left _ _ h) in
-    let number = equal-from_yes one.number other.number (and-right (bytes_eq one.batch other.batch) _ h) in
-    ap₂ (λ (batch : List ℕ) (number : ℕ). record { batch = batch; number = number }) batch number
+use Rattle.vx_center.specs.Shown.{is_ruling}
+use Rattle.vx_center.proofs.Following.{with-room}
+use Rattle.vx_center.proofs.Keys.{same-equal}
 
 module _ (key : Key) (contest : ℕ) where
   -- what an event decides of the contest

@@ -1,10 +1,10 @@
 -- The sheets of a history: each is found by its key, and its contests by their numbers.
-use Rattle.std.proofs.Common.{◌≡◌, ℕ, zero, suc, ◌+◌, ◌%◌, ◌≤◌, ◌⊎◌, inl, inr, Bool, true, cond, List, [], ◌∷◌, ◌++◌, length, refl, sym, ap, ◌∙◌, subst, arith, append_assoc, append-nil}
+use Rattle.std.proofs.Common.{◌≡◌, ℕ, zero, suc, ◌+◌, ◌%◌, ◌<◌, ◌≤◌, ◌⊎◌, inl, inr, Bool, true, cond, List, [], ◌∷◌, ◌++◌, length, refl, sym, ap, ◌∙◌, subst, arith, append-nil}
 use Rattle.std.specs.Prelude.{◌&&◌, ◌==◌, Option, Some, None, find, nat_le, nat_lt, slice_get}
 use Rattle.std.specs.List.{list_all}
 use Rattle.std.proofs.lemmas.Option.{same_Some}
-use Rattle.std.proofs.lemmas.Slice.Eq.{bytes_eq-Decides}
-use Rattle.vx_base.proofs.Booleans.{and-both, and-left, and-right}
+use Rattle.vx_base.proofs.Booleans.{and-left, and-right}
+use Rattle.vx_base.proofs.Lists.{at-push, find-front}
 use Rattle.vx_base.proofs.Numbers.{at_most-from_yes, equal-no, equal-yes}
 use Rattle.vx_election_model.specs.declared.election.Election.{Election}
 use Rattle.vx_election_model.specs.Lists.{card_count}
@@ -17,30 +17,14 @@ use Rattle.vx_events.specs.declared.key.Key.{Key}
 use Rattle.vx_events.specs.Fits.{Fits, contests_of, is_key, is_read, is_sheet}
 use Rattle.vx_refusals.specs.declared.reply.Reply.TheVariants.{Done}
 use Rattle.vx_center.specs.Histories.{IsHistory}
+use Rattle.vx_center.specs.Laws.{SheetsHaveOwnKeys}
 use Rattle.vx_center.specs.Replies.{add_reply, reply_of}
-use Rattle.vx_center.specs.Sheets.{Added, added_by, added_from, has_key, marks_on, place_in, same_key, sheet_in, sheet_of, sheets_in}
-use Rattle.vx_exports.proofs.Lists.{find-behind, find-front, get-push, none-found}
-use Rattle.vx_exports.proofs.Histories.{over-history, with-room}
-
-same-self : (key : Key) → same_key key key ≡ true
-same-self key = and-both _ _ ((bytes_eq-Decides key.batch key.batch).1 refl) (equal-yes key.number key.number refl)
-
--- more events add their sheets behind
-added-append : (place : ℕ) (events more : List Event) → added_from place (events ++ more) ≡ added_from place events ++ added_from (place + length events) more
-added-append place [] more =
-    let same : place ≡ place + 0 = omega arith in ap (λ n. added_from n more) same
-added-append place (event ∷ events) more =
-    let same : place + 1 + length events ≡ place + suc (length events) = omega arith in
-    ap (λ (rest : List Added). added_by place event ++ rest) (added-append (place + 1) events more)
-    ∙ sym (append_assoc (added_by place event) (added_from (place + 1) events) (added_from (place + 1 + length events) more))
-    ∙ ap (λ n. added_by place event ++ added_from (place + 1) events ++ added_from n more) same
-
-sheets-push : (kept : List Event) (event : Event) → sheets_in (kept ++ event ∷ []) ≡ sheets_in kept ++ added_by (length kept) event
-sheets-push kept event =
-    let same : 0 + length kept ≡ length kept = omega arith in
-    added-append 0 kept (event ∷ [])
-    ∙ ap (λ (rest : List Added). sheets_in kept ++ rest) (append-nil (added_by (0 + length kept) event))
-    ∙ ap (λ n. sheets_in kept ++ added_by n event) same
+use Rattle.vx_center.specs.Sheets.{Added, added_by, added_from, has_key, marks_on, place_in, sheet_in, sheet_of, sheets_in}
+use Rattle.vx_center.proofs.Adding.{added-append, sheets-push}
+use Rattle.vx_center.proofs.Following.{with-room}
+use Rattle.vx_center.proofs.Histories.{over-history}
+use Rattle.vx_center.proofs.Keys.{same-self}
+use Rattle.vx_center.proofs.Places.{find-behind, none-found}
 
 -- a sheet that was added is found whatever comes behind
 pub sheet-stays : (front back : List Event) (key : Key) (sheet : SheetMarks) → sheet_in front key ≡ Some sheet → sheet_in (front ++ back) key ≡ Some sheet
@@ -66,7 +50,7 @@ module _ (election : Election) where
   none-own = record { each = λ place added there. absurd cc }
 
   one-own : (sheets : List Added) (new : Added) → AreOwn sheets → find (has_key new.key) sheets ≡ None → is_sheet election new.sheet ≡ true → AreOwn (sheets ++ new ∷ [])
-  one-own sheets new own missing fits = record { each = λ place added there. by place added (get-push sheets new place added there) }
+  one-own sheets new own missing fits = record { each = λ place added there. by place added (at-push sheets new place added there) }
     where
       last : IsOwn (sheets ++ new ∷ []) new
       last = record {
@@ -74,11 +58,11 @@ module _ (election : Election) where
         fits = fits;
       }
 
-      by : (place : ℕ) (added : Added) → (slice_get sheets place ≡ Some added) ⊎ (new ≡ added) → IsOwn (sheets ++ new ∷ []) added
+      by : (place : ℕ) (added : Added) → ((place < length sheets) × (slice_get sheets place ≡ Some added)) ⊎ ((place ≡ length sheets) × (new ≡ added)) → IsOwn (sheets ++ new ∷ []) added
       by place added (inl there) =
-          let before = own.each place added there in
+          let before = own.each place added there.1 in
           record { found = find-front (has_key added.key) sheets (new ∷ []) added before.found; fits = before.fits }
-      by place added (inr same) = let Own : Added → Type 0 = λ one. IsOwn (sheets ++ new ∷ []) one in subst Own same last
+      by place added (inr same) = let Own : Added → Type 0 = λ one. IsOwn (sheets ++ new ∷ []) one in subst Own same.1 last
 
   -- an event that adds nothing
   still-own : (kept : List Event) (event : Event) → added_by (length kept) event ≡ [] → AreOwn (sheets_in kept) → AreOwn (sheets_in (kept ++ event ∷ []))
@@ -104,6 +88,15 @@ module _ (election : Election) where
 
   pub own-sheets : (kept : List Event) → IsHistory election kept → AreOwn (sheets_in kept)
   own-sheets kept history = over-history election (λ (events : List Event). AreOwn (sheets_in events)) more-own kept none-own history
+
+-- two of one key are one
+pub own-keys : SheetsHaveOwnKeys
+own-keys election kept place further one other history here there same =
+    let own = own-sheets election kept history in
+    same_Some one other
+    (sym (own.each place one here).found
+    ∙ ap (λ (key : Key). find (has_key key) (sheets_in kept)) same
+    ∙ (own.each further other there).found)
 
 -- contests that ascend are found by their numbers
 above : (least : ℕ) (contests : List ContestMarks) → ascends_from least (contests_of contests) ≡ true → (place : ℕ) (marks : ContestMarks) → slice_get contests place ≡ Some marks → least ≤ marks.contest

@@ -1,22 +1,12 @@
 -- Histories, event after event.
-use Rattle.std.proofs.Common.{◌≡◌, Bool, true, false, cond, List, [], ◌∷◌, ◌++◌, length, refl, sym, ap, ◌∙◌, subst, append_assoc, append-nil}
-use Rattle.std.specs.Prelude.{nat_lt}
-use Rattle.vx_base.proofs.Lists.{take-front}
+use Rattle.std.proofs.Common.{◌≡◌, List, [], ◌∷◌, ◌++◌, length, refl, sym, ap, ◌∙◌, subst, append_assoc, append-nil}
+use Rattle.vx_base.proofs.Lists.{at-seam, take-front}
 use Rattle.vx_election_model.specs.declared.election.Election.{Election}
 use Rattle.vx_events.specs.declared.event.Event.{Event}
 use Rattle.vx_events.specs.Fits.{Fits}
-use Rattle.vx_refusals.specs.declared.reply.Reply.TheVariants.{Done, Full}
+use Rattle.vx_refusals.specs.declared.reply.Reply.TheVariants.{Done}
 use Rattle.vx_center.specs.Histories.{IsHistory}
-use Rattle.vx_center.specs.Replies.{event_limit, reply_of, reply_with_room}
-use Rattle.vx_exports.proofs.Lists.{at-seam}
-
--- where there is no room the answer is never Done
-pub with-room : (election : Election) (kept : List Event) (event : Event) → reply_of election kept event ≡ Done → reply_with_room election kept event ≡ Done
-with-room election kept event h = by (nat_lt (length kept) event_limit) h
-  where
-    by : (b : Bool) → cond b (reply_with_room election kept event) (Full event_limit) ≡ Done → reply_with_room election kept event ≡ Done
-    by true h = h
-    by false h = absurd cc
+use Rattle.vx_center.specs.Replies.{reply_of}
 
 module _ (election : Election) (front : List Event) (event : Event) (back : List Event) (history : IsHistory election (front ++ event ∷ back)) where
   -- an event of a history fits, and was answered with Done

@@ -19,11 +19,11 @@ use Rattle.vx_center.specs.Decisions.{decisions_of}
 use Rattle.vx_center.specs.Histories.{IsHistory}
 use Rattle.vx_center.specs.Sheets.{marks_on, sheet_in, sheet_of}
 use Rattle.vx_center.specs.Waiting.{exports, exports_with, has_any, is_decided, is_exported}
-use Rattle.vx_exports.specs.Shown.{ExportedStand, MarginalAreRuled, ReasonsWait, finals_with, is_ruling}
-use Rattle.vx_exports.specs.Laws.{HistoriesAreShown}
-use Rattle.vx_exports.proofs.Histories.{done-there}
-use Rattle.vx_exports.proofs.Sheets.{contest-found, own-sheets, sheet-stays}
-use Rattle.vx_exports.proofs.Decided.{IsFirst, first-decision, on-sheet, rules-first}
+use Rattle.vx_center.specs.Shown.{ExportedStand, MarginalAreRuled, ReasonsWait, finals_with, is_ruling}
+use Rattle.vx_center.specs.Laws.{HistoriesAreShown}
+use Rattle.vx_center.proofs.Histories.{done-there}
+use Rattle.vx_center.proofs.OwnSheets.{contest-found, own-sheets, sheet-stays}
+use Rattle.vx_center.proofs.FirstDecided.{IsFirst, first-decision, on-sheet, rules-first}
 
 -- the finals of some contests are those of the ones that pass
 only-passing : {X Y : Type 0} (test : X → Bool) (gives : X → List Y) (xs : List X) → flat_map (λ (x : X). cond (test x) (gives x) []) xs ≡ flat_map gives (filter test xs)

@@ -1,5 +1,0 @@
-mod Lists
-mod Histories
-mod Sheets
-mod Decided
-mod Shown
