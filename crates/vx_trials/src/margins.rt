@@ -7,6 +7,7 @@ use crate::readings::{
     CLEAR, FIRST, Painted, marked_beside, marked_within, paint_page, read_on, turned,
 };
 use std::alloc::Global;
+use std::process::Abort;
 use std::test::Fail;
 use vx_bits::BitPage;
 use vx_grid::Paper;
@@ -101,22 +102,23 @@ fn letter_scan(alloc: Global, page: &BitPage, lie: Lie) -> Result<BitPage, Fail>
     scan_of(alloc, page, lie, 1800, 2240)
 }
 
+/// A page that lies steeply is read, and its text ends so.
+fn assert_steep<R: AllocGlobal + Abort>(rt: &R, page: &BitPage, ending: &str) -> Result<(), Fail> {
+    let scan = letter_scan(rt.alloc(), page, STEEP)?;
+    let text = read_on(rt.alloc(), Paper::Letter, &scan)?;
+    let head = b"page 1 card 0 side 1 kind precinct\nborder ";
+    assert!(rt; text.as_slice().starts_with(head), "{ending}");
+    assert!(rt; text.as_slice().ends_with(ending.as_bytes()), "{ending}");
+    Ok(())
+}
+
 #[test]
 fn steep_pages_are_read_at_the_bounds_of_ink(rt: HostRuntime) -> Result<(), Fail> {
     let alloc = rt.alloc();
     let clear = format!(in alloc; "{CLEAR}end\n")?;
-    for (page, ending) in [
-        (paint_page(alloc, FIRST)?, clear.as_str()),
-        (marked_within(alloc)?, "bubble 1 0 1 75 marked\nend\n"),
-        (marked_beside(alloc, 12)?, " clear\nend\n"),
-    ] {
-        let scan = letter_scan(alloc, &page, STEEP)?;
-        let text = read_on(alloc, Paper::Letter, &scan)?;
-        let head = b"page 1 card 0 side 1 kind precinct\nborder ";
-        assert!(rt; text.as_slice().starts_with(head), "{ending}");
-        assert!(rt; text.as_slice().ends_with(ending.as_bytes()), "{ending}");
-    }
-    Ok(())
+    assert_steep(&rt, &paint_page(alloc, FIRST)?, clear.as_str())?;
+    assert_steep(&rt, &marked_within(alloc)?, "bubble 1 0 1 75 marked\nend\n")?;
+    assert_steep(&rt, &marked_beside(alloc, 12)?, " clear\nend\n")
 }
 
 /// How the text of a page begins whose corner lies in the last column of its region.
@@ -125,26 +127,45 @@ const LAST_CORNER: &[u8] = b"page 1 card 0 side 1 kind precinct\nborder 116,99 1
 /// The same of a page that is upside down.
 const LAST_TURNED: &[u8] = b"page 1 card 0 side 1 kind precinct turned\nborder 116,99 165,99 ";
 
+/// The text of a scan begins so, and that of the scan turned by 180 degrees so.
+fn assert_begins<R: AllocGlobal + Abort>(
+    rt: &R,
+    scan: &BitPage,
+    begins: &[u8],
+    over: &[u8],
+) -> Result<(), Fail> {
+    let text = read_on(rt.alloc(), Paper::Letter, scan)?;
+    assert!(rt; text.as_slice().starts_with(begins));
+    let back = turned(rt.alloc(), scan)?;
+    let text = read_on(rt.alloc(), Paper::Letter, &back)?;
+    assert!(rt; text.as_slice().starts_with(over));
+    Ok(())
+}
+
+/// The text of a scan.
+fn assert_text<R: AllocGlobal + Abort>(rt: &R, scan: &BitPage, wanted: &[u8]) -> Result<(), Fail> {
+    let text = read_on(rt.alloc(), Paper::Letter, scan)?;
+    assert_eq!(rt; text.as_slice(), wanted);
+    Ok(())
+}
+
 #[test]
 fn a_page_is_read_up_to_the_last_corner(rt: HostRuntime) -> Result<(), Fail> {
     let alloc = rt.alloc();
     let page = paint_page(alloc, FIRST)?;
     let last = letter_scan(alloc, &page, moved(60, 40))?;
-    let text = read_on(alloc, Paper::Letter, &last)?;
-    assert!(rt; text.as_slice().starts_with(LAST_CORNER));
-    let over = read_on(alloc, Paper::Letter, &turned(alloc, &last)?)?;
-    assert!(rt; over.as_slice().starts_with(LAST_TURNED));
+    assert_begins(&rt, &last, LAST_CORNER, LAST_TURNED)
+}
+
+#[test]
+fn a_page_past_the_last_corner_is_none(rt: HostRuntime) -> Result<(), Fail> {
+    let alloc = rt.alloc();
+    let page = paint_page(alloc, FIRST)?;
     let past = letter_scan(alloc, &page, moved(61, 40))?;
-    assert_eq!(rt;
-        read_on(alloc, Paper::Letter, &past)?.as_slice(),
-        b"page 1 fault 2.1 NoCorner\n".as_slice()
-    );
+    assert_text(&rt, &past, b"page 1 fault 2.1 NoCorner\n")?;
     // Upside down it has its marks as it lies, and reserved rows where its code would be.
-    assert_eq!(rt;
-        read_on(alloc, Paper::Letter, &turned(alloc, &past)?)?.as_slice(),
-        b"page 1 fault 3.1 BadPair 0 0 0\n".as_slice()
-    );
-    Ok(())
+    let over = turned(alloc, &past)?;
+    assert_text(&rt, &over, b"page 1 fault 3.1 BadPair 0 0 0\n")
 }
 
 #[test]

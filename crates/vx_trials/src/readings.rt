@@ -5,6 +5,7 @@ ghost use Rattle.std.specs.Prelude.{◌<◌, ◌^◌};
 
 use crate::town::{definition_on, town_on};
 use std::alloc::Global;
+use std::process::Abort;
 use std::test::Fail;
 use vx_base::Bytes;
 use vx_bits::{BitPage, BitView};
@@ -78,15 +79,20 @@ fn read_text(alloc: Global, page: &BitPage) -> Result<Vec<u8>, Fail> {
     read_on(alloc, Paper::Letter, page)
 }
 
-/// The text that `read` writes of a page of the town on a paper.
-pub(crate) fn read_on(alloc: Global, paper: Paper, page: &BitPage) -> Result<Vec<u8>, Fail> {
+/// The town's definition on a paper as `e`, and a page as the scan `s`.
+fn inputs_on(alloc: Global, paper: Paper, page: &BitPage) -> Result<MemInputs, Fail> {
     let definition = definition_on(alloc, paper)?;
     let mut scan = Bytes::new(alloc);
     write_p4(&page.view(), &mut scan)?;
     let mut files = NamedBytes::new(alloc);
-    files.push("e", Bytes::from_slice(alloc, definition.as_bytes())?)?;
     files.push("s", scan)?;
-    let mut inputs = MemInputs::new(files, Calls::new(alloc));
+    files.push("e", Bytes::from_slice(alloc, definition.as_bytes())?)?;
+    Ok(MemInputs::new(files, Calls::new(alloc)))
+}
+
+/// The text that `read` writes of a page of the town on a paper.
+pub(crate) fn read_on(alloc: Global, paper: Paper, page: &BitPage) -> Result<Vec<u8>, Fail> {
+    let mut inputs = inputs_on(alloc, paper, page)?;
     let mut out = MemSink::new(alloc, 10_000, Calls::new(alloc))?;
     let mut scans = Texts::new(alloc);
     scans.push(Text::from_str(alloc, "s")?)?;
@@ -128,6 +134,19 @@ pub(crate) fn marked_within(alloc: Global) -> Result<BitPage, Fail> {
     Ok(page)
 }
 
+/// A page is read with these bubbles.
+fn assert_scored<R: AllocGlobal + Abort>(
+    rt: &R,
+    page: &BitPage,
+    side: u32,
+    bubbles: &str,
+) -> Result<(), Fail> {
+    let wanted = block(rt.alloc(), side, bubbles)?;
+    let text = read_text(rt.alloc(), page)?;
+    assert_eq!(rt; text.as_slice(), wanted.as_bytes(), "{bubbles}");
+    Ok(())
+}
+
 #[test]
 fn pages_are_read_and_scored(rt: HostRuntime) -> Result<(), Fail> {
     let alloc = rt.alloc();
@@ -136,36 +155,23 @@ fn pages_are_read_and_scored(rt: HostRuntime) -> Result<(), Fail> {
         number: 2,
         ..FIRST
     };
+    assert_scored(&rt, &paint_page(alloc, back)?, 2, "")?;
     let mut inside = paint_page(alloc, FIRST)?;
     // A timing mark within the page changes nothing.
     inside.darken(832, 1194, 36, 12);
-    for (page, side, bubbles) in [
-        (paint_page(alloc, back)?, 2, ""),
-        (inside, 1, CLEAR),
-        (
-            marked_beside(alloc, 12)?,
-            1,
-            "bubble 0 0 0 0 clear\nbubble 1 0 1 31 clear\n",
-        ),
-        (
-            marked_beside(alloc, 13)?,
-            1,
-            "bubble 0 0 0 0 clear\nbubble 1 0 1 32 marginal\n",
-        ),
-        (
-            marked_within(alloc)?,
-            1,
-            "bubble 0 0 0 0 clear\nbubble 1 0 1 75 marked\n",
-        ),
+    assert_scored(&rt, &inside, 1, CLEAR)
+}
+
+#[test]
+fn marks_beside_a_bubble_are_scored(rt: HostRuntime) -> Result<(), Fail> {
+    for (beside, bubbles) in [
+        (12, "bubble 0 0 0 0 clear\nbubble 1 0 1 31 clear\n"),
+        (13, "bubble 0 0 0 0 clear\nbubble 1 0 1 32 marginal\n"),
     ] {
-        let wanted = block(alloc, side, bubbles)?;
-        assert_eq!(rt;
-            read_text(alloc, &page)?.as_slice(),
-            wanted.as_bytes(),
-            "{bubbles}"
-        );
+        assert_scored(&rt, &marked_beside(rt.alloc(), beside)?, 1, bubbles)?;
     }
-    Ok(())
+    let within = "bubble 0 0 0 0 clear\nbubble 1 0 1 75 marked\n";
+    assert_scored(&rt, &marked_within(rt.alloc())?, 1, within)
 }
 
 /// The first page with a timing mark of its top cut.
@@ -184,9 +190,33 @@ fn paired(alloc: Global) -> Result<BitPage, Fail> {
     Ok(page)
 }
 
+/// A page has this fault.
+fn assert_fault<R: AllocGlobal + Abort>(
+    rt: &R,
+    page: &BitPage,
+    fault: &str,
+) -> Result<(), Fail> {
+    let wanted = format!(in rt.alloc(); "page 1 fault {fault}\n")?;
+    let text = read_text(rt.alloc(), page)?;
+    assert_eq!(rt; text.as_slice(), wanted.as_bytes(), "{fault}");
+    Ok(())
+}
+
 #[test]
 fn the_first_fault_of_a_scan_is_said(rt: HostRuntime) -> Result<(), Fail> {
     let alloc = rt.alloc();
+    for (width, height, fault) in [
+        (1500, 2200, "1 FrameSize 1500 2200"),
+        (1600, 2400, "2.1 NoCorner"),
+    ] {
+        assert_fault(&rt, &BitPage::new(alloc, width, height)?, fault)?;
+    }
+    assert_fault(&rt, &torn(alloc)?, "2.2 NoMark top 5 297 59")?;
+    assert_fault(&rt, &paired(alloc)?, "3.1 BadPair 0 560 560")
+}
+
+#[test]
+fn the_first_fault_of_a_code_is_said(rt: HostRuntime) -> Result<(), Fail> {
     let none = Painted { number: 0, ..FIRST };
     let third = Painted { number: 3, ..FIRST };
     let card = Painted { card: 1, ..third };
@@ -194,22 +224,13 @@ fn the_first_fault_of_a_scan_is_said(rt: HostRuntime) -> Result<(), Fail> {
         is_other: true,
         ..card
     };
-    for (page, fault) in [
-        (BitPage::new(alloc, 1500, 2200)?, "1 FrameSize 1500 2200"),
-        (BitPage::new(alloc, 1600, 2400)?, "2.1 NoCorner"),
-        (torn(alloc)?, "2.2 NoMark top 5 297 59"),
-        (paired(alloc)?, "3.1 BadPair 0 560 560"),
-        (paint_page(alloc, other)?, "4 OtherElection 703710"),
-        (paint_page(alloc, card)?, "5 NoCard 1"),
-        (paint_page(alloc, third)?, "6 NoPage 3"),
-        (paint_page(alloc, none)?, "6 NoPage 0"),
+    for (painted, fault) in [
+        (other, "4 OtherElection 703710"),
+        (card, "5 NoCard 1"),
+        (third, "6 NoPage 3"),
+        (none, "6 NoPage 0"),
     ] {
-        let wanted = format!(in alloc; "page 1 fault {fault}\n")?;
-        assert_eq!(rt;
-            read_text(alloc, &page)?.as_slice(),
-            wanted.as_bytes(),
-            "{fault}"
-        );
+        assert_fault(&rt, &paint_page(rt.alloc(), painted)?, fault)?;
     }
     Ok(())
 }
@@ -237,21 +258,41 @@ pub(crate) fn turned(alloc: Global, page: &BitPage) -> Result<BitPage, Fail> {
     Ok(back)
 }
 
+/// A page that is upside down is read so.
+fn assert_over<R: AllocGlobal + Abort>(
+    rt: &R,
+    page: &BitPage,
+    wanted: &str,
+) -> Result<(), Fail> {
+    let over = turned(rt.alloc(), page)?;
+    let text = read_text(rt.alloc(), &over)?;
+    assert_eq!(rt; text.as_slice(), wanted.as_bytes());
+    Ok(())
+}
+
 #[test]
 fn a_page_is_read_upside_down(rt: HostRuntime) -> Result<(), Fail> {
     let alloc = rt.alloc();
-    let over = turned(alloc, &marked_within(alloc)?)?;
     let bubbles = "bubble 0 0 0 0 clear\nbubble 1 0 1 75 marked\n";
     let wanted = format!(in alloc;
         "page 1 card 0 side 1 kind precinct turned\n{BORDER}{bubbles}end\n"
     )?;
-    assert_eq!(rt; read_text(alloc, &over)?.as_slice(), wanted.as_bytes());
+    assert_over(&rt, &marked_within(alloc)?, wanted.as_str())?;
     // Where it has a fault both ways, the one of the scan as it lies is told: its code rows are blank.
-    let unclear = turned(alloc, &paired(alloc)?)?;
-    assert_eq!(rt;
-        read_text(alloc, &unclear)?.as_slice(),
-        b"page 1 fault 3.1 BadPair 0 0 0\n".as_slice()
-    );
+    assert_over(&rt, &paired(alloc)?, "page 1 fault 3.1 BadPair 0 0 0\n")
+}
+
+/// A page on legal paper is read with this line.
+fn assert_legal<R: AllocGlobal + Abort>(
+    rt: &R,
+    page: &BitPage,
+    line: &str,
+    bubbles: &str,
+) -> Result<(), Fail> {
+    let alloc = rt.alloc();
+    let wanted = format!(in alloc; "page 1 card 0 {line}\n{LEGAL_BORDER}{bubbles}end\n")?;
+    let text = read_on(alloc, Paper::Legal, page)?;
+    assert_eq!(rt; text.as_slice(), wanted.as_bytes(), "{line}");
     Ok(())
 }
 
@@ -268,19 +309,10 @@ fn legal_pages_are_read(rt: HostRuntime) -> Result<(), Fail> {
         ..legal
     };
     let first = paint_page(alloc, legal)?;
-    for (page, line, bubbles) in [
-        (turned(alloc, &first)?, "side 1 kind precinct turned", CLEAR),
-        (first, "side 1 kind precinct", CLEAR),
-        (paint_page(alloc, back)?, "side 2 kind precinct", ""),
-    ] {
-        let wanted = format!(in alloc; "page 1 card 0 {line}\n{LEGAL_BORDER}{bubbles}end\n")?;
-        assert_eq!(rt;
-            read_on(alloc, Paper::Legal, &page)?.as_slice(),
-            wanted.as_bytes(),
-            "{line}"
-        );
-    }
-    Ok(())
+    let over = turned(alloc, &first)?;
+    assert_legal(&rt, &over, "side 1 kind precinct turned", CLEAR)?;
+    assert_legal(&rt, &first, "side 1 kind precinct", CLEAR)?;
+    assert_legal(&rt, &paint_page(alloc, back)?, "side 2 kind precinct", "")
 }
 
 #[test]

@@ -1,35 +1,40 @@
-use std::alloc::Global;
+use std::alloc::{AllocError, Global};
 use std::process::Abort;
 use std::test::Fail;
 use vx_base::Bytes;
 use vx_command::status_of;
 use vx_command_decide::decide;
-use vx_io::{Calls, KeeperCalls, MemInputs, MemKeeper, MemSink, NamedBytes, Records};
-use vx_town::{TOWN, TOWN_HEADER};
+use vx_io::{Calls, KeeperCalls, MemInputs, MemKeeper, MemSink, NamedBytes};
+use vx_town::{TOWN, TOWN_HEADER, records_of};
 
-/// What `decide` writes of a script over these records, its status, and the records from `from` on.
-fn written(alloc: Global, records: &[&str], script: &[u8], from: usize) -> Result<String, Fail> {
+/// The town's election as `e`, and a script as `s`.
+fn inputs_of(alloc: Global, script: &[u8]) -> Result<MemInputs, Fail> {
     let mut files = NamedBytes::new(alloc);
     files.push("e", Bytes::from_slice(alloc, TOWN.as_bytes())?)?;
     files.push("s", Bytes::from_slice(alloc, script)?)?;
-    let mut inputs = MemInputs::new(files, Calls::new(alloc));
-    let mut out = MemSink::new(alloc, 10_000, Calls::new(alloc))?;
-    let mut kept = Records::new(alloc);
-    for record in records {
-        kept.push(record.as_bytes())?;
-    }
-    let mut keeper = MemKeeper::new(kept, KeeperCalls::new(alloc));
-    let status = status_of(decide(alloc, "e", "s", &mut inputs, &mut out, &mut keeper));
-    let mut text = String::new(alloc);
-    for byte in out.held() {
+    Ok(MemInputs::new(files, Calls::new(alloc)))
+}
+
+/// Adds bytes as characters.
+fn push_bytes(text: &mut String, bytes: &[u8]) -> Result<(), AllocError> {
+    for byte in bytes {
         text.push(char::from(*byte))?;
     }
+    Ok(())
+}
+
+/// What `decide` writes of a script over these records, its status, and the records from `from` on.
+fn written(alloc: Global, records: &[&str], script: &[u8], from: usize) -> Result<String, Fail> {
+    let mut inputs = inputs_of(alloc, script)?;
+    let mut out = MemSink::new(alloc, 10_000, Calls::new(alloc))?;
+    let mut keeper = MemKeeper::new(records_of(alloc, records)?, KeeperCalls::new(alloc));
+    let status = status_of(decide(alloc, "e", "s", &mut inputs, &mut out, &mut keeper));
+    let mut text = String::new(alloc);
+    push_bytes(&mut text, out.held())?;
     write!(text, "{status}")?;
     for index in from..keeper.records().len() {
         text.push('\n')?;
-        for byte in keeper.records().record(index).as_slice() {
-            text.push(char::from(*byte))?;
-        }
+        push_bytes(&mut text, keeper.records().record(index).as_slice())?;
     }
     Ok(text)
 }

@@ -24,7 +24,16 @@ pub(crate) struct Answer {
     pub(crate) text: Vec<u8>,
 }
 
-/// Runs a command over the town's definition as `e`, scans as `s` and readings as `r`.
+/// The town's definition as `e`, scans as `s` and readings as `r`.
+fn inputs_of(alloc: Global, scans: &[u8], readings: &[u8]) -> Result<MemInputs, Fail> {
+    let mut files = NamedBytes::new(alloc);
+    for (name, bytes) in [("e", TOWN.as_bytes()), ("s", scans), ("r", readings)] {
+        files.push(name, Bytes::from_slice(alloc, bytes)?)?;
+    }
+    Ok(MemInputs::new(files, Calls::new(alloc)))
+}
+
+/// Runs a command over the town's definition, scans and readings.
 pub(crate) fn answer_of<R: Threads + Sync + AllocGlobal>(
     rt: &R,
     line: &[&str],
@@ -33,18 +42,13 @@ pub(crate) fn answer_of<R: Threads + Sync + AllocGlobal>(
 ) -> Result<Answer, Fail> {
     let alloc = rt.alloc();
     let words = words_of(alloc, line)?;
-    let mut files = NamedBytes::new(alloc);
-    files.push("e", Bytes::from_slice(alloc, TOWN.as_bytes())?)?;
-    files.push("s", Bytes::from_slice(alloc, scans)?)?;
-    files.push("r", Bytes::from_slice(alloc, readings)?)?;
-    let mut inputs = MemInputs::new(files, Calls::new(alloc));
+    let mut inputs = inputs_of(alloc, scans, readings)?;
     let mut out = MemSink::new(alloc, 2 * PAGE as u64, Calls::new(alloc))?;
     let mut keeper = MemKeeper::new(Records::new(alloc), KeeperCalls::new(alloc));
     let status = run(rt, alloc, &words, &mut inputs, &mut out, &mut keeper);
-    Ok(Answer {
-        status: format!(in alloc; "{status}")?,
-        text: Vec::from_slice(alloc, out.held())?,
-    })
+    let status = format!(in alloc; "{status}")?;
+    let text = Vec::from_slice(alloc, out.held())?;
+    Ok(Answer { status, text })
 }
 
 /// What `check` answers of readings of scans.

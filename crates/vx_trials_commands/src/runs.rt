@@ -55,22 +55,38 @@ fn long_named(alloc: Global) -> Result<String, Fail> {
     Ok(format!(in alloc; "{front}{name}{behind}")?)
 }
 
-/// The files of a command: the town's election as `e`, on legal paper as `l`, with a name that is too
-/// long as `w`, inputs of a few bytes, one scan as `s`, and it without its last byte as `c`.
+/// Adds a file.
+fn push_file(
+    alloc: Global,
+    files: &mut NamedBytes,
+    name: &str,
+    bytes: &[u8],
+) -> Result<(), AllocError> {
+    let bytes = Bytes::from_slice(alloc, bytes)?;
+    Ok(files.push(name, bytes)?)
+}
+
+/// Adds the town's election as `e`, on legal paper as `l`, with a name that is too long as `w`.
+fn push_elections(alloc: Global, files: &mut NamedBytes) -> Result<(), Fail> {
+    push_file(alloc, files, "e", TOWN.as_bytes())?;
+    let legal = on_legal(alloc, TOWN)?;
+    push_file(alloc, files, "l", legal.as_bytes())?;
+    let long = long_named(alloc)?;
+    Ok(push_file(alloc, files, "w", long.as_bytes())?)
+}
+
+/// The files of a command: elections, inputs of a few bytes, one scan as `s`, and it without its last
+/// byte as `c`.
 fn files_with<R: AllocGlobal>(rt: &R, scan: &[u8]) -> Result<NamedBytes, Fail> {
     let alloc = rt.alloc();
     let mut files = NamedBytes::new(alloc);
-    files.push("e", Bytes::from_slice(alloc, TOWN.as_bytes())?)?;
-    let legal = on_legal(alloc, TOWN)?;
-    files.push("l", Bytes::from_slice(alloc, legal.as_bytes())?)?;
-    let long = long_named(alloc)?;
-    files.push("w", Bytes::from_slice(alloc, long.as_bytes())?)?;
+    push_elections(alloc, &mut files)?;
     for (name, bytes) in FEW {
-        files.push(name, Bytes::from_slice(alloc, bytes)?)?;
+        push_file(alloc, &mut files, name, bytes)?;
     }
-    files.push("s", Bytes::from_slice(alloc, scan)?)?;
+    push_file(alloc, &mut files, "s", scan)?;
     let cut = scan.get(..scan.len().saturating_sub(1)).unwrap_or(scan);
-    files.push("c", Bytes::from_slice(alloc, cut)?)?;
+    push_file(alloc, &mut files, "c", cut)?;
     Ok(files)
 }
 
@@ -374,11 +390,10 @@ const READS: [(&[&str], &[u64], &str, usize); 9] = [
     (&["read", "e", "c"], &[], "pbm 2 4 468599 468600", 1),
 ];
 
-#[test]
-fn the_texts_before_a_halt_stand(rt: HostRuntime) -> Result<(), Fail> {
-    let pages = printed(&rt)?;
-    let mut whole = String::new(rt.alloc());
-    let mut ends = Vec::new(rt.alloc());
+/// The texts of the images of `s`, a small one, and `s` again, and where each begins and the last ends.
+fn texts_of_images(alloc: Global) -> Result<(String, Vec<usize>), AllocError> {
+    let mut whole = String::new(alloc);
+    let mut ends = Vec::new(alloc);
     for (number, side) in [(1, 1), (2, 2), (3, 0), (4, 1), (5, 2)] {
         ends.push(whole.len())?;
         if side == 0 {
@@ -388,6 +403,13 @@ fn the_texts_before_a_halt_stand(rt: HostRuntime) -> Result<(), Fail> {
         }
     }
     ends.push(whole.len())?;
+    Ok((whole, ends))
+}
+
+#[test]
+fn the_texts_before_a_halt_stand(rt: HostRuntime) -> Result<(), Fail> {
+    let pages = printed(&rt)?;
+    let (whole, ends) = texts_of_images(rt.alloc())?;
     for (line, fails, status, images) in READS {
         let answer = attempt(&rt, pages.as_slice(), line, fails, &[], WHOLE)?;
         let end = *ends.as_slice().get(images).ok_or("no such image")?;

@@ -8,25 +8,47 @@ fn value_of(alloc: Global, text: &str) -> Result<Value, Fail> {
     Ok(Value::from_str(alloc, text)?)
 }
 
+/// An object with a member of each kind.
+const OBJECT: &str = "{\"name\":\"\\u00e9x\",\"list\":[50],\"flag\":true}";
+
+/// The path of the list's element.
+fn place_of(alloc: Global) -> Result<Path, Fail> {
+    let list = Path::root(alloc).copy(alloc)?.member(alloc, "list")?;
+    Ok(list.element(alloc, 0)?)
+}
+
 // Each call with ample memory.
 #[test]
-fn members_of_each_kind(rt: HostRuntime) -> Result<(), Fail> {
+fn texts_have_paths(rt: HostRuntime) -> Result<(), Fail> {
     let alloc = rt.alloc();
-    let value = value_of(alloc, "{\"name\":\"\\u00e9x\",\"list\":[50],\"flag\":true}")?;
-    let path = Path::root(alloc).copy(alloc)?;
-    let name = need(alloc, &value, &path, "name")?;
-    let at = path.member(alloc, "list")?.element(alloc, 0)?;
+    let value = value_of(alloc, OBJECT)?;
+    let at = place_of(alloc)?;
     assert_eq!(rt; at.member(alloc, "name")?.as_str(), "list[0].name");
-    assert_eq!(rt;
-        text_of(alloc, name, &at, 2, 2)?.copy(alloc)?.as_str(),
-        "\u{e9}x"
-    );
+    let name = need(alloc, &value, &Path::root(alloc), "name")?;
+    let text = text_of(alloc, name, &at, 2, 2)?;
+    assert_eq!(rt; text.copy(alloc)?.as_str(), "\u{e9}x");
+    Ok(())
+}
+
+#[test]
+fn lists_have_numbers(rt: HostRuntime) -> Result<(), Fail> {
+    let alloc = rt.alloc();
+    let value = value_of(alloc, OBJECT)?;
+    let path = Path::root(alloc);
     let list = list_of(alloc, need(alloc, &value, &path, "list")?, &path)?;
     let number = list.first().ok_or("an element")?;
-    assert_eq!(rt; whole_of(alloc, number, &at, 1, 50)?, 50);
+    assert_eq!(rt; whole_of(alloc, number, &path, 1, 50)?, 50);
+    assert!(rt; string_of(alloc, number, &path).is_err());
+    Ok(())
+}
+
+#[test]
+fn flags_are_members(rt: HostRuntime) -> Result<(), Fail> {
+    let alloc = rt.alloc();
+    let value = value_of(alloc, OBJECT)?;
+    let path = Path::root(alloc);
     assert!(rt; flag_of(alloc, need(alloc, &value, &path, "flag")?, &path)?);
     assert!(rt; need(alloc, &value, &path, "none").is_err());
-    assert!(rt; string_of(alloc, number, &at).is_err());
     Ok(())
 }
 
