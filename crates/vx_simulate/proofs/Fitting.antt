@@ -28,6 +28,7 @@ use Rattle.vx_simulate.specs.Marks.{draw_marks, marks_of, is_marked}
 use Rattle.vx_simulate.specs.Lie.{frame_width, frame_height, shear_to, start_column, start_columns}
 use Rattle.vx_simulate.specs.Flips.{draw_flips, drawn_flips}
 use Rattle.vx_geom.specs.Seen.{seen}
+use Rattle.vx_grid.proofs.MarkPlaces.{mark-column, mark-row}
 use Rattle.vx_simulate.specs.Ink.{draw_inks, inked}
 use Rattle.vx_simulate.specs.Simulated.{draw_page, SimulatedScansFit}
 use Rattle.vx_simulate.proofs.Drawn.{draw-below}
@@ -55,12 +56,6 @@ frame-allowed Legal set = refl
 rows-between : (paper : Paper) → (40 ≤ last_row paper) × (60 ≤ first_y paper)
 rows-between Letter = (omega arith, omega arith)
 rows-between Legal = (omega arith, omega arith)
-
-mark-columns : (last k : ℕ) → 40 ≤ last → k < marks_to last → (mark_of last k).0 ≤ 33
-mark-columns last k many few = grind (arith, nat_tests)
-
-mark-rows : (last k : ℕ) → 40 ≤ last → k < marks_to last → (mark_of last k).1 ≤ last
-mark-rows last k many few = grind (arith, nat_tests)
 
 slope : (n : ℕ) → n < 129 → IsWithin 64 (pos n -ℤ pos 64)
 slope n few = record { low = omega (arith, ints, few); high = omega (arith, ints, few) }
@@ -138,8 +133,8 @@ module _ (plan : PagePlan) (keeps : KeepsClear plan) (a b u v : ℤ) (rows : IsW
           marks = λ k few.
               let c : ℕ = (mark_of (last_row plan.paper) k).0 in
               let r : ℕ = (mark_of (last_row plan.paper) k).1 in
-              let column : c ≤ 33 = mark-columns (last_row plan.paper) k many.0 few in
-              let row : r ≤ last_row plan.paper = mark-rows (last_row plan.paper) k many.0 few in
+              let column : c ≤ 33 = mark-column (last_row plan.paper) k many.0 few in
+              let row : r ≤ last_row plan.paper = mark-row (last_row plan.paper) k many.0 few in
               let at = inside (pos (x_of c)) (pos (y_of plan.paper r)) (record {
                 left = omega (arith, ints);
                 right = omega (arith, ints, column);
