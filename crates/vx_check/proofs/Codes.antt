@@ -1,6 +1,6 @@
 -- What the tests of the code and of the bubbles say.
-use Rattle.std.proofs.Common.{◌≡◌, ◌⊎◌, inl, inr, ℕ, zero, suc, ◌+◌, ◌*◌, ◌/◌, ◌%◌, ◌^◌, ◌<◌, ◌==◌, ◌&&◌, Bool, true, false, cond, nat_lt, List, map, length, refl, ap, ap₂, subst, ◌∙◌, arith}
-use Rattle.std.specs.Prelude.{slice_index, slice_index_or, slice_get, option_map, Result, Ok, Err, IfOk}
+use Rattle.std.proofs.Common.{◌≡◌, ◌⊎◌, inl, inr, ℕ, zero, suc, ◌+◌, ◌*◌, ◌/◌, ◌%◌, ◌^◌, ◌<◌, ◌==◌, ◌&&◌, Bool, true, false, cond, nat_lt, List, map, length, refl, ap, ◌∙◌, arith}
+use Rattle.std.specs.Prelude.{slice_index, slice_index_or, slice_get, option_map, Result, Ok, Err}
 use Rattle.std.specs.List.{range_with_len}
 use Rattle.std.proofs.lemmas.Bool.Decides.{nat_tests}
 use Rattle.std.proofs.lemmas.Bool.{and_parts, and_from}
@@ -9,12 +9,10 @@ use Rattle.std.proofs.lemmas.List.{length-map}
 use Rattle.std.proofs.lemmas.List.FromFn.{length-map-range_with_len}
 use Rattle.vx_base.proofs.Numbers.{equal-from_yes, equal-yes, equal-no, below-from_yes, below-yes}
 use Rattle.vx_plane.specs.Plane.{Page}
-use Rattle.vx_grid.specs.declared.paper.Paper.{Paper}
 use Rattle.vx_grid.specs.declared.state.State.{State}
 use Rattle.vx_grid.specs.declared.state.Thresholds.{Thresholds}
 use Rattle.vx_grid.specs.Borders.{MarkPlaces}
 use Rattle.vx_code.specs.declared.code.PageCode.{PageCode}
-use Rattle.vx_code.specs.declared.code.CodeFault.{CodeFault}
 use Rattle.vx_code.specs.Code.{boxes_of, version_of, IsInRange, IsShown, Shows, CodesAreGivenBack, ReadCodesAreShown}
 use Rattle.vx_score.specs.Score.{state_of}
 use Rattle.vx_election_model.specs.declared.election.Election.{Election}

@@ -2,7 +2,6 @@
 use Rattle.std.proofs.Common.{◌≡◌, ℕ, ◌+◌, ◌≤◌, ◌<◌, Bool, true, List, length, ℤ, pos, ◌-ℤ◌, ◌≤ℤ◌, refl, arith}
 use Rattle.std.proofs.lemmas.Int.{ints}
 use Rattle.std.proofs.lemmas.List.{length-map}
-use Rattle.std.proofs.lemmas.Bool.Decides.{nat_tests}
 use Rattle.rand_pcg.specs.Lcg.{Lcg}
 use Rattle.vx_plane.specs.Plane.{Pixels, Page, page_of, rectangle}
 use Rattle.vx_plane.proofs.Pages.{rectangle-inside, rectangle-sides}
@@ -10,7 +9,7 @@ use Rattle.vx_grid.specs.declared.paper.Paper.{Paper}
 use Rattle.vx_grid.specs.declared.paper.Paper.TheVariants.{Letter, Legal}
 use Rattle.vx_grid.specs.Paper.{last_row, first_y}
 use Rattle.vx_grid.specs.Places.{IsWithin}
-use Rattle.vx_grid.specs.Marks.{marks_to, mark_of}
+use Rattle.vx_grid.specs.Marks.{mark_of}
 use Rattle.vx_grid.specs.Grid.{x_of, y_of, first_code_row, first_reserved_row}
 use Rattle.vx_code.specs.Code.{place_from, reserved_place}
 use Rattle.vx_layout.specs.declared.pages.PagePlan.{PagePlan}

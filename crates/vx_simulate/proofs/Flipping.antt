@@ -1,5 +1,5 @@
 -- The flips of a simulated scan are few, wherever there may be only few.
-use Rattle.std.proofs.Common.{◌≡◌, ◌≢◌, ◌⊎◌, inl, inr, ℕ, ◌+◌, ◌-◌, ◌≤◌, ◌<◌, Bool, true, false, not, ◌||◌, [], length, ℤ, pos, negsuc, ◌+ℤ◌, ◌-ℤ◌, ◌≤ℤ◌, ◌<ℤ◌, refl, ap, sym, subst, ◌∙◌, arith}
+use Rattle.std.proofs.Common.{◌≡◌, ◌≢◌, ◌⊎◌, inl, inr, ℕ, ◌+◌, ◌-◌, ◌≤◌, ◌<◌, Bool, true, false, not, ◌||◌, [], length, ℤ, pos, ◌+ℤ◌, ◌-ℤ◌, ◌≤ℤ◌, ◌<ℤ◌, refl, ap, sym, subst, ◌∙◌, arith}
 use Rattle.std.specs.Prelude.{slice_index_or}
 use Rattle.std.specs.List.{range_with_len}
 use Rattle.std.proofs.lemmas.Int.{ints}
@@ -11,10 +11,7 @@ use Rattle.vx_plane.specs.Plane.{Pixels, Page, page_of, union, rectangle, dark_a
 use Rattle.vx_plane.specs.Count.{count_in}
 use Rattle.vx_plane.proofs.Counts.{count_in-le, count_in-union_le, count_in-same}
 use Rattle.vx_plane.proofs.Pages.{in_any-some, in_any-one, rectangle-inside, rectangle-sides, dark_at-in_frame}
-use Rattle.vx_grid.specs.declared.paper.Paper.{Paper}
-use Rattle.vx_grid.specs.declared.paper.Paper.TheVariants.{Letter, Legal}
 use Rattle.vx_grid.specs.declared.places.Point.{Point}
-use Rattle.vx_grid.specs.Paper.{last_row}
 use Rattle.vx_grid.specs.Grid.{x_of, y_of}
 use Rattle.vx_grid.specs.Regions.{frame_zone}
 use Rattle.vx_grid.specs.Sizes as sizes

@@ -1,14 +1,14 @@
 -- The ink of a simulated voter is that of the marks.
 use Rattle.std.proofs.Common.{◌≡◌, ◌≢◌, ◌⊎◌, inl, inr, ℕ, ◌+◌, ◌-◌, ◌≤◌, ◌<◌, min, Bool, true, false, not, ◌&&◌, ◌||◌, List, length, ℤ, pos, negsuc, ◌+ℤ◌, ◌-ℤ◌, refl, ap, sym, subst, ◌∙◌, arith}
-use Rattle.std.specs.Prelude.{slice_index_or, nat_lt, ◌==◌}
+use Rattle.std.specs.Prelude.{slice_index_or, nat_lt}
 use Rattle.std.proofs.lemmas.Int.{ints}
 use Rattle.std.proofs.lemmas.Bool.{cases_eq, false≢true}
 use Rattle.rand_pcg.specs.Lcg.{Lcg}
 use Rattle.vx_base.proofs.Booleans.{and-left, and-right}
-use Rattle.vx_base.proofs.Numbers.{equal-yes, equal-from_yes, below-from_no}
+use Rattle.vx_base.proofs.Numbers.{below-from_no}
 use Rattle.vx_plane.specs.Plane.{Pixels, placed}
 use Rattle.vx_plane.specs.Count.{count_in}
-use Rattle.vx_plane.proofs.Counts.{count_in-le, count_in-same, count_in-moved}
+use Rattle.vx_plane.proofs.Counts.{count_in-le}
 use Rattle.vx_plane.proofs.Pages.{in_any-some, in_any-one, rectangle-inside, rectangle-sides}
 use Rattle.vx_geom.proofs.Placed.{placed-count}
 use Rattle.vx_grid.specs.declared.paper.Paper.{Paper}

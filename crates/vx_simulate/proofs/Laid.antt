@@ -11,8 +11,8 @@ use Rattle.vx_plane.proofs.Pages.{page_of-same, dark_at-inside, painted-union, p
 use Rattle.vx_grid.specs.declared.places.Point.{Point}
 use Rattle.vx_geom.specs.Slants.{Slant, scan_row, scan_column, paper_column, paper_row, to_scan_of}
 use Rattle.vx_geom.specs.Seen.{seen}
-use Rattle.vx_geom.proofs.Shears.{same_point}
 use Rattle.vx_geom.proofs.Ways.{paper_column-scan, paper_row-scan, scan_column-paper, scan_row-paper}
+use Rattle.vx_grid.proofs.MarkPlaces.{same-point}
 use Rattle.vx_simulate.specs.Flips.{places_from}
 use Rattle.vx_simulate.specs.Flipped.{only, within}
 
@@ -218,7 +218,7 @@ not-laid_within page p zone whole out = laid-none page (within (only p) zone) wh
 
 -- the same, by what the code knows of the place
 at_place : (p : Point) (u v : ℤ) → u ≡ p.u → v ≡ p.v → ◌≡◌ {A = Point} (record { u = u; v = v }) p
-at_place p u v across down = same_point u v p.u p.v across down
+at_place p u v across down = same-point _ _ across down
 
 pub shown-laid_at : (s : Slant) (page after : Page) (p r : Point) (u v : ℤ) → after ≡ painted page (only r) → r ≡ to_scan_of s (record { u = u; v = v }) → u ≡ p.u → v ≡ p.v
     → after ≡ painted page (seen s (only p))

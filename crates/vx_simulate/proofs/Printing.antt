@@ -7,7 +7,6 @@ use Rattle.vx_base.proofs.Booleans.{and-left, or-cases, is-false}
 use Rattle.vx_plane.specs.Plane.{Pixels, page_of, dark_at, any_of, nowhere}
 use Rattle.vx_plane.proofs.Pages.{rectangle-sides, in_any-some, any_of-some, dark_at-inside, dark_at-beside, dark_at-under}
 use Rattle.vx_grid.specs.declared.paper.Paper.{Paper}
-use Rattle.vx_grid.specs.declared.paper.Paper.TheVariants.{Letter, Legal}
 use Rattle.vx_grid.specs.Paper.{last_row, first_y, page_width, page_height}
 use Rattle.vx_grid.specs.Grid.{x_of, y_of, first_code_row}
 use Rattle.vx_grid.specs.Marks.{timing_marks}

@@ -1,9 +1,5 @@
-use Rattle.std.proofs.Common.{◌≡◌}
-use Rattle.std.specs.Prelude.{Ok}
 use Rattle.vx_plane.specs.Plane.{Page}
 use Rattle.vx_count.specs.Turned.{shown_page}
-use Rattle.vx_scan_model.specs.Certificate.{CertifiesUpright}
-use Rattle.vx_check.specs.Tests.{code_tested}
 use Rattle.vx_check.proofs.Codes.{read-passes}
 use Rattle.vx_check.proofs.Certified.{AreLaws, certified-tested}
 use Rattle.vx_check.proofs.laws.certificates_are_accepted.Goals as goal
