@@ -1,21 +1,19 @@
 -- What the tests of the code and of the bubbles say.
-use Rattle.std.proofs.Common.{◌≡◌, ◌⊎◌, inl, inr, ℕ, zero, suc, ◌+◌, ◌*◌, ◌/◌, ◌%◌, ◌^◌, ◌<◌, ◌==◌, ◌&&◌, Bool, true, false, cond, nat_lt, List, map, length, refl, ap, ap₂, subst, ◌∙◌, arith}
-use Rattle.std.specs.Prelude.{slice_index, slice_index_or, slice_get, option_map, Result, Ok, Err, IfOk}
+use Rattle.std.proofs.Common.{◌≡◌, ◌⊎◌, inl, inr, ℕ, zero, suc, ◌+◌, ◌*◌, ◌/◌, ◌%◌, ◌^◌, ◌<◌, ◌==◌, ◌&&◌, Bool, true, false, cond, nat_lt, List, map, length, refl, ap, ◌∙◌, arith}
+use Rattle.std.specs.Prelude.{slice_index, slice_index_or, slice_get, option_map, Result, Ok, Err}
 use Rattle.std.specs.List.{range_with_len}
 use Rattle.std.proofs.lemmas.Bool.Decides.{nat_tests}
 use Rattle.std.proofs.lemmas.Bool.{and_parts, and_from}
 use Rattle.std.proofs.lemmas.Option.{slice_get-map}
 use Rattle.std.proofs.lemmas.List.{length-map}
 use Rattle.std.proofs.lemmas.List.FromFn.{length-map-range_with_len}
-use Rattle.vx_base.proofs.Numbers.{equal-from_yes, equal-yes, equal-no}
+use Rattle.vx_base.proofs.Numbers.{equal-from_yes, equal-yes, equal-no, below-from_yes, below-yes}
 use Rattle.vx_plane.specs.Plane.{Page}
-use Rattle.vx_grid.specs.declared.paper.Paper.{Paper}
 use Rattle.vx_grid.specs.declared.state.State.{State}
 use Rattle.vx_grid.specs.declared.state.Thresholds.{Thresholds}
 use Rattle.vx_grid.specs.Borders.{MarkPlaces}
 use Rattle.vx_code.specs.declared.code.PageCode.{PageCode}
-use Rattle.vx_code.specs.declared.code.CodeFault.{CodeFault}
-use Rattle.vx_code.specs.Code.{boxes_of, version_of, IsInRange, IsShown, Shows, code_shown_by, CodesAreGivenBack}
+use Rattle.vx_code.specs.Code.{boxes_of, version_of, IsInRange, IsShown, Shows, CodesAreGivenBack, ReadCodesAreShown}
 use Rattle.vx_score.specs.Score.{state_of}
 use Rattle.vx_election_model.specs.declared.election.Election.{Election}
 use Rattle.vx_layout.specs.declared.bubbles.Bubble.{Bubble}
@@ -37,23 +35,17 @@ range-of code h =
     let first = and_parts (nat_lt code.version 8) (nat_lt code.card 1024) parts.0 in
     let second = and_parts (nat_lt code.page 64) (nat_lt code.tag (2 ^ 20)) parts.1 in
     record {
-      version_fits = less_from code.version 8 first.0;
-      card_fits = less_from code.card 1024 first.1;
-      page_fits = less_from code.page 64 second.0;
-      tag_fits = less_from code.tag (2 ^ 20) second.1;
+      version_fits = below-from_yes code.version 8 first.0;
+      card_fits = below-from_yes code.card 1024 first.1;
+      page_fits = below-from_yes code.page 64 second.0;
+      tag_fits = below-from_yes code.tag (2 ^ 20) second.1;
     }
-  where
-    less_from : (m n : ℕ) → nat_lt m n ≡ true → m < n
-    less_from m n e = grind (arith, nat_tests)
 
 pub of-range : (code : PageCode) → IsInRange code → is_in_range code ≡ true
 of-range code h =
     and_from (nat_lt code.version 8 && nat_lt code.card 1024) (nat_lt code.page 64 && nat_lt code.tag (2 ^ 20))
-    (and_from (nat_lt code.version 8) (nat_lt code.card 1024) (less_true code.version 8 h.version_fits) (less_true code.card 1024 h.card_fits))
-    (and_from (nat_lt code.page 64) (nat_lt code.tag (2 ^ 20)) (less_true code.page 64 h.page_fits) (less_true code.tag (2 ^ 20) h.tag_fits))
-  where
-    less_true : (m n : ℕ) → m < n → nat_lt m n ≡ true
-    less_true m n e = grind (arith, nat_tests)
+    (and_from (nat_lt code.version 8) (nat_lt code.card 1024) (below-yes code.version 8 h.version_fits) (below-yes code.card 1024 h.card_fits))
+    (and_from (nat_lt code.page 64) (nat_lt code.tag (2 ^ 20)) (below-yes code.page 64 h.page_fits) (below-yes code.tag (2 ^ 20) h.tag_fits))
 
 -- the test of a box
 shown-from : (printed : Bool) (count : ℕ) → is_shown printed count ≡ true → IsShown printed count
@@ -131,14 +123,12 @@ module _ (page : Page) (border : MarkPlaces) (code : PageCode) where
   unfolding code_tested
   code-in h = after-passed (passes (is_in_range code) (CodeAt no_bit)) (in_order (pair_tested counts (boxes_of code)) 0 42) (so-passes (is_in_range code) (CodeAt no_bit) h)
 
-  -- a code that is read passes, by what is known of reading it
-  pub read-passes : (paper : Paper) (found : List ℕ) (result : Result PageCode CodeFault) → paper ≡ border.paper → found ≡ counts → result ≡ code_shown_by paper found
-      → IfOk result (λ (c : PageCode). IsInRange c × (c.version ≡ version_of paper) × Shows found (boxes_of c)) → code_read page border ≡ Ok code → code_tested page border code ≡ Ok tt
+  -- a code that is read passes
+  pub read-passes : ReadCodesAreShown → code_read page border ≡ Ok code → code_tested page border code ≡ Ok tt
   unfolding code_read
-  read-passes paper found result paper_is found_is exact shown h =
-      let same : result ≡ Ok code = exact ∙ (ap₂ code_shown_by paper_is found_is ∙ h) in
-      let is = subst (λ (r : Result PageCode CodeFault). IfOk r (λ (c : PageCode). IsInRange c × (c.version ≡ version_of paper) × Shows found (boxes_of c))) same shown in
-      shown-code is.0 (subst (λ (cs : List ℕ). Shows cs (boxes_of code)) found_is is.2)
+  read-passes shown h =
+      let is = shown border.paper counts code (length-map-range_with_len (box_count_of page border) 0 84) h in
+      shown-code is.0 is.1
 
 -- the plan of the page that the said code names
 same-plan : (a b : PagePlan) → ◌≡◌ {A = Result PagePlan CheckFault} (Ok a) (Ok b) → a ≡ b

@@ -1,6 +1,7 @@
 -- Tests of numbers in order.
 use Rattle.std.proofs.Common.{◌≡◌, ◌≢◌, ℕ, zero, suc, ◌+◌, ◌≤◌, ◌<◌, ◌==◌, Bool, true, false, refl, sym, ap, ◌∙◌, arith}
 use Rattle.std.specs.Prelude.{Result, Ok, Err}
+use Rattle.std.proofs.lemmas.Bool.{true≢false}
 use Rattle.vx_base.specs.Results.{◌>>=◌}
 use Rattle.vx_base.proofs.Numbers.{equal-from_yes, equal-yes}
 use Rattle.vx_refusals.specs.declared.checking.CheckFault.{CheckFault}
@@ -28,16 +29,13 @@ so-passes so fault h = ap (λ b. passes b fault) h
 pub not-passes : (so : Bool) (fault : CheckFault) → so ≡ false → passes so fault ≡ Err fault
 not-passes so fault h = ap (λ b. passes b fault) h
 
-true_false : true ≡ false → ⊥
-true_false e = cc
-
 module _ (test : ℕ → Tested) where
   by-first : (first k : ℕ) (rest : Tested) (fault : CheckFault) (same : Bool) → (first == k) ≡ same → first ≤ k → test k ≡ Err fault
       → (first < k → test first ≡ Ok tt) → (first < k → rest ≡ Err fault) → (test first >>= (λ _. rest)) ≡ Err fault
   by-first first k rest fault true is low failed passed later =
       after-failed (test first) rest fault (ap test (equal-from_yes first k is) ∙ failed)
   by-first first k rest fault false is low failed passed later =
-      let differ : first ≢ k = λ e. true_false (sym (equal-yes first k e) ∙ is) in
+      let differ : first ≢ k = λ e. true≢false (sym (equal-yes first k e) ∙ is) in
       let less : first < k = omega (arith, low, differ) in
       after-passed (test first) rest (passed less) ∙ later less
 
@@ -61,7 +59,7 @@ module _ (test : ℕ → Tested) where
   by-later : (first k : ℕ) (same : Bool) → (first == k) ≡ same → first ≤ k → test first ≡ Ok tt → (first < k → test k ≡ Ok tt) → test k ≡ Ok tt
   by-later first k true is low passed later = ap test (sym (equal-from_yes first k is)) ∙ passed
   by-later first k false is low passed later =
-      let differ : first ≢ k = λ e. true_false (sym (equal-yes first k e) ∙ is) in
+      let differ : first ≢ k = λ e. true≢false (sym (equal-yes first k e) ∙ is) in
       later (omega (arith, low, differ))
 
   -- where they do in order, each passes

@@ -5,6 +5,7 @@ use Rattle.std.proofs.lemmas.Int.{ints}
 use Rattle.std.proofs.lemmas.Bool.Decides.{nat_tests}
 use Rattle.std.proofs.lemmas.Option.{get_or_from_slice_get, slice_get_within}
 use Rattle.vx_base.specs.Results.{◌>>=◌}
+use Rattle.vx_base.proofs.Booleans.{is-false}
 use Rattle.vx_plane.specs.Plane.{Page}
 use Rattle.vx_grid.specs.declared.paper.Paper.{Paper}
 use Rattle.vx_grid.specs.declared.paper.Paper.TheVariants.{Letter, Legal}
@@ -171,11 +172,7 @@ module _ (tests : PlacesAreTested) (framed : AcceptedAreFramed) (page : Page) wh
   mark-there k p there accepted = mark-counted k p there ∙ so-passes (is_accepted page p) (MarkAt k p (deficit_of page p)) ((tests.accepted page p).1 accepted)
 
   pub mark-wrong : (k : ℕ) (p : Point) → is_in countable p ≡ true → (IsAccepted page p → ⊥) → mark_tested page k p ≡ Err (MarkAt k p (deficit_of page p))
-  mark-wrong k p there wrong = mark-counted k p there ∙ not-passes (is_accepted page p) (MarkAt k p (deficit_of page p)) (not-true (is_accepted page p) (λ h. wrong ((tests.accepted page p).0 h)))
-    where
-      not-true : (b : Bool) → (b ≡ true → ⊥) → b ≡ false
-      not-true true never = absurd (never refl)
-      not-true false never = refl
+  mark-wrong k p there wrong = mark-counted k p there ∙ not-passes (is_accepted page p) (MarkAt k p (deficit_of page p)) (is-false (is_accepted page p) (λ h. wrong ((tests.accepted page p).0 h)))
 
   pub near-is : (k : ℕ) (predicted p : Point) → near_tested k predicted p ≡ Ok tt → IsNear predicted p
   near-is k predicted p h = (tests.region (near predicted) p).0 (passes-so (is_in (near predicted) p) _ h)

@@ -12,3 +12,9 @@ abbrev pub AcceptedAreCertificates : Type 0
 AcceptedAreCertificates =
     (election : Election) (page : Page) (reading : PageReading) → IsValid election
     → tested election page reading ≡ Ok tt → Certifies election page reading
+
+-- a certificate of a page passes all tests of it
+abbrev pub CertificatesAreAccepted : Type 0
+CertificatesAreAccepted =
+    (election : Election) (page : Page) (reading : PageReading) → IsValid election → Certifies election page reading
+    → tested election page reading ≡ Ok tt

@@ -7,7 +7,7 @@ ghost use Rattle.vx_scan_model.specs.Reading.{code_read};
 ghost use Rattle.vx_check.specs.Tests as tests;
 
 use crate::passing::passes;
-use vx_code::{PageCode, boxes_of, read_boxes, version_of};
+use vx_code::{PageCode, boxes_of, read_codes_are_shown, version_of};
 use vx_count::Counter;
 use vx_election_model::Election;
 use vx_grid::Border;
@@ -82,9 +82,8 @@ pub(crate) fn check_code(
     // Where they are read as it, they do.
     ensures read { code_read counter.now border.now ≡ Ok code.now → IsOk result }
 {
+    read_codes_are_shown();
     let counts = box_counts(counter, border);
-    // For the proof alone: what its clauses say of a code that is read.
-    let _read = read_boxes(&counts, border.paper());
     if !is_in_range(code) {
         return Err(CheckFault::CodeAt(NO_BIT));
     }

@@ -15,5 +15,5 @@ mod laws;
 mod passing;
 
 pub use checking::check;
-pub use laws::accepted_readings_are_certificates;
+pub use laws::{accepted_readings_are_certificates, certificates_are_accepted};
 pub use vx_refusals::CheckFault;

@@ -2,8 +2,8 @@
 use Rattle.std.proofs.Common.{◌≡◌, ℕ, ◌+◌, ◌-◌, ◌*◌, ◌/◌, ◌%◌, ◌^◌, ◌<◌, ◌==◌, ◌∙◌, sym, ap, List, [], ◌∷◌, ◌++◌, Bool, false, length, take, drop, slice_index_or, zero, suc, refl, arith, length-append, length-drop}
 use Rattle.std.specs.Int.{bit_at, from_bool}
 use Rattle.std.specs.List.{zip}
-use Rattle.std.proofs.Math.Seq.{take-append_seam, drop-append_seam}
 use Rattle.std.proofs.lemmas.List.{take-append-drop, length-take-le}
+use Rattle.vx_base.proofs.Lists.{take-front, drop-front}
 use Rattle.vx_grid.specs.declared.kind.Kind.{Kind}
 use Rattle.vx_grid.specs.declared.kind.Kind.TheVariants.{Precinct, Absentee, Provisional, Other}
 use Rattle.vx_code.specs.declared.code.PageCode.{PageCode}
@@ -23,13 +23,6 @@ pub total : List ℕ → ℕ
 total [] = 0
 total (width ∷ ws) = width + total ws
 
--- the first field is taken, and the rest is dropped
-pub take_front : (front back : List Bool) (n : ℕ) → length front ≡ n → take n (front ++ back) ≡ front
-take_front front back n e = ap (λ k. take k (front ++ back)) (sym e) ∙ take-append_seam front back
-
-pub drop_front : (front back : List Bool) (n : ℕ) → length front ≡ n → drop n (front ++ back) ≡ back
-drop_front front back n e = ap (λ k. drop k (front ++ back)) (sym e) ∙ drop-append_seam front back
-
 bits_of_fields-first : (width value : ℕ) (ws values : List ℕ) → bits_of_fields (zip (width ∷ ws) (value ∷ values)) ≡ bits_of_number width value ++ bits_of_fields (zip ws values)
 unfolding bits_of_fields
 bits_of_fields-first width value ws values = refl
@@ -47,7 +40,7 @@ values_of_bits-bits_of_fields (width ∷ ws) [] fit = absurd fit
 values_of_bits-bits_of_fields (width ∷ ws) (value ∷ values) fit =
     let rest = bits_of_fields (zip ws values) in
     let here = length-bits_of_number width value in
-    rw (bits_of_fields-first width value ws values, take_front (bits_of_number width value) rest width here, drop_front (bits_of_number width value) rest width here, number_of_bits-bits_of_number width value fit.0, values_of_bits-bits_of_fields ws values fit.1)
+    rw (bits_of_fields-first width value ws values, take-front (bits_of_number width value) rest width here, drop-front (bits_of_number width value) rest width here, number_of_bits-bits_of_number width value fit.0, values_of_bits-bits_of_fields ws values fit.1)
     refl
 
 no_fields : bits_of_fields [] ≡ []

@@ -3,3 +3,4 @@ pub mod Fields
 pub mod Pairs
 pub mod Tags
 pub mod Readings
+pub mod Read

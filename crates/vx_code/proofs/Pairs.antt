@@ -1,5 +1,5 @@
 -- Pairs of boxes: what is printed for bits, and what counts show.
-use Rattle.std.proofs.Common.{◌≡◌, ℕ, ◌+◌, ◌*◌, ◌^◌, ◌<◌, ◌∙◌, sym, ap, List, [], ◌∷◌, Bool, true, false, not, Option, Some, None, Ok, Err, is_none, IsSome, unwrap_or, map, nat_lt, position, length, take, slice_index, slice_index_or, zero, suc, refl, arith, append_assoc, add-one, slice_set}
+use Rattle.std.proofs.Common.{◌≡◌, ℕ, ◌+◌, ◌*◌, ◌^◌, ◌<◌, ◌∙◌, sym, ap, List, [], ◌∷◌, Bool, true, false, not, Option, Some, None, Ok, Err, is_none, IsSome, unwrap_or, map, position, length, take, slice_index, slice_index_or, zero, suc, refl, arith, append_assoc, add-one, slice_set}
 use Rattle.std.specs.Int.{from_bool}
 use Rattle.std.specs.List.{flat_map, position_or_len}
 use Rattle.std.proofs.lemmas.Bool.Decides.{nat_tests}
@@ -7,6 +7,7 @@ use Rattle.std.proofs.lemmas.Grind.{flat_map-append}
 use Rattle.std.proofs.lemmas.List.{take_more, take_more_set, map-append}
 use Rattle.std.proofs.Math.Seq.{take-length}
 use Rattle.std.proofs.Math.ListN.{length-set}
+use Rattle.vx_base.proofs.Numbers.{below-yes, below-no}
 use Rattle.vx_code.proofs.Numbers.{bits_of_number-more}
 use Rattle.vx_code.specs.declared.code.CodeFault.TheVariants.{BadPair}
 use Rattle.vx_code.specs.Bits.{bits_of_number}
@@ -69,14 +70,8 @@ none_among : (bits : List Bool) → position_or_len is_none (map Some bits) ≡ 
 none_among [] = refl
 none_among (bit ∷ bits) = let rest = none_among bits in omega arith
 
-not_below : (n : ℕ) → nat_lt n n ≡ false
-not_below n = grind (arith, nat_tests)
-
-below : (m n : ℕ) → m < n → nat_lt m n ≡ true
-below m n h = grind (arith, nat_tests)
-
 no_position : (bits : List Bool) → position is_none (map Some bits) ≡ None
-no_position bits = rw (none_among bits, not_below (length (map Some bits))) refl
+no_position bits = rw (none_among bits, below-no (length (map Some bits)) (length (map Some bits)) (omega arith)) refl
 
 -- the first of a list that is None
 first_none : (xs : List (Option Bool)) (bits : List Bool) (n : ℕ) → length bits ≡ n → take n xs ≡ map Some bits → slice_index_or xs n (Some false) ≡ None
@@ -92,7 +87,7 @@ first_none (x ∷ xs) (bit ∷ bits) (suc n) e before here =
     rw first ((let p = more.0 in omega arith), (let q = more.1 in omega arith))
 
 pub first_position : (xs : List (Option Bool)) (n : ℕ) → position_or_len is_none xs ≡ n → n < length xs → position is_none xs ≡ Some n
-first_position xs n e h = rw (e, below n (length xs) h) refl
+first_position xs n e h = rw (e, below-yes n (length xs) h) refl
 
 -- bits that are all shown
 pub bits_shown_by-all : (counts : List ℕ) (bits : List Bool) → shown_by counts ≡ map Some bits → bits_shown_by counts ≡ Ok bits

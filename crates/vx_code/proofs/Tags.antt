@@ -5,10 +5,10 @@ use Rattle.std.specs.List.{flat_map}
 use Rattle.std.proofs.lemmas.List.{length-take}
 use Rattle.std.proofs.lemmas.Nat.{pow-add}
 use Rattle.std.proofs.Math.Nat.{div-div-eq-div-mul, pow-le-pow_right}
+use Rattle.vx_base.proofs.Lists.{take-front}
 use Rattle.vx_code.specs.Bits.{bits_of_number, number_of_bits}
 use Rattle.vx_code.specs.Code.{tag_of}
 use Rattle.vx_code.proofs.Numbers.{length-bits_of_number, number_of_bits-lt, number_of_bits-append, number_of_bits-bits_of_number}
-use Rattle.vx_code.proofs.Fields.{take_front}
 
 -- a bit of a number that is moved down
 bit_at-div : (n high low : ℕ) → bit_at (n / 2 ^ low) high ≡ bit_at n (high + low)
@@ -43,7 +43,7 @@ tag_of-bytes (a ∷ b ∷ c ∷ rest) room first second third =
     let back = bits_of_number 4 c ++ flat_map (bits_of_number 8) rest in
     let parts : flat_map (bits_of_number 8) (a ∷ b ∷ c ∷ rest) ≡ front ++ back = rw (bits_of_number-split 4 4 c) (simp append_assoc) in
     let size : length front ≡ 20 = simp (length-append, length-bits_of_number) in
-    rw (parts, take_front front back 20 size) (three_parts a b (c / 2 ^ 4) first second (omega arith))
+    rw (parts, take-front front back 20 size) (three_parts a b (c / 2 ^ 4) first second (omega arith))
 
 -- it has at most 20 bits
 pub tag_of-lt : (digest : List ℕ) → tag_of digest < 2 ^ 20

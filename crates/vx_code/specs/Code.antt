@@ -161,3 +161,9 @@ NoBitIsRefused =
     (paper : Paper) (counts : List ℕ) → length counts ≡ 84
     → bit_of (slice_index counts 0) (slice_index counts 1) ≡ None
     → code_shown_by paper counts ≡ Err (BadPair 0 (slice_index counts 0) (slice_index counts 1))
+
+-- counts that show a code show its boxes, and its fields are as large as their bits allow
+abbrev pub ReadCodesAreShown : Type 0
+ReadCodesAreShown =
+    (paper : Paper) (counts : List ℕ) (code : PageCode) → length counts ≡ 84
+    → code_shown_by paper counts ≡ Ok code → IsInRange code × Shows counts (boxes_of code)

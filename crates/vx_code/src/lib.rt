@@ -13,5 +13,5 @@ mod reading;
 
 pub use boxes::{boxes_of, place_of_box};
 pub use code::{CodeFault, PageCode, number_of, tag_of, version_of};
-pub use laws::{codes_are_given_back, no_bit_is_refused, tags_are_in_range};
+pub use laws::{codes_are_given_back, no_bit_is_refused, read_codes_are_shown, tags_are_in_range};
 pub use reading::read_boxes;

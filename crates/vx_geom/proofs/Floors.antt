@@ -1,5 +1,5 @@
 -- How far columns and rows are moved, near each other.
-use Rattle.std.proofs.Common.{◌≡◌, ℕ, zero, suc, ◌+◌, ◌*◌, ◌≤◌, ◌<◌, ℤ, pos, negsuc, ◌+ℤ◌, ◌-ℤ◌, ◌*ℤ◌, ◌≤ℤ◌, ◌<ℤ◌, refl, ap, sym, ◌∙◌, arith}
+use Rattle.std.proofs.Common.{◌≡◌, ℕ, ◌*◌, ℤ, pos, negsuc, ◌+ℤ◌, ◌-ℤ◌, ◌*ℤ◌, ◌≤ℤ◌, ◌<ℤ◌, arith}
 use Rattle.std.proofs.lemmas.Int.{ints}
 use Rattle.vx_grid.specs.Places.{IsWithin}
 use Rattle.vx_geom.specs.Slants.{Slant, IsSlant, whole_of, down_by, right_by}

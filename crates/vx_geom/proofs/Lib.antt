@@ -6,3 +6,4 @@ pub mod Turned
 pub mod Shears
 pub mod Runs
 pub mod Shown
+pub mod Placed

@@ -1,8 +1,7 @@
 -- A slant moves a small rectangle nearly as a whole.
-use Rattle.std.proofs.Common.{◌≡◌, ℕ, zero, suc, ◌+◌, ◌*◌, ◌≤◌, ◌⊎◌, inl, inr, true, ℤ, pos, ◌+ℤ◌, ◌-ℤ◌, ◌≤ℤ◌, ◌<ℤ◌, refl, ap, sym, subst, ◌∙◌, arith}
+use Rattle.std.proofs.Common.{◌≡◌, ℕ, zero, suc, ◌+◌, ◌≤◌, inl, inr, ℤ, pos, ◌+ℤ◌, ◌-ℤ◌, ◌≤ℤ◌, ◌<ℤ◌, ap, arith}
 use Rattle.std.proofs.lemmas.Int.{ints, by_lt_z}
 use Rattle.vx_grid.specs.Places.{IsWithin}
-use Rattle.vx_plane.specs.Plane.{rectangle}
 use Rattle.vx_plane.proofs.Pages.{rectangle-sides}
 use Rattle.vx_geom.specs.Slants.{Slant, IsSlant, down_by, right_by, scan_row, scan_column}
 use Rattle.vx_geom.specs.Laws.{IsOrNext, IsNearlyMoved}

@@ -1,7 +1,6 @@
 -- A shear's own moves, as those of its slant.
-use Rattle.std.proofs.Common.{◌≡◌, ◌∙◌, ap, sym, arith, ℤ, pos, ◌+ℤ◌, ◌-ℤ◌, ◌*ℤ◌}
+use Rattle.std.proofs.Common.{◌≡◌, ◌∙◌, ap, sym, arith, ℤ, pos, ◌+ℤ◌, ◌*ℤ◌}
 use Rattle.std.proofs.lemmas.Int.{ints}
-use Rattle.vx_grid.specs.declared.places.Point.{Point}
 use Rattle.vx_geom.specs.declared.shear.Shear.{Shear}
 use Rattle.vx_geom.specs.Slants.{whole_of, down_by, right_by, slant_of}
 
@@ -16,10 +15,6 @@ unfolding right_by
 right_by-shear shear v rise is =
     let none : (shear.a *ℤ v) +ℤ pos 0 ≡ shear.a *ℤ v = omega (arith, ints) in
     ap (λ z. shear.sx +ℤ z) (is ∙ ap whole_of (sym none))
-
-pub same_point : (u v x y : ℤ) → u ≡ x → v ≡ y → ◌≡◌ {A = Point} (record { u = u; v = v }) (record { u = x; v = y })
-same_point u v x y e f =
-    ap (λ z. let p : Point = record { u = z; v = v } in p) e ∙ ap (λ z. let p : Point = record { u = x; v = z } in p) f
 
 pub same_product : (a b c d : ℤ) → a ≡ c → b ≡ d → a *ℤ b ≡ c *ℤ d
 same_product a b c d e f = ap (λ z. z *ℤ b) e ∙ ap (λ z. c *ℤ z) f

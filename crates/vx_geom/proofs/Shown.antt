@@ -1,13 +1,14 @@
 -- Counts are conserved: what a rectangle of the scan shows, and what a rectangle of the paper has.
-use Rattle.std.proofs.Common.{◌≡◌, ℕ, ◌≤◌, le_trans, Bool, true, false, ℤ, pos, ◌+ℤ◌, ◌-ℤ◌, ◌≤ℤ◌, ◌<ℤ◌, ◌&&◌, inl, inr, refl, ap, sym, subst, ◌∙◌, arith}
+use Rattle.std.proofs.Common.{◌≡◌, ℕ, ◌≤◌, le_trans, Bool, true, false, ℤ, ◌+ℤ◌, ◌-ℤ◌, ◌&&◌, inl, inr, refl, ap, sym, ◌∙◌, arith}
 use Rattle.std.proofs.lemmas.Int.{ints}
 use Rattle.std.proofs.Math.IntN.{neg_ℤ}
+use Rattle.vx_base.proofs.Booleans.{and-both, and-left}
 use Rattle.vx_plane.specs.Plane.{Pixels, rectangle}
 use Rattle.vx_plane.specs.Count.{one_if, sum_from, count_in}
 use Rattle.vx_plane.proofs.Sums.{sum_from-le, sum_from-orders}
 use Rattle.vx_plane.proofs.Counts.{one_if-le, count_in-by_rows, count_in-by_columns, count_in-le}
 use Rattle.vx_plane.proofs.Pages.{rectangle-inside, rectangle-outside}
-use Rattle.vx_geom.specs.Slants.{Slant, down_by, right_by, scan_row, scan_column, paper_column, paper_row}
+use Rattle.vx_geom.specs.Slants.{Slant, down_by, right_by}
 use Rattle.vx_geom.specs.Seen.{seen}
 use Rattle.vx_geom.specs.Laws.{ComesFrom, GoesInto, ConservesCounts}
 use Rattle.vx_geom.proofs.Runs.{LiesOutside, moved_le}
@@ -16,15 +17,7 @@ use Rattle.vx_geom.proofs.Runs.{LiesOutside, moved_le}
 abbrev cut : Pixels → Pixels → Pixels
 cut a b u v = a u v && b u v
 
-cut-true : (a b : Bool) → a ≡ true → b ≡ true → (a && b) ≡ true
-cut-true true b h g = g
-cut-true false b h g = cc
-
-cut-first : (a b : Bool) → (a && b) ≡ true → a ≡ true
-cut-first true b h = refl
-cut-first false b h = cc
-
-cut-none : (a b : Bool) → b ≡ false → one_if (a && b) ≡ 0
+pub cut-none : (a b : Bool) → b ≡ false → one_if (a && b) ≡ 0
 cut-none true b h = ap one_if h
 cut-none false b h = refl
 
@@ -60,7 +53,7 @@ module _ (s : Slant) (set : Pixels) (left top : ℤ) (width height : ℕ) (x y :
   seen_le comes =
       let cut_off : count_in left top width height (seen s set) ≤ count_in left top width height (seen s part) =
       count_in-le left top width height (seen s set) (seen s part)
-      (λ u v a b c d shown. cut-true _ _ shown (comes u v (rectangle-inside left top width height u v a b c d) shown)) in
+      (λ u v a b c d shown. and-both _ _ shown (comes u v (rectangle-inside left top width height u v a b c d) shown)) in
       let by_rows : count_in left top width height (seen s part) ≡ sum_from top height (λ v. sum_from left width (λ u. lowered (u -ℤ right_by s v) v)) =
       count_in-by_rows left top width height (seen s part) in
       let across : sum_from top height (λ v. sum_from left width (λ u. lowered (u -ℤ right_by s v) v)) ≤ sum_from top height (λ v. sum_from x m (λ c. lowered c v)) =
@@ -70,7 +63,7 @@ module _ (s : Slant) (set : Pixels) (left top : ℤ) (width height : ℕ) (x y :
       let down : sum_from x m (λ c. sum_from top height (λ v. lowered c v)) ≤ sum_from x m (λ c. sum_from y n (λ r. one_if (part c r))) =
       sum_from-le x m _ _ (λ c from to. rows_moved c) in
       let by_columns : count_in x y m n part ≡ sum_from x m (λ c. sum_from y n (λ r. one_if (part c r))) = count_in-by_columns x y m n part in
-      let whole : count_in x y m n part ≤ count_in x y m n set = count_in-le x y m n part set (λ u v a b c d h. cut-first _ _ h) in
+      let whole : count_in x y m n part ≤ count_in x y m n set = count_in-le x y m n part set (λ u v a b c d h. and-left _ _ h) in
       omega (arith, cut_off, by_rows, across, orders, down, by_columns, whole)
 
   -- what the scan shows of the set at a column of the paper and a row of the scan, so far as it lies in
@@ -84,7 +77,7 @@ module _ (s : Slant) (set : Pixels) (left top : ℤ) (width height : ℕ) (x y :
   raised-there : GoesInto s set x y m n left top width height → (c r : ℤ) → rectangle x y m n c r ≡ true → one_if (set c r) ≤ raised c (r +ℤ down_by s c)
   raised-there goes c r inside =
       let back : (r +ℤ down_by s c) -ℤ down_by s c ≡ r = omega (arith, ints) in
-      one_if-le (set c r) _ (λ h. cut-true _ _ (ap (λ z. set c z) back ∙ h) (goes c r inside h))
+      one_if-le (set c r) _ (λ h. and-both _ _ (ap (λ z. set c z) back ∙ h) (goes c r inside h))
 
   rows_raised : (c : ℤ) → sum_from y n (λ r. raised c (r +ℤ down_by s c)) ≤ sum_from top height (λ v. raised c v)
   rows_raised c =
@@ -115,7 +108,7 @@ module _ (s : Slant) (set : Pixels) (left top : ℤ) (width height : ℕ) (x y :
       let by_rows : count_in left top width height (seen s set) ≡ sum_from top height (λ v. sum_from left width (λ u. one_if (seen s set u v))) =
       count_in-by_rows left top width height (seen s set) in
       let whole : sum_from top height (λ v. sum_from left width (λ u. shown_in v u)) ≤ sum_from top height (λ v. sum_from left width (λ u. one_if (seen s set u v))) =
-      sum_from-le top height _ _ (λ v a b. sum_from-le left width _ _ (λ u d e. one_if-le _ _ (cut-first _ _))) in
+      sum_from-le top height _ _ (λ v a b. sum_from-le left width _ _ (λ u d e. one_if-le _ _ (and-left _ _))) in
       omega (arith, by_columns, there, down, orders, across, by_rows, whole)
 
 pub conserves-counts : (s : Slant) → ConservesCounts s

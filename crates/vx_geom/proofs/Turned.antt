@@ -1,8 +1,7 @@
 -- A slant, seen from the other end.
-use Rattle.std.proofs.Common.{◌≡◌, ℕ, zero, suc, ◌+◌, ◌*◌, ◌≤◌, ◌<◌, ℤ, pos, negsuc, ◌+ℤ◌, ◌-ℤ◌, ◌*ℤ◌, ◌≤ℤ◌, ◌<ℤ◌, refl, ap, sym, ◌∙◌, arith}
+use Rattle.std.proofs.Common.{◌≡◌, ℕ, ◌<◌, ℤ, pos, negsuc, ◌+ℤ◌, ◌-ℤ◌, ◌*ℤ◌, ◌≤ℤ◌, refl, ap, ◌∙◌, arith}
 use Rattle.std.proofs.lemmas.Int.{ints}
-use Rattle.vx_grid.specs.Places.{IsWithin}
-use Rattle.vx_geom.specs.Slants.{Slant, IsSlant, whole_of, down_by, right_by, scan_row, scan_column, paper_column, paper_row}
+use Rattle.vx_geom.specs.Slants.{Slant, IsSlant, whole_of, down_by, right_by, paper_column, paper_row}
 use Rattle.vx_geom.specs.Turned.{natural_of, rest_of, row_parts, column_parts, turned_slant}
 use Rattle.vx_geom.proofs.Products.{product-moved}
 use Rattle.vx_geom.proofs.Floors.{IsFloor, whole_of-is}

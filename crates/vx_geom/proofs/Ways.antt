@@ -1,12 +1,11 @@
 -- The way there and back, and how rigid it is.
-use Rattle.std.proofs.Common.{◌≡◌, ℕ, ◌+◌, ◌*◌, ◌≤◌, ℤ, pos, ◌+ℤ◌, ◌-ℤ◌, refl, ap, sym, ◌∙◌, arith}
+use Rattle.std.proofs.Common.{◌≡◌, ℕ, ◌+◌, ◌*◌, ◌≤◌, ℤ, ◌+ℤ◌, ◌-ℤ◌, ap, ◌∙◌, arith}
 use Rattle.std.proofs.lemmas.Int.{ints}
-use Rattle.vx_grid.specs.declared.places.Point.{Point}
 use Rattle.vx_grid.specs.Places.{IsWithin}
-use Rattle.vx_geom.specs.Slants.{Slant, IsSlant, down_by, right_by, scan_row, scan_column, paper_column, paper_row, to_scan_of, to_paper_of}
+use Rattle.vx_geom.specs.Slants.{Slant, IsSlant, down_by, right_by, scan_row, scan_column, paper_column, paper_row}
 use Rattle.vx_geom.specs.Laws.{IsBijection, AreAlike, IsRigid}
 use Rattle.vx_geom.proofs.Floors.{down-near, right-near}
-use Rattle.vx_geom.proofs.Shears.{same_point}
+use Rattle.vx_grid.proofs.MarkPlaces.{same-point}
 
 pub paper_column-scan : (s : Slant) (x y : ℤ) → paper_column s (scan_column s x y) (scan_row s x y) ≡ x
 paper_column-scan s x y = omega (arith, ints)
@@ -24,8 +23,8 @@ scan_column-paper s u v =
 
 pub is-bijection : (s : Slant) → IsBijection s
 is-bijection s = record {
-  from_paper = λ p. same_point _ _ _ _ (paper_column-scan s p.u p.v) (paper_row-scan s p.u p.v);
-  from_scan = λ p. same_point _ _ _ _ (scan_column-paper s p.u p.v) (scan_row-paper s p.u p.v);
+  from_paper = λ p. same-point _ _ (paper_column-scan s p.u p.v) (paper_row-scan s p.u p.v);
+  from_scan = λ p. same-point _ _ (scan_column-paper s p.u p.v) (scan_row-paper s p.u p.v);
 }
 
 -- over n times 63 columns and 64 rows, n pixels more or less

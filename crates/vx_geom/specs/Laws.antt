@@ -1,5 +1,5 @@
 -- What holds of every slant.
-use Rattle.std.specs.Prelude.{◌≡◌, ◌⊎◌, ◌≤◌, ℕ, ◌*◌, true, ℤ, pos, ◌+ℤ◌, ◌-ℤ◌, ◌≤ℤ◌, ◌<ℤ◌}
+use Rattle.std.specs.Prelude.{◌≡◌, ◌⊎◌, ◌≤◌, ℕ, ◌*◌, true, ℤ, pos, ◌+ℤ◌, ◌-ℤ◌}
 use Rattle.vx_plane.specs.Plane.{Pixels, rectangle}
 use Rattle.vx_plane.specs.Count.{count_in}
 use Rattle.vx_grid.specs.declared.places.Point.{Point}

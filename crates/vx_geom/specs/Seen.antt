@@ -1,5 +1,4 @@
 -- Sets of places of the paper as a scan shows them.
-use Rattle.std.specs.Prelude.{ℤ}
 use Rattle.vx_plane.specs.Plane.{Pixels}
 use Rattle.vx_geom.specs.Slants.{Slant, paper_column, paper_row, scan_column, scan_row}
 

@@ -12,4 +12,4 @@ pub use laws::{
     slants_are_bijections, slants_are_rigid, slants_conserve_counts, slants_move_nearby,
     slants_move_nearly_as_a_whole,
 };
-pub use shear::Shear;
+pub use shear::{Shear, rise};

@@ -17,11 +17,13 @@ pub struct Shear {
 }
 
 /// So many whole pixels for a slope in parts of 4096 along a way, rounded towards minus infinity.
-fn rise(slope: i32, along: i32) -> i32
+pub fn rise(slope: i32, along: i32) -> i32
     requires slope { IsWithin 64 slope }
     requires along { IsWithin 30000 along }
     ensures value { result ≡ whole_of (slope *ℤ along) }
     ensures bound { IsWithin 500 result }
+    // A short way rises little.
+    ensures short { IsWithin 200 along → IsWithin 5 result }
 {
     let parts = slope * along;
     parts.div_euclid(4096)

@@ -6,6 +6,7 @@ use Rattle.vx_plane.specs.Plane.{Pixels}
 use Rattle.vx_grid.specs.declared.paper.Paper.{Paper}
 use Rattle.vx_grid.specs.Grid.{y_of}
 use Rattle.vx_grid.specs.Regions.{frame_zone}
+use Rattle.vx_grid.proofs.Papers.{last-row_low}
 use Rattle.vx_election_model.specs.declared.election.Election.{Election}
 use Rattle.vx_election_model.specs.Valid.{IsValid}
 use Rattle.vx_styles.specs.Cards.{card_at}
@@ -18,7 +19,6 @@ use Rattle.vx_layout.specs.Plan.{foot_y, plan_of}
 use Rattle.vx_layout.specs.Print.{line_pixels}
 use Rattle.vx_layout.specs.Zones.{bubble_zone_of, code_zones, reserved_zones, Apart, ZonesKeepClearOf, IsClear, IsClearPlan}
 use Rattle.vx_layout.proofs.Extents.{apart-lies, apart-frame, lies-zone, lies-code, lies-reserved}
-use Rattle.vx_layout.proofs.Papers.{last-row_low}
 use Rattle.vx_layout.proofs.Parts.{blocks_of, count_of, page_at, parts-of_plan, All-pages}
 use Rattle.vx_layout.proofs.Sizes.{sizes-from_valid}
 use Rattle.vx_layout.proofs.Standing.{IsLaid, grid-page, names-page, laid-page}

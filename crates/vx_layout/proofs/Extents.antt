@@ -10,6 +10,7 @@ use Rattle.vx_grid.specs.Grid.{x_of, y_of, first_code_row}
 use Rattle.vx_grid.specs.Sizes as sizes
 use Rattle.vx_grid.specs.Sizes.{zone_of, round}
 use Rattle.vx_grid.specs.Regions.{inner_region, frame_zone}
+use Rattle.vx_grid.proofs.Papers.{last-row_high, first-y_low}
 use Rattle.vx_code.specs.Code.{place_from, place_of_box, reserved_place}
 use Rattle.vx_font.specs.Font.{dot_of}
 use Rattle.vx_layout.specs.declared.bubbles.Bubble.{Bubble}
@@ -18,7 +19,6 @@ use Rattle.vx_layout.specs.Lines.{size_of}
 use Rattle.vx_layout.specs.Pages.{IsOnGrid}
 use Rattle.vx_layout.specs.Print.{dot_pixels, column_pixels, glyph_pixels, character_pixels, line_pixels}
 use Rattle.vx_layout.specs.Zones.{bubble_zone_of, bubble_box_of, box_zone_at, code_zones, reserved_zones, Apart}
-use Rattle.vx_layout.proofs.Papers.{last-row_high, first-y_low}
 
 -- the places of a set lie in a rectangle: from_x ≤ u < to_x and from_y ≤ v < to_y
 pub record Lies (set : Pixels) (from_x to_x from_y to_y : ℕ) : Type 0 where

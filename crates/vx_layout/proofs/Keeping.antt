@@ -1,14 +1,10 @@
 -- What a printed page keeps clear.
-use Rattle.std.proofs.Common.{◌≡◌, ℕ, ◌-◌, subst, Ok}
+use Rattle.std.proofs.Common.{◌-◌}
 use Rattle.std.specs.Prelude.{All}
-use Rattle.std.proofs.lemmas.Option.{get_or_from_slice_get}
-use Rattle.std.proofs.lemmas.List.Elements.{All-get_or}
-use Rattle.vx_election_model.specs.declared.election.Election.{Election}
-use Rattle.vx_election_model.specs.Valid.{IsValid}
 use Rattle.vx_layout.specs.declared.pages.PagePlan.{PagePlan}
 use Rattle.vx_layout.specs.Pages.{IsOnGrid}
 use Rattle.vx_layout.specs.Zones.{IsClear, AreApart}
-use Rattle.vx_layout.specs.Printed.{PrintedPage, IsPlanned, KeepsClear, PrintedKeepClear}
+use Rattle.vx_layout.specs.Printed.{PrintedKeepClear}
 use Rattle.vx_layout.proofs.Clear.{clear-plan, planned-on_grid}
 use Rattle.vx_layout.proofs.Order.{apart-plan}
 use Rattle.vx_layout.proofs.Printed.{of-page}

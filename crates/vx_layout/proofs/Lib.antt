@@ -9,7 +9,6 @@ pub mod Made
 pub mod OnePage
 pub mod Order
 pub mod Paged
-pub mod Papers
 pub mod Parts
 pub mod Placing
 pub mod Printable

@@ -6,6 +6,7 @@ use Rattle.std.specs.Option.{option_map_or}
 use Rattle.std.proofs.lemmas.List.Elements.{All-head, All-tail}
 use Rattle.std.proofs.lemmas.List.FromFn.{length-map-range_with_len, length-range_with_len}
 use Rattle.vx_base.proofs.Lists.{length-flat_map_le}
+use Rattle.vx_base.proofs.Booleans.{either-le}
 use Rattle.vx_grid.specs.declared.paper.Paper.{Paper}
 use Rattle.vx_election_model.specs.declared.choice.Choice.{Choice}
 use Rattle.vx_election_model.specs.declared.contest.Contest.{Contest}
@@ -40,10 +41,6 @@ size-label contest option fits = label-in contest.choices option fits
 length-lines : (paper : Paper) (col row : ℕ) (text : List ℕ) → length (lines_at paper col row text) ≡ lines_of text
 unfolding lines_at
 length-lines paper col row text = length-map-range_with_len (placed_line paper col row text) 0 (lines_of text)
-
-either-le : (b : Bool) (m n most : ℕ) → m ≤ most → n ≤ most → cond b m n ≤ most
-either-le true m n most h k = h
-either-le false m n most h k = k
 
 -- a valid contest has at most 150 options
 pub few-options : (contest : Contest) → HasSizes contest → options_of contest ≤ 150

@@ -8,6 +8,7 @@ use Rattle.std.proofs.lemmas.List.Sums.{length-filter, count_by-le-length}
 use Rattle.vx_base.proofs.Lists.{All-flat_map, length-flat_map_le}
 use Rattle.vx_grid.specs.declared.paper.Paper.{Paper}
 use Rattle.vx_grid.specs.Grid.{y_of, first_code_row, foot_row}
+use Rattle.vx_grid.proofs.Papers.{last-row_low, first-y_low}
 use Rattle.vx_election_model.specs.declared.contest.Contest.{Contest}
 use Rattle.vx_election_model.specs.declared.election.Election.{Election}
 use Rattle.vx_election_model.specs.Options.{options_of}
@@ -24,7 +25,6 @@ use Rattle.vx_layout.proofs.Extents.{Lies, lies-line}
 use Rattle.vx_layout.proofs.Labels.{size-seats}
 use Rattle.vx_layout.proofs.LineSizes.{size-line, size-foot, size-label, length-block}
 use Rattle.vx_layout.proofs.Made.{All-range, All-made}
-use Rattle.vx_layout.proofs.Papers.{last-row_low, first-y_low}
 
 -- a line of a page: short, its dots in the inner region, below the reserved zones and above the page
 -- code, and beside the bubbles of each text column or below all of them

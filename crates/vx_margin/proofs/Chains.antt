@@ -1,23 +1,21 @@
 -- Chains of places from the first mark lie at the marks.
-use Rattle.std.proofs.Common.{◌≡◌, ◌⊎◌, ⊎_elim, inl, inr, ℕ, zero, suc, ◌+◌, ◌-◌, ◌*◌, ◌≤◌, ◌<◌, Bool, true, false, if◌then◌else◌, List, ℤ, pos, ◌+ℤ◌, ◌-ℤ◌, refl, ap, sym, subst, ◌∙◌, arith}
+use Rattle.std.proofs.Common.{◌≡◌, ℕ, zero, suc, ◌-◌, ◌≤◌, ◌<◌, Bool, true, false, if◌then◌else◌, List, refl, sym, subst, arith}
 use Rattle.std.proofs.lemmas.Int.{ints}
-use Rattle.std.proofs.lemmas.Bool.{cases_lt}
 use Rattle.std.proofs.lemmas.Bool.Decides.{nat_tests}
 use Rattle.vx_plane.specs.Plane.{Pixels, Page}
 use Rattle.vx_grid.specs.declared.paper.Paper.{Paper}
 use Rattle.vx_grid.specs.declared.places.Point.{Point}
 use Rattle.vx_grid.specs.Paper.{last_row}
-use Rattle.vx_grid.specs.Grid.{last_column}
-use Rattle.vx_grid.specs.Marks.{marks as marks_of, marks_to, mark_of, first_left, first_right, first_bottom}
+use Rattle.vx_grid.specs.Marks.{marks as marks_of, marks_to, mark_of, first_left}
 use Rattle.vx_grid.specs.Places.{point_at}
 use Rattle.vx_mark_model.specs.Mark.{IsAccepted}
-use Rattle.vx_mark_model.specs.Best.{IsNear, IsBest}
-use Rattle.vx_mark_model.specs.Following.{is_in_row, leader_of, right_of, below, expected_from, prediction_of, IsFollowed, end_of, right_end_of, Closes}
+use Rattle.vx_mark_model.specs.Best.{IsNear}
+use Rattle.vx_mark_model.specs.Following.{is_in_row, leader_of, right_of, below, prediction_of, IsFollowed, Closes}
 use Rattle.vx_geom.specs.Slants.{Slant, IsSlant}
+use Rattle.vx_grid.proofs.Papers.{last-row_low}
 use Rattle.vx_margin.specs.Marks.{mark_image, IsBorderPoint, AreMarks, image_of, LiesNear}
 use Rattle.vx_margin.specs.Shown.{ShowsMarks, ShowsBorder, IsInStartRegion}
 use Rattle.vx_margin.specs.Chains.{IsChain, LieAtMarks}
-use Rattle.vx_margin.proofs.Images.{many_rows}
 use Rattle.vx_margin.proofs.Steps.{right-predicted, below-predicted, accepted-at, accepted-near, corner-near}
 use Rattle.vx_margin.proofs.Numbers.{mark-right, mark-below, mark-point}
 
@@ -30,12 +28,12 @@ module _ (s : Slant) (scan : Page) (paper : Paper) (marks : Pixels) (slant : IsS
       → LiesNear 4 2 p (mark_image s paper (leader_of (last_row paper) k))
       → LiesNear 5 3 (if row then right_of p else below p) (mark_image s paper k)
   expected-near k p true some is near =
-      let at = mark-right (last_row paper) k (many_rows paper) some is in
+      let at = mark-right (last_row paper) k (last-row_low paper) some is in
       let Column : ℕ → Type 0 = λ c. LiesNear 5 3 (right_of p) (image_of s paper c (mark_of (last_row paper) (leader_of (last_row paper) k)).1) in
       let Row : ℕ → Type 0 = λ r. LiesNear 5 3 (right_of p) (image_of s paper (mark_of (last_row paper) k).0 r) in
       subst Row (sym at.1) (subst Column (sym at.0) (right-predicted s slant paper p _ _ near))
   expected-near k p false some is near =
-      let at = mark-below (last_row paper) k (many_rows paper) some is in
+      let at = mark-below (last_row paper) k (last-row_low paper) some is in
       let Row : ℕ → Type 0 = λ r. LiesNear 5 3 (below p) (image_of s paper (mark_of (last_row paper) (leader_of (last_row paper) k)).0 r) in
       let Column : ℕ → Type 0 = λ c. LiesNear 5 3 (below p) (image_of s paper c (mark_of (last_row paper) k).1) in
       subst Column (sym at.0) (subst Row (sym at.1) (below-predicted s slant paper p _ _ near))
@@ -95,7 +93,7 @@ module _ (s : Slant) (scan : Page) (paper : Paper) (marks : Pixels) (shows : Sho
   pub near-closes : (places : List Point) → LieAtMarks s paper (marks_of paper) places → Closes (last_row paper) places
   near-closes places near =
       let last : ℕ = last_row paper in
-      let many : 40 ≤ last = many_rows paper in
+      let many : 40 ≤ last = last-row_low paper in
       let e : ℕ = marks_to last - 1 in
       let f : ℕ = first_left last - 1 in
       let e-column : (mark_of last e).0 ≡ 32 = grind (arith, nat_tests) in

@@ -1,7 +1,8 @@
 -- The deficit of a place in a scan, and in what the scan would show without flips.
-use Rattle.std.proofs.Common.{◌≡◌, ◌⊎◌, inl, inr, ℕ, ◌+◌, ◌≤◌, Bool, true, false, not, ◌&&◌, ℤ, pos, ◌+ℤ◌, ◌-ℤ◌, ◌≤ℤ◌, ◌<ℤ◌, refl, ap, sym, ◌∙◌, arith}
+use Rattle.std.proofs.Common.{◌≡◌, ◌⊎◌, inl, inr, ℕ, ◌+◌, ◌≤◌, Bool, true, false, not, ℤ, pos, ◌+ℤ◌, ◌-ℤ◌, ◌≤ℤ◌, ◌<ℤ◌, refl, ap, sym, arith}
 use Rattle.std.proofs.lemmas.Int.{ints}
-use Rattle.vx_plane.specs.Plane.{Pixels, Page, rectangle, dark_at}
+use Rattle.vx_base.proofs.Booleans.{and-both}
+use Rattle.vx_plane.specs.Plane.{Pixels, Page, dark_at}
 use Rattle.vx_plane.specs.Count.{count_in, outside_of}
 use Rattle.vx_plane.proofs.Pages.{rectangle-inside}
 use Rattle.vx_grid.specs.declared.paper.Paper.{Paper}
@@ -12,7 +13,7 @@ use Rattle.vx_geom.specs.Slants.{Slant}
 use Rattle.vx_geom.specs.Seen.{seen}
 use Rattle.vx_margin.specs.Flips.{differ, flips, flips_in, frame_of}
 use Rattle.vx_margin.specs.Shown.{ShowsMarks, IsInZone}
-use Rattle.vx_margin.specs.Deficits.{light_core, dark_flanks, deficit_in}
+use Rattle.vx_margin.specs.Deficits.{deficit_in}
 use Rattle.vx_margin.proofs.Parts.{changed-le, five-parts}
 
 differs : (a b : Bool) → (b ≡ a) ⊎ (differ a b ≡ true)
@@ -20,10 +21,6 @@ differs true true = inl refl
 differs true false = inr refl
 differs false true = inr refl
 differs false false = inl refl
-
-both_true : (a b : Bool) → a ≡ true → b ≡ true → (a && b) ≡ true
-both_true true b h g = g
-both_true false b h g = cc
 
 pub swapped : (a b f : Bool) → (a ≡ b) ⊎ (f ≡ true) → (b ≡ a) ⊎ (f ≡ true)
 swapped a b f (inl e) = inl (sym e)
@@ -41,7 +38,7 @@ as_shown s scan set zone u v framed zoned = choose (differs (dark_at scan u v) (
   where
     choose : (seen s set u v ≡ dark_at scan u v) ⊎ (differ (dark_at scan u v) (seen s set u v) ≡ true) → (seen s set u v ≡ dark_at scan u v) ⊎ (flips_in s scan set zone u v ≡ true)
     choose (inl same) = inl same
-    choose (inr other) = inr (both_true _ _ zoned (both_true _ _ framed other))
+    choose (inr other) = inr (and-both _ _ zoned (and-both _ _ framed other))
 
 -- a pixel of the frame is as the paper has it, or a flip
 pub as_or_flip : (s : Slant) (scan : Page) (set : Pixels) (u v : ℤ) → frame_of scan u v ≡ true → (seen s set u v ≡ dark_at scan u v) ⊎ (flips s scan set u v ≡ true)
@@ -50,7 +47,7 @@ as_or_flip s scan set u v framed = choose (differs (dark_at scan u v) (seen s se
   where
     choose : (seen s set u v ≡ dark_at scan u v) ⊎ (differ (dark_at scan u v) (seen s set u v) ≡ true) → (seen s set u v ≡ dark_at scan u v) ⊎ (flips s scan set u v ≡ true)
     choose (inl same) = inl same
-    choose (inr other) = inr (both_true _ _ framed other)
+    choose (inr other) = inr (and-both _ _ framed other)
 
 module _ (s : Slant) (scan : Page) (paper : Paper) (marks : Pixels) (p : Point) (shows : ShowsMarks s scan paper marks) (framed : IsInFrame scan p) (zone : IsInZone s paper p) where
   abbrev shown : Pixels

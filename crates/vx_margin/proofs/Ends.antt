@@ -1,5 +1,5 @@
 -- Where a scan begins that shows a turned page, and which places can't begin a border.
-use Rattle.std.proofs.Common.{◌≡◌, ◌⊎◌, inl, inr, ℕ, zero, suc, ◌+◌, ◌-◌, ◌*◌, ◌≤◌, ◌<◌, Bool, true, false, List, ℤ, pos, ◌+ℤ◌, ◌-ℤ◌, ◌≤ℤ◌, ◌<ℤ◌, refl, ap, sym, subst, ◌∙◌, arith}
+use Rattle.std.proofs.Common.{◌≡◌, ◌⊎◌, inl, inr, ℕ, zero, suc, ◌+◌, ◌-◌, ◌*◌, ◌≤◌, ◌<◌, true, List, ℤ, pos, ◌-ℤ◌, ◌≤ℤ◌, ◌<ℤ◌, refl, ap, subst, arith}
 use Rattle.std.proofs.lemmas.Int.{ints}
 use Rattle.std.proofs.lemmas.Bool.Decides.{nat_tests}
 use Rattle.vx_plane.specs.Plane.{Pixels, Page}
@@ -8,26 +8,24 @@ use Rattle.vx_grid.specs.declared.paper.Paper.{Paper}
 use Rattle.vx_grid.specs.declared.places.Point.{Point}
 use Rattle.vx_grid.specs.Paper.{last_row, first_y}
 use Rattle.vx_grid.specs.Grid.{x_of, y_of}
-use Rattle.vx_grid.specs.Marks.{marks as marks_of, marks_to, first_left, first_right, first_bottom, mark_of}
+use Rattle.vx_grid.specs.Marks.{marks as marks_of, mark_of}
 use Rattle.vx_grid.specs.Places.{IsWithin, point_at}
-use Rattle.vx_grid.specs.Regions.{inner_region}
-use Rattle.vx_mark_model.specs.Mark.{IsInFrame, IsAccepted}
+use Rattle.vx_mark_model.specs.Mark.{IsInFrame}
 use Rattle.vx_mark_model.specs.Corner.{IsInCornerRegion}
 use Rattle.vx_mark_model.specs.Best.{IsNear}
 use Rattle.vx_mark_model.specs.Following.{is_in_row, leader_of, right_of, prediction_of}
 use Rattle.vx_geom.specs.Slants.{Slant, IsSlant, paper_column, paper_row, scan_column, scan_row, right_by, down_by}
-use Rattle.vx_geom.specs.Seen.{seen}
 use Rattle.vx_geom.proofs.Floors.{down-near, right-near}
 use Rattle.vx_geom.proofs.Ways.{is-rigid, paper_column-scan, paper_row-scan}
 use Rattle.vx_geom.proofs.Turned.{turned-slant, down-turned, right-turned}
+use Rattle.vx_grid.proofs.Papers.{last-row_low, last-row_high, height-is}
 use Rattle.vx_margin.specs.Marks.{IsBorderPoint, AreMarks, image_of, mark_image, LiesNear, Belongs}
 use Rattle.vx_margin.specs.Shown.{ShowsMarks, ShowsBorder, IsInZone, IsInStartRegion}
 use Rattle.vx_margin.specs.Chains.{IsChain, LieAtMarks}
 use Rattle.vx_margin.specs.Turned.{IsTurned, last_x, last_y, slant_turned}
 use Rattle.vx_margin.proofs.Found.{wider, sum-within, alike, accepted-belongs}
-use Rattle.vx_margin.proofs.Images.{many_rows, few_rows, outside_is_zone}
+use Rattle.vx_margin.proofs.Images.{outside_is_zone}
 use Rattle.vx_margin.proofs.Steps.{right-predicted, one-point, accepted-at, near-from, near-back, is-near, left-of-inner}
-use Rattle.vx_margin.proofs.Turned.{height-is}
 use Rattle.vx_margin.proofs.Chains.{chain-near}
 
 -- the grid point right of the first mark of the left column has no mark
@@ -63,7 +61,7 @@ module _ (s : Slant) (slant : IsSlant s) (scan : Page) (paper : Paper) (marks : 
       let next : (c + k) + 1 ≡ c + suc k = omega arith in
       let expected : LiesNear 5 3 (right_of (point_at places k)) (image_of s paper (c + suc k) 0) =
       subst (λ (m : ℕ). LiesNear 5 3 (right_of (point_at places k)) (image_of s paper m 0)) next (right-predicted s slant paper (point_at places k) (c + k) 0 before) in
-      let predicted : prediction_of (last_row paper) places (suc k) ≡ right_of (point_at places k) = top-prediction (last_row paper) k places (many_rows paper) (omega (arith, within)) in
+      let predicted : prediction_of (last_row paper) places (suc k) ≡ right_of (point_at places k) = top-prediction (last_row paper) k places (last-row_low paper) (omega (arith, within)) in
       let near : IsNear (right_of (point_at places k)) (point_at places (suc k)) =
       subst (λ (q : Point). IsNear q (point_at places (suc k))) predicted (chain.near (suc k) (omega arith) (omega (arith, within, many))) in
       (accepted-at s slant scan paper marks are shows (c + suc k) 0 (omega (arith, within)) (omega arith) (inl refl) (right_of (point_at places k)) (point_at places (suc k)) expected
@@ -77,7 +75,7 @@ module _ (s : Slant) (slant : IsSlant s) (scan : Page) (paper : Paper) (marks : 
       let next : (c + k) + 1 ≡ 34 = omega (arith, high) in
       let expected : LiesNear 5 3 (right_of (point_at places k)) (image_of s paper 34 0) =
       subst (λ (m : ℕ). LiesNear 5 3 (right_of (point_at places k)) (image_of s paper m 0)) next (right-predicted s slant paper (point_at places k) (c + k) 0 last) in
-      let predicted : prediction_of (last_row paper) places (suc k) ≡ right_of (point_at places k) = top-prediction (last_row paper) k places (many_rows paper) (omega (arith, low, high)) in
+      let predicted : prediction_of (last_row paper) places (suc k) ≡ right_of (point_at places k) = top-prediction (last_row paper) k places (last-row_low paper) (omega (arith, low, high)) in
       let near : IsNear (right_of (point_at places k)) (point_at places (suc k)) =
       subst (λ (q : Point). IsNear q (point_at places (suc k))) predicted (chain.near (suc k) (omega arith) (omega (arith, low, many))) in
       let point : IsBorderPoint paper 34 0 =
@@ -91,7 +89,7 @@ module _ (s : Slant) (slant : IsSlant s) (scan : Page) (paper : Paper) (marks : 
       let p : Point = point_at places 1 in
       let q : Point = image_of s paper 1 1 in
       let expected : LiesNear 5 3 (right_of (point_at places 0)) q = right-predicted s slant paper (point_at places 0) 0 1 first in
-      let predicted : prediction_of (last_row paper) places 1 ≡ right_of (point_at places 0) = top-prediction (last_row paper) 0 places (many_rows paper) (omega arith) in
+      let predicted : prediction_of (last_row paper) places 1 ≡ right_of (point_at places 0) = top-prediction (last_row paper) 0 places (last-row_low paper) (omega arith) in
       let near : IsNear (right_of (point_at places 0)) p = subst (λ (o : Point). IsNear o p) predicted (chain.near 1 (omega arith) (omega (arith, many))) in
       let close : LiesNear 15 9 p q = near-from 10 6 5 3 p (right_of (point_at places 0)) q (is-near (right_of (point_at places 0)) p near) expected in
       let zone : IsInZone s paper p = record {
@@ -106,7 +104,7 @@ module _ (s : Slant) (slant : IsSlant s) (scan : Page) (paper : Paper) (marks : 
       let mark : Belongs s paper p = accepted-belongs s slant scan paper marks are shows p zone (chain.accepted 1 (omega (arith, many))) in
       let images : LiesNear 19 11 (image_of s paper mark.c mark.r) q = near-from 4 2 15 9 _ p q (near-back 4 2 p _ mark.near) close in
       let same = one-point s slant paper mark.c mark.r 1 1 images in
-      no-side (last_row paper) mark.c mark.r (many_rows paper) same.0 same.1 mark.point.side
+      no-side (last_row paper) mark.c mark.r (last-row_low paper) same.0 same.1 mark.point.side
 
 -- the scan of a turned page: its first mark is seen not far from the corner's region, and the chain begins there
 module _ (s : Slant) (scan other : Page) (paper : Paper) (marks turned_marks : Pixels) (turned : IsTurned scan other) (shows : ShowsBorder s other paper marks)
@@ -128,8 +126,8 @@ module _ (s : Slant) (scan other : Page) (paper : Paper) (marks turned_marks : P
   last-framed : IsInFrame other last
   last-framed =
       let k : ℕ = 33 + last_row paper in
-      let c : (mark_of (last_row paper) k).0 ≡ 33 = (let many = many_rows paper in grind (arith, nat_tests)) in
-      let r : (mark_of (last_row paper) k).1 ≡ last_row paper = (let many = many_rows paper in grind (arith, nat_tests)) in
+      let c : (mark_of (last_row paper) k).0 ≡ 33 = (let many = last-row_low paper in grind (arith, nat_tests)) in
+      let r : (mark_of (last_row paper) k).1 ≡ last_row paper = (let many = last-row_low paper in grind (arith, nat_tests)) in
       subst (λ (b : ℕ). IsInFrame other (image_of s paper 33 b)) r (subst (λ (a : ℕ). IsInFrame other (image_of s paper a (mark_of (last_row paper) k).1)) c (shows.in_frame k (omega arith)))
 
   -- the place of the paper that the first mark of the turned page lies over: a pixel off the last mark's centre
@@ -166,7 +164,7 @@ module _ (s : Slant) (scan other : Page) (paper : Paper) (marks turned_marks : P
   last-right : pos 1542 ≤ℤ (last.u -ℤ (mark_image s paper 0).u)
   last-right =
       let down : IsWithin 25 (down_by s (pos (x_of 33)) -ℤ down_by s (pos (x_of 0))) = down-near s shows.slant_is 25 _ _ (record { low = omega (arith, ints); high = omega (arith, ints) }) in
-      let few : last_row paper ≤ 51 = few_rows paper in
+      let few : last_row paper ≤ 51 = last-row_high paper in
       let right : IsWithin 42 (right_by s last.v -ℤ right_by s (mark_image s paper 0).v) =
       right-near s shows.slant_is 42 _ _ (record { low = omega (arith, ints, down.low); high = omega (arith, ints, down.high, few) }) in
       omega (arith, ints, right.low)
@@ -226,7 +224,7 @@ module _ (s : Slant) (scan other : Page) (paper : Paper) (marks turned_marks : P
     at-first zero zero few low side near = near
     at-first (suc c) zero few low side near = absurd (not-top t slant scan paper turned_marks are shown n many places chain (suc c) (omega arith) (omega (arith, few)) near)
     at-first zero (suc zero) few low side near = absurd (not-below t slant scan paper turned_marks are shown n many places chain near)
-    at-first (suc c) (suc zero) few low side near = absurd (not-side (last_row paper) (suc c) (suc zero) (many_rows paper) (omega arith) few (omega arith) low side)
+    at-first (suc c) (suc zero) few low side near = absurd (not-side (last_row paper) (suc c) (suc zero) (last-row_low paper) (omega arith) few (omega arith) low side)
     at-first c (suc (suc r)) few low side near = absurd (omega (arith, low))
 
     pub turned-chain : n ≤ marks_of paper → LieAtMarks t paper n places

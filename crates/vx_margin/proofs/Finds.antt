@@ -1,10 +1,10 @@
 -- What is found in a scan that shows its marks and zones.
-use Rattle.std.proofs.Common.{◌≡◌, ℕ, ◌≤◌, ◌<◌, List, arith}
+use Rattle.std.proofs.Common.{ℕ, ◌≤◌}
 use Rattle.vx_plane.specs.Plane.{Pixels, Page}
 use Rattle.vx_grid.specs.declared.paper.Paper.{Paper}
 use Rattle.vx_grid.specs.declared.places.Point.{Point}
 use Rattle.vx_grid.specs.declared.sizes.HalfSides.{HalfSides}
-use Rattle.vx_grid.specs.Sizes.{bubble, window_of, zone_of}
+use Rattle.vx_grid.specs.Sizes.{bubble, zone_of}
 use Rattle.vx_geom.specs.Slants.{Slant, IsSlant}
 use Rattle.vx_margin.specs.Marks.{mark_image, image_of, LiesNear}
 use Rattle.vx_margin.specs.Shown.{ShowsBorder, IsInStartRegion, ShowsZone}

@@ -1,5 +1,5 @@
 -- What is accepted lies at a timing mark.
-use Rattle.std.proofs.Common.{◌≡◌, ◌⊎◌, inl, inr, ℕ, ◌+◌, ◌*◌, ◌≤◌, ◌<◌, Bool, true, false, not, ℤ, pos, ◌+ℤ◌, ◌-ℤ◌, ◌≤ℤ◌, ◌<ℤ◌, refl, ap, sym, ◌∙◌, arith}
+use Rattle.std.proofs.Common.{◌≡◌, ℕ, ◌+◌, ◌*◌, ◌≤◌, Bool, true, false, not, ℤ, pos, ◌+ℤ◌, ◌-ℤ◌, ◌≤ℤ◌, ◌<ℤ◌, refl, arith}
 use Rattle.std.proofs.lemmas.Int.{ints, by_lt_z}
 use Rattle.vx_plane.specs.Plane.{Pixels, Page}
 use Rattle.vx_plane.specs.Count.{count_in, outside_of}
@@ -8,20 +8,16 @@ use Rattle.vx_grid.specs.declared.paper.Paper.{Paper}
 use Rattle.vx_grid.specs.declared.places.Point.{Point}
 use Rattle.vx_grid.specs.Places.{IsWithin}
 use Rattle.vx_grid.specs.Grid.{x_of, y_of}
-use Rattle.vx_mark_model.specs.Mark.{IsInFrame, IsAccepted, deficit_of}
+use Rattle.vx_mark_model.specs.Mark.{IsAccepted, deficit_of}
 use Rattle.vx_geom.specs.Slants.{Slant, IsSlant, paper_column, paper_row, scan_column, scan_row}
 use Rattle.vx_geom.specs.Seen.{seen}
 use Rattle.vx_geom.specs.Laws.{AreAlike}
 use Rattle.vx_geom.proofs.Ways.{is-rigid, paper_column-scan, paper_row-scan, scan_column-paper, scan_row-paper}
 use Rattle.vx_margin.specs.Marks.{IsBorderPoint, IsInMark, AreMarks, image_of, LiesNear, Belongs}
 use Rattle.vx_margin.specs.Shown.{ShowsMarks, IsInZone}
-use Rattle.vx_margin.specs.Deficits.{light_core, dark_flanks, deficit_in}
+use Rattle.vx_margin.specs.Deficits.{light_core, deficit_in}
 use Rattle.vx_margin.proofs.Parts.{count_in-at_least, count_in-some}
 use Rattle.vx_margin.proofs.Deficits.{deficit-below}
-
-pub is_false : (b : Bool) → (b ≡ true → ⊥) → b ≡ false
-is_false true h = absurd (h refl)
-is_false false h = refl
 
 is_light : (b : Bool) → (b ≡ true → ⊥) → not b ≡ true
 is_light true h = absurd (h refl)

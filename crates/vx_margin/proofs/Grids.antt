@@ -1,5 +1,5 @@
 -- Grid places lie near the images of their grid points.
-use Rattle.std.proofs.Common.{◌≡◌, ℕ, zero, suc, ◌+◌, ◌-◌, ◌*◌, ◌≤◌, ◌<◌, ℤ, pos, negsuc, ◌+ℤ◌, ◌-ℤ◌, ◌*ℤ◌, ◌≤ℤ◌, ◌<ℤ◌, refl, ap, sym, ◌∙◌, arith}
+use Rattle.std.proofs.Common.{◌≡◌, ℕ, ◌+◌, ◌-◌, ◌*◌, ◌≤◌, ◌<◌, ℤ, pos, negsuc, ◌+ℤ◌, ◌-ℤ◌, ◌*ℤ◌, ◌≤ℤ◌, ◌<ℤ◌, ap, sym, ◌∙◌, arith}
 use Rattle.std.proofs.lemmas.Int.{ints}
 use Rattle.std.proofs.Math.Nat.{add-mul}
 use Rattle.std.specs.Int.{int_div_euclid}
@@ -10,7 +10,7 @@ use Rattle.vx_grid.specs.Grid.{x_of, y_of}
 use Rattle.vx_fit.specs.Fit.{part_of, between, place_between}
 use Rattle.vx_geom.specs.Slants.{Slant, IsSlant, whole_of, down_by, right_by, scan_row, scan_column}
 use Rattle.vx_geom.proofs.Products.{product-within}
-use Rattle.vx_geom.proofs.Floors.{IsFloor, whole_of-is}
+use Rattle.vx_geom.proofs.Floors.{whole_of-is}
 use Rattle.vx_margin.specs.Marks.{image_of, LiesNear}
 use Rattle.vx_margin.proofs.Weights.{times, times-sum, times-less, times-add, times-natural, times-33, times-product, times_sum, times-slope, times-within, floors-mean}
 

@@ -1,34 +1,26 @@
 -- The image of a mark's centre is accepted.
-use Rattle.std.proofs.Common.{◌≡◌, ◌⊎◌, inl, inr, ℕ, ◌+◌, ◌-◌, ◌*◌, ◌≤◌, ◌<◌, Bool, true, false, not, ℤ, pos, ◌+ℤ◌, ◌-ℤ◌, ◌≤ℤ◌, ◌<ℤ◌, refl, ap, sym, ◌∙◌, arith}
-use Rattle.std.proofs.lemmas.Int.{ints, by_lt_z}
-use Rattle.vx_plane.specs.Plane.{Pixels, Page, rectangle}
+use Rattle.std.proofs.Common.{◌≡◌, ◌⊎◌, inl, inr, ℕ, ◌+◌, ◌-◌, ◌*◌, ◌≤◌, true, false, not, ℤ, pos, ◌+ℤ◌, ◌-ℤ◌, ap, arith}
+use Rattle.std.proofs.lemmas.Int.{ints}
+use Rattle.vx_base.proofs.Booleans.{is-false}
+use Rattle.vx_plane.specs.Plane.{Pixels, Page}
 use Rattle.vx_plane.specs.Count.{count_in, outside_of}
 use Rattle.vx_plane.proofs.Counts.{count_in-none}
 use Rattle.vx_plane.proofs.Pages.{rectangle-sides, rectangle-outside}
 use Rattle.vx_grid.specs.declared.paper.Paper.{Paper}
-use Rattle.vx_grid.specs.declared.paper.Paper.TheVariants.{Letter, Legal}
 use Rattle.vx_grid.specs.declared.places.Point.{Point}
 use Rattle.vx_grid.specs.Paper.{last_row, first_y}
 use Rattle.vx_grid.specs.Places.{IsWithin}
 use Rattle.vx_grid.specs.Grid.{last_column, x_of, y_of}
 use Rattle.vx_grid.specs.Regions.{inner_region, frame_zone}
 use Rattle.vx_mark_model.specs.Mark.{IsInFrame, IsAccepted, deficit_of}
-use Rattle.vx_geom.specs.Slants.{Slant, IsSlant, paper_column, paper_row}
+use Rattle.vx_geom.specs.Slants.{Slant, IsSlant}
 use Rattle.vx_geom.specs.Seen.{seen}
+use Rattle.vx_grid.proofs.Papers.{last-row_low}
 use Rattle.vx_margin.specs.Marks.{IsBorderPoint, AreMarks, image_of, LiesNear}
 use Rattle.vx_margin.specs.Shown.{ShowsMarks, IsInZone}
-use Rattle.vx_margin.specs.Deficits.{light_core, dark_flanks, deficit_in}
+use Rattle.vx_margin.specs.Deficits.{light_core, deficit_in}
 use Rattle.vx_margin.proofs.Deficits.{deficit-above}
-use Rattle.vx_margin.proofs.Found.{is_false, wider, sum-within, alike, light-right, light-left, light-below, light-over, dark-near}
-
--- a page has many rows
-pub many_rows : (paper : Paper) → 40 ≤ last_row paper
-many_rows Letter = omega arith
-many_rows Legal = omega arith
-
-pub few_rows : (paper : Paper) → last_row paper ≤ 51
-few_rows Letter = omega arith
-few_rows Legal = omega arith
+use Rattle.vx_margin.proofs.Found.{wider, sum-within, alike, light-right, light-left, light-below, light-over, dark-near}
 
 -- a grid point on a line of border points: the first or the last row or column, whatever the other
 abbrev pub IsOnBorderLine : Paper → ℕ → ℕ → Type 0
@@ -43,7 +35,7 @@ zone-near : (paper : Paper) (c r : ℕ) (x y : ℤ) → c ≤ 34 → r ≤ last_
 zone-near paper c r x y few low (inl top) a b =
     outside_is_zone paper x y (rectangle-outside (pos 178) (pos (first_y paper + 130)) 1344 (52 * last_row paper - 260) x y (inr (inr (inl (omega (arith, ints, b.high, top))))))
 zone-near paper c r x y few low (inr (inl bottom)) a b =
-    outside_is_zone paper x y (rectangle-outside (pos 178) (pos (first_y paper + 130)) 1344 (52 * last_row paper - 260) x y (inr (inr (inr (omega (arith, ints, b.low, bottom, many_rows paper))))))
+    outside_is_zone paper x y (rectangle-outside (pos 178) (pos (first_y paper + 130)) 1344 (52 * last_row paper - 260) x y (inr (inr (inr (omega (arith, ints, b.low, bottom, last-row_low paper))))))
 zone-near paper c r x y few low (inr (inr (inl left))) a b =
     outside_is_zone paper x y (rectangle-outside (pos 178) (pos (first_y paper + 130)) 1344 (52 * last_row paper - 260) x y (inl (omega (arith, ints, a.high, left))))
 zone-near paper c r x y few low (inr (inr (inr right))) a b =
@@ -83,22 +75,22 @@ module _ (s : Slant) (slant : IsSlant s) (scan : Page) (paper : Paper) (marks : 
   left-light : count_in (q.u -ℤ pos 23) (q.v -ℤ pos 5) 4 10 shown ≡ 0
   left-light =
       count_in-none (q.u -ℤ pos 23) (q.v -ℤ pos 5) 4 10 shown
-      (λ u v a b d e. is_false _ (light-left s slant paper marks are c r point u v (omega (arith, ints, b)) (omega (arith, ints, a)) (record { low = omega (arith, ints, d); high = omega (arith, ints, e) })))
+      (λ u v a b d e. is-false _ (light-left s slant paper marks are c r point u v (omega (arith, ints, b)) (omega (arith, ints, a)) (record { low = omega (arith, ints, d); high = omega (arith, ints, e) })))
 
   right-light : count_in (q.u +ℤ pos 19) (q.v -ℤ pos 5) 4 10 shown ≡ 0
   right-light =
       count_in-none (q.u +ℤ pos 19) (q.v -ℤ pos 5) 4 10 shown
-      (λ u v a b d e. is_false _ (light-right s slant paper marks are c r point u v (omega (arith, ints, a)) (omega (arith, ints, b)) (record { low = omega (arith, ints, d); high = omega (arith, ints, e) })))
+      (λ u v a b d e. is-false _ (light-right s slant paper marks are c r point u v (omega (arith, ints, a)) (omega (arith, ints, b)) (record { low = omega (arith, ints, d); high = omega (arith, ints, e) })))
 
   top-light : count_in (q.u -ℤ pos 17) (q.v -ℤ pos 11) 34 4 shown ≡ 0
   top-light =
       count_in-none (q.u -ℤ pos 17) (q.v -ℤ pos 11) 34 4 shown
-      (λ u v a b d e. is_false _ (light-over s slant paper marks are c r point u v (record { low = omega (arith, ints, a); high = omega (arith, ints, b) }) (omega (arith, ints, e)) (omega (arith, ints, d))))
+      (λ u v a b d e. is-false _ (light-over s slant paper marks are c r point u v (record { low = omega (arith, ints, a); high = omega (arith, ints, b) }) (omega (arith, ints, e)) (omega (arith, ints, d))))
 
   bottom-light : count_in (q.u -ℤ pos 17) (q.v +ℤ pos 7) 34 4 shown ≡ 0
   bottom-light =
       count_in-none (q.u -ℤ pos 17) (q.v +ℤ pos 7) 34 4 shown
-      (λ u v a b d e. is_false _ (light-below s slant paper marks are c r point u v (record { low = omega (arith, ints, a); high = omega (arith, ints, b) }) (omega (arith, ints, d)) (omega (arith, ints, e))))
+      (λ u v a b d e. is-false _ (light-below s slant paper marks are c r point u v (record { low = omega (arith, ints, a); high = omega (arith, ints, b) }) (omega (arith, ints, d)) (omega (arith, ints, e))))
 
   -- the image of a mark's centre is accepted, where its footprint lies in the frame
   pub image-accepted : IsInFrame scan q → IsAccepted scan q

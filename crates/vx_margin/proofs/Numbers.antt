@@ -1,15 +1,15 @@
 -- The numbers of the timing marks.
-use Rattle.std.proofs.Common.{◌≡◌, ◌⊎◌, ⊎_elim, inl, inr, ℕ, zero, suc, ◌+◌, ◌-◌, ◌*◌, ◌≤◌, ◌<◌, ◌==◌, ◌||◌, Bool, true, false, nat_lt, if◌then◌else◌, refl, ap, sym, subst, ◌∙◌, arith}
+use Rattle.std.proofs.Common.{◌≡◌, ◌⊎◌, ⊎_elim, inl, inr, ℕ, zero, suc, ◌+◌, ◌-◌, ◌*◌, ◌≤◌, ◌<◌, true, false, arith}
 use Rattle.std.proofs.lemmas.Bool.{cases_lt}
 use Rattle.std.proofs.lemmas.Bool.Decides.{nat_tests}
 use Rattle.vx_grid.specs.declared.paper.Paper.{Paper}
 use Rattle.vx_grid.specs.Paper.{last_row}
-use Rattle.vx_grid.specs.Grid.{last_column}
-use Rattle.vx_grid.specs.Marks.{first_right, first_left, first_bottom, marks, marks_to, mark_of}
+use Rattle.vx_grid.specs.Marks.{marks, marks_to, mark_of}
+use Rattle.vx_grid.proofs.Papers.{last-row_low}
+use Rattle.vx_grid.proofs.MarkPlaces.{mark-column, mark-row}
 use Rattle.vx_mark_model.specs.Following.{is_in_row, leader_of}
 use Rattle.vx_fit.specs.Fit.{left_mark, right_mark}
 use Rattle.vx_margin.specs.Marks.{IsBorderPoint}
-use Rattle.vx_margin.proofs.Images.{many_rows}
 
 -- where the marks of each side stand
 top-mark : (last k : ℕ) → k < 34 → mark_of last k ≡ (k, 0)
@@ -34,23 +34,17 @@ pub mark-below : (last k : ℕ) → 40 ≤ last → 0 < k → is_in_row last k �
     → ((mark_of last k).0 ≡ (mark_of last (leader_of last k)).0) × ((mark_of last k).1 ≡ (mark_of last (leader_of last k)).1 + 1)
 mark-below last k many some column = (grind (arith, nat_tests), grind (arith, nat_tests))
 
--- a mark stands at a border point
-mark-column : (last k : ℕ) → 40 ≤ last → k < marks_to last → (mark_of last k).0 ≤ 33
-mark-column last k many few = grind (arith, nat_tests)
-
-mark-row : (last k : ℕ) → 40 ≤ last → k < marks_to last → (mark_of last k).1 ≤ last
-mark-row last k many few = grind (arith, nat_tests)
-
 cases_of : {P : Type 0} (last k : ℕ) → (k < 34 → P) → (34 ≤ k → k < 34 + last → P) → (34 + last ≤ k → k < 34 + 2 * last → P) → (34 + 2 * last ≤ k → P) → P
 cases_of last k top right left bottom =
     ⊎_elim top
     (λ a. ⊎_elim (right a) (λ b. ⊎_elim (left b) bottom (cases_lt k (34 + 2 * last))) (cases_lt k (34 + last)))
     (cases_lt k 34)
 
+-- a mark stands at a border point
 pub mark-point : (paper : Paper) (k : ℕ) → k < marks paper → IsBorderPoint paper (mark_of (last_row paper) k).0 (mark_of (last_row paper) k).1
 mark-point paper k few =
     let last : ℕ = last_row paper in
-    let many : 40 ≤ last = many_rows paper in
+    let many : 40 ≤ last = last-row_low paper in
     record {
       column = mark-column last k many few;
       row = mark-row last k many few;

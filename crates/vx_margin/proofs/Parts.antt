@@ -1,24 +1,13 @@
 -- Counts in rectangles that lie in each other.
-use Rattle.std.proofs.Common.{◌≡◌, ◌⊎◌, inl, inr, ℕ, zero, suc, ◌+◌, ◌*◌, ◌≤◌, ◌<◌, le_trans, Bool, true, false, not, ◌&&◌, ◌||◌, ℤ, pos, ◌+ℤ◌, ◌-ℤ◌, ◌≤ℤ◌, ◌<ℤ◌, refl, ap, sym, ◌∙◌, arith}
+use Rattle.std.proofs.Common.{◌≡◌, ◌⊎◌, inl, inr, ℕ, zero, suc, ◌+◌, ◌*◌, ◌≤◌, ◌<◌, le_trans, Bool, true, false, ◌&&◌, ◌||◌, ℤ, pos, ◌+ℤ◌, ◌-ℤ◌, ◌≤ℤ◌, ◌<ℤ◌, refl, ap, sym, ◌∙◌, arith}
 use Rattle.std.proofs.lemmas.Int.{ints}
 use Rattle.vx_plane.specs.Plane.{Pixels, rectangle, union}
-use Rattle.vx_plane.specs.Count.{one_if, sum_from, count_in, outside_of}
+use Rattle.vx_plane.specs.Count.{one_if, sum_from, count_in}
 use Rattle.vx_plane.proofs.Sums.{sum_from-same, sum_from-le, sum_from-same_number}
 use Rattle.vx_plane.proofs.Counts.{count_in-by_rows, count_in-le, count_in-rows, count_in-columns, count_in-all, count_in-union_le}
 use Rattle.vx_plane.proofs.Pages.{rectangle-inside, rectangle-sides, rectangle-outside}
 use Rattle.vx_geom.proofs.Runs.{LiesOutside, run_le}
-
-cut-true : (a b : Bool) → a ≡ true → b ≡ true → (a && b) ≡ true
-cut-true true b h g = g
-cut-true false b h g = cc
-
-cut-first : (a b : Bool) → (a && b) ≡ true → a ≡ true
-cut-first true b h = refl
-cut-first false b h = cc
-
-cut-none : (a b : Bool) → b ≡ false → one_if (a && b) ≡ 0
-cut-none true b h = ap one_if h
-cut-none false b h = refl
+use Rattle.vx_geom.proofs.Shown.{cut-none}
 
 kept : (a b : Bool) → (a ≡ true → b ≡ true) → one_if a ≡ one_if (a && b)
 kept true b h = ap one_if (sym (h refl))

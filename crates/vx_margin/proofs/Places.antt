@@ -1,20 +1,19 @@
 -- The timing marks of a page, and its grid places.
-use Rattle.std.proofs.Common.{◌≡◌, ◌⊎◌, inl, inr, ℕ, ◌+◌, ◌-◌, ◌*◌, ◌≤◌, ◌<◌, Bool, true, List, ℤ, pos, ◌+ℤ◌, ◌-ℤ◌, ◌≤ℤ◌, ◌<ℤ◌, refl, ap, sym, subst, ◌∙◌, arith}
+use Rattle.std.proofs.Common.{◌≡◌, ℕ, ◌≤◌, true, ℤ, pos, ◌-ℤ◌, sym, subst, arith}
 use Rattle.std.proofs.lemmas.Int.{ints}
-use Rattle.vx_plane.specs.Plane.{Pixels, in_any}
 use Rattle.vx_plane.proofs.Pages.{in_any-some, in_any-one, rectangle-inside, rectangle-sides}
 use Rattle.vx_grid.specs.declared.paper.Paper.{Paper}
 use Rattle.vx_grid.specs.declared.places.Point.{Point}
 use Rattle.vx_grid.specs.Paper.{last_row}
-use Rattle.vx_grid.specs.Grid.{x_of, y_of, last_column}
-use Rattle.vx_grid.specs.Marks.{marks, marks_to, mark_of, mark_pixels, timing_marks}
+use Rattle.vx_grid.specs.Grid.{x_of, y_of}
+use Rattle.vx_grid.specs.Marks.{marks, mark_of, mark_pixels, timing_marks}
 use Rattle.vx_grid.specs.Borders.{MarkPlaces}
 use Rattle.vx_grid.specs.Places.{point_at}
 use Rattle.vx_fit.specs.Fit.{left_mark, right_mark, place_of}
 use Rattle.vx_geom.specs.Slants.{Slant, IsSlant}
-use Rattle.vx_margin.specs.Marks.{IsBorderPoint, IsInMark, AreMarks, image_of, LiesNear}
+use Rattle.vx_grid.proofs.Papers.{last-row_low}
+use Rattle.vx_margin.specs.Marks.{IsInMark, AreMarks, image_of, LiesNear}
 use Rattle.vx_margin.specs.Chains.{LieAtMarks}
-use Rattle.vx_margin.proofs.Images.{many_rows}
 use Rattle.vx_margin.proofs.Numbers.{mark-point, number-at, left-end, right-end}
 use Rattle.vx_margin.proofs.Grids.{grid-near}
 
@@ -38,7 +37,7 @@ pub marks-are : (paper : Paper) → AreMarks paper (timing_marks paper)
 unfolding timing_marks
 marks-are paper = record {
   dark = λ c r x y point inside.
-      let k = number-at (last_row paper) c r (many_rows paper) point.column point.row point.side in
+      let k = number-at (last_row paper) c r (last-row_low paper) point.column point.row point.side in
       let In : ℕ → ℕ → Type 0 = λ a b. IsInMark paper a b x y in
       in_any-one (marks paper) k.0 (mark_pixels paper) x y k.1
       (mark-dark paper k.0 x y (subst (λ (b : ℕ). In (mark_of (last_row paper) k.0).0 b) (sym k.3) (subst (λ (a : ℕ). In a r) (sym k.2) inside)));
@@ -53,8 +52,8 @@ pub places-near : (s : Slant) → IsSlant s → (border : MarkPlaces) → LieAtM
 places-near s slant border near c r few low =
     let paper : Paper = border.paper in
     let last : ℕ = last_row paper in
-    let l = left-end last r (many_rows paper) low in
-    let t = right-end last r (many_rows paper) low in
+    let l = left-end last r (last-row_low paper) low in
+    let t = right-end last r (last-row_low paper) low in
     let left : Point = point_at border.places (left_mark last r) in
     let right : Point = point_at border.places (right_mark r) in
     let At : Point → ℕ → ℕ → Type 0 = λ p a b. LiesNear 4 2 p (image_of s paper a b) in

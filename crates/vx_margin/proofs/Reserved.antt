@@ -1,5 +1,5 @@
 -- What a turned scan has where the page code of a page as it lies would be.
-use Rattle.std.proofs.Common.{◌≡◌, ℕ, ◌+◌, ◌-◌, ◌*◌, ◌≤◌, Bool, ℤ, pos, ◌+ℤ◌, ◌-ℤ◌, refl, ap, sym, ◌∙◌, arith}
+use Rattle.std.proofs.Common.{◌≡◌, ℕ, ◌+◌, ◌-◌, ◌≤◌, ℤ, pos, ◌+ℤ◌, ◌-ℤ◌, ap, ◌∙◌, arith}
 use Rattle.std.proofs.lemmas.Int.{ints}
 use Rattle.vx_plane.specs.Plane.{Pixels, Page}
 use Rattle.vx_plane.specs.Count.{count_in}
@@ -10,10 +10,11 @@ use Rattle.vx_grid.specs.Paper.{last_row}
 use Rattle.vx_grid.specs.Grid.{x_of, y_of}
 use Rattle.vx_geom.specs.Slants.{Slant, scan_row, scan_column, right_by}
 use Rattle.vx_geom.proofs.Turned.{down-turned, right-turned}
+use Rattle.vx_grid.proofs.Papers.{height-is}
 use Rattle.vx_margin.specs.Flips.{flips, flips_on}
 use Rattle.vx_margin.specs.Shown.{count_round}
 use Rattle.vx_margin.specs.Turned.{IsTurned, last_x, last_y, turned_set, slant_turned}
-use Rattle.vx_margin.proofs.Turned.{height-is, count_in-turned_round, flips-turned}
+use Rattle.vx_margin.proofs.Turned.{count_in-turned_round, flips-turned}
 
 -- a count round a grid point, from the other end of the paper
 pub round-turned : (paper : Paper) (half : HalfSides) (c r : ℕ) (set : Pixels) → c ≤ 33 → r ≤ last_row paper

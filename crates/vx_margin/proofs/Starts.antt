@@ -1,5 +1,5 @@
 -- A chain of places that begins where a corner may be begins at the first mark.
-use Rattle.std.proofs.Common.{◌≡◌, ◌⊎◌, ℕ, zero, suc, ◌*◌, ◌≤◌, List, ℤ, pos, ◌-ℤ◌, ◌≤ℤ◌, arith}
+use Rattle.std.proofs.Common.{◌≡◌, ◌⊎◌, ℕ, zero, suc, ◌*◌, ◌≤◌, List, pos, ◌-ℤ◌, ◌≤ℤ◌, arith}
 use Rattle.std.proofs.lemmas.Int.{ints}
 use Rattle.vx_plane.specs.Plane.{Pixels, Page}
 use Rattle.vx_grid.specs.declared.paper.Paper.{Paper}
@@ -11,11 +11,11 @@ use Rattle.vx_grid.specs.Places.{point_at}
 use Rattle.vx_mark_model.specs.Corner.{IsInCornerRegion}
 use Rattle.vx_geom.specs.Slants.{Slant, paper_column, paper_row}
 use Rattle.vx_geom.proofs.Ways.{is-rigid, paper_column-scan, paper_row-scan}
+use Rattle.vx_grid.proofs.Papers.{last-row_low}
 use Rattle.vx_margin.specs.Marks.{mark_image, image_of, LiesNear, Belongs}
 use Rattle.vx_margin.specs.Shown.{ShowsBorder, IsInStartRegion}
 use Rattle.vx_margin.specs.Chains.{IsChain, LieAtMarks}
 use Rattle.vx_margin.proofs.Found.{wider, accepted-belongs}
-use Rattle.vx_margin.proofs.Images.{many_rows}
 use Rattle.vx_margin.proofs.Steps.{near-from, near-back, corner-apart, corner-zone}
 use Rattle.vx_margin.proofs.Chains.{chain-near}
 use Rattle.vx_margin.proofs.Ends.{not-side, not-top, not-below}
@@ -45,7 +45,7 @@ module _ (s : Slant) (scan : Page) (paper : Paper) (marks : Pixels) (shows : Sho
     at-first zero zero few low side near = near
     at-first (suc c) zero few low side near = absurd (not-top s shows.slant_is scan paper marks shows.marks_are shows.shows n many places chain (suc c) (omega arith) (omega (arith, few)) near)
     at-first zero (suc zero) few low side near = absurd (not-below s shows.slant_is scan paper marks shows.marks_are shows.shows n many places chain near)
-    at-first (suc c) (suc zero) few low side near = absurd (not-side (last_row paper) (suc c) (suc zero) (many_rows paper) (omega arith) (omega (arith, few)) (omega arith) low side)
+    at-first (suc c) (suc zero) few low side near = absurd (not-side (last_row paper) (suc c) (suc zero) (last-row_low paper) (omega arith) (omega (arith, few)) (omega arith) low side)
     at-first c (suc (suc r)) few low side near = absurd (omega (arith, low))
 
     first-near : LiesNear 4 2 (point_at places 0) first

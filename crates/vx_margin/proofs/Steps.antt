@@ -1,5 +1,5 @@
 -- From a mark to the next one, and to the first.
-use Rattle.std.proofs.Common.{◌≡◌, ◌⊎◌, inl, inr, ℕ, ◌+◌, ◌-◌, ◌*◌, ◌≤◌, ◌<◌, Bool, true, false, ℤ, pos, ◌+ℤ◌, ◌-ℤ◌, ◌≤ℤ◌, ◌<ℤ◌, refl, ap, sym, subst, ◌∙◌, arith}
+use Rattle.std.proofs.Common.{◌≡◌, inl, ℕ, ◌+◌, ◌-◌, ◌*◌, ◌≤◌, false, ℤ, pos, ◌+ℤ◌, ◌-ℤ◌, ◌≤ℤ◌, ◌<ℤ◌, refl, subst, arith}
 use Rattle.std.proofs.lemmas.Int.{ints, by_lt_z}
 use Rattle.vx_plane.specs.Plane.{Pixels, Page}
 use Rattle.vx_plane.proofs.Pages.{rectangle-sides, rectangle-outside}
@@ -10,12 +10,10 @@ use Rattle.vx_grid.specs.Places.{IsWithin}
 use Rattle.vx_grid.specs.Grid.{x_of, y_of}
 use Rattle.vx_grid.specs.Regions.{inner_region}
 use Rattle.vx_mark_model.specs.Mark.{IsInFrame, IsAccepted}
-use Rattle.vx_mark_model.specs.Corner.{IsCorner, IsInCornerRegion, ComesBefore}
+use Rattle.vx_mark_model.specs.Corner.{IsCorner, IsInCornerRegion}
 use Rattle.vx_mark_model.specs.Best.{IsNear}
 use Rattle.vx_mark_model.specs.Following.{right_of, below}
-use Rattle.vx_geom.specs.Slants.{Slant, IsSlant, paper_column, paper_row, scan_column, scan_row}
-use Rattle.vx_geom.specs.Seen.{seen}
-use Rattle.vx_geom.specs.Laws.{AreAlike}
+use Rattle.vx_geom.specs.Slants.{Slant, IsSlant, paper_column, paper_row}
 use Rattle.vx_geom.proofs.Ways.{is-rigid, paper_column-scan, paper_row-scan}
 use Rattle.vx_margin.specs.Marks.{IsBorderPoint, AreMarks, image_of, LiesNear, Belongs}
 use Rattle.vx_margin.specs.Shown.{ShowsMarks, ShowsBorder, IsInZone, IsInStartRegion}

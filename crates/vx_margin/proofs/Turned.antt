@@ -1,36 +1,26 @@
 -- What a scan shows of the page that it shows when it is turned.
-use Rattle.std.proofs.Common.{◌≡◌, ◌⊎◌, inl, inr, ℕ, zero, suc, ◌+◌, ◌-◌, ◌*◌, ◌≤◌, ◌<◌, Bool, true, false, not, ◌&&◌, ℤ, pos, ◌+ℤ◌, ◌-ℤ◌, ◌≤ℤ◌, ◌<ℤ◌, refl, ap, ap₂, sym, subst, ◌∙◌, arith}
+use Rattle.std.proofs.Common.{◌≡◌, ◌⊎◌, inl, inr, ℕ, zero, suc, ◌+◌, ◌-◌, ◌*◌, ◌≤◌, Bool, not, ◌&&◌, ℤ, pos, ◌+ℤ◌, ◌-ℤ◌, refl, ap, ap₂, sym, subst, ◌∙◌, arith}
 use Rattle.std.proofs.lemmas.Int.{ints}
-use Rattle.vx_plane.specs.Plane.{Pixels, Page, rectangle, dark_at}
+use Rattle.vx_base.proofs.Booleans.{same-bool}
+use Rattle.vx_plane.specs.Plane.{Pixels, Page, dark_at}
 use Rattle.vx_plane.specs.Count.{one_if, sum_from, count_in}
 use Rattle.vx_plane.proofs.Sums.{sum_from-same, sum_from-more}
 use Rattle.vx_plane.proofs.Counts.{count_in-by_rows, count_in-same}
 use Rattle.vx_plane.proofs.Pages.{rectangle-inside, rectangle-sides}
 use Rattle.vx_grid.specs.declared.paper.Paper.{Paper}
-use Rattle.vx_grid.specs.declared.paper.Paper.TheVariants.{Letter, Legal}
 use Rattle.vx_grid.specs.declared.places.Point.{Point}
-use Rattle.vx_grid.specs.Paper.{page_width, page_height, last_row, first_y}
-use Rattle.vx_grid.specs.Grid.{x_of, y_of, last_column}
-use Rattle.vx_grid.specs.Regions.{inner_region, frame_zone}
+use Rattle.vx_grid.specs.Paper.{last_row, first_y}
+use Rattle.vx_grid.specs.Grid.{last_column}
+use Rattle.vx_grid.specs.Regions.{frame_zone}
 use Rattle.vx_mark_model.specs.Mark.{IsInFrame}
-use Rattle.vx_geom.specs.Slants.{Slant, IsSlant, paper_column, paper_row}
+use Rattle.vx_geom.specs.Slants.{Slant, paper_column, paper_row}
 use Rattle.vx_geom.specs.Seen.{seen}
-use Rattle.vx_geom.proofs.Turned.{turned-slant, column-turned, row-turned}
+use Rattle.vx_geom.proofs.Turned.{column-turned, row-turned}
+use Rattle.vx_grid.proofs.Papers.{last-row_low, height-is}
 use Rattle.vx_margin.specs.Marks.{IsBorderPoint, IsInMark, AreMarks}
 use Rattle.vx_margin.specs.Flips.{differ, flips, flips_in, frame_of}
 use Rattle.vx_margin.specs.Shown.{count_at, ShowsMarks}
-use Rattle.vx_margin.proofs.Images.{many_rows}
 use Rattle.vx_margin.specs.Turned.{IsTurned, last_x, last_y, turned_set, slant_turned}
-
--- the height of a page is what its rows say
-pub height-is : (paper : Paper) → page_height paper ≡ first_y paper + first_y paper + 52 * last_row paper
-height-is Letter = refl
-height-is Legal = refl
-
-same_bool : (a b : Bool) → (a ≡ true → b ≡ true) → (b ≡ true → a ≡ true) → a ≡ b
-same_bool true b to from = sym (to refl)
-same_bool false true to from = from refl
-same_bool false false to from = refl
 
 -- a sum from the other end
 sum_from-turned : (end low : ℤ) (n : ℕ) (f : ℤ → ℕ) → sum_from low n (λ z. f (end -ℤ z)) ≡ sum_from (((end -ℤ low) -ℤ pos n) +ℤ pos 1) n f
@@ -61,13 +51,13 @@ count_in-turned_round u_end v_end left top width height set =
 -- the frame zone is the same from the other end
 zone-turned : (paper : Paper) (x y : ℤ) → frame_zone paper (last_x -ℤ x) (last_y paper -ℤ y) ≡ frame_zone paper x y
 zone-turned paper x y =
-    ap not (same_bool _ _
+    ap not (same-bool _ _
     (λ h. let s = rectangle-sides (pos 178) (pos (first_y paper + 130)) 1344 (52 * last_row paper - 260) (last_x -ℤ x) (last_y paper -ℤ y) h in
     rectangle-inside (pos 178) (pos (first_y paper + 130)) 1344 (52 * last_row paper - 260) x y
-    (omega (arith, ints, s.1)) (omega (arith, ints, s.0)) (omega (arith, ints, s.3, height-is paper, many_rows paper)) (omega (arith, ints, s.2, height-is paper, many_rows paper)))
+    (omega (arith, ints, s.1)) (omega (arith, ints, s.0)) (omega (arith, ints, s.3, height-is paper, last-row_low paper)) (omega (arith, ints, s.2, height-is paper, last-row_low paper)))
     (λ h. let s = rectangle-sides (pos 178) (pos (first_y paper + 130)) 1344 (52 * last_row paper - 260) x y h in
     rectangle-inside (pos 178) (pos (first_y paper + 130)) 1344 (52 * last_row paper - 260) (last_x -ℤ x) (last_y paper -ℤ y)
-    (omega (arith, ints, s.1)) (omega (arith, ints, s.0)) (omega (arith, ints, s.3, height-is paper, many_rows paper)) (omega (arith, ints, s.2, height-is paper, many_rows paper))))
+    (omega (arith, ints, s.1)) (omega (arith, ints, s.0)) (omega (arith, ints, s.3, height-is paper, last-row_low paper)) (omega (arith, ints, s.2, height-is paper, last-row_low paper))))
 
 -- the border points are the same from the other end
 point-turned : (paper : Paper) (c r : ℕ) → IsBorderPoint paper c r → IsBorderPoint paper (33 - c) (last_row paper - r)
@@ -132,7 +122,7 @@ module _ (s : Slant) (scan other : Page) (paper : Paper) (turned : IsTurned scan
   -- and its flips
   pub frame-turned : (u v : ℤ) → frame_of scan u v ≡ frame_of other (w -ℤ u) (h -ℤ v)
   frame-turned u v =
-      same_bool _ _
+      same-bool _ _
       (λ q. let k = rectangle-sides (pos 0) (pos 0) scan.width scan.height u v q in
       rectangle-inside (pos 0) (pos 0) other.width other.height (w -ℤ u) (h -ℤ v)
       (omega (arith, ints, k.1)) (omega (arith, ints, k.0, turned.width)) (omega (arith, ints, k.3)) (omega (arith, ints, k.2, turned.height)))

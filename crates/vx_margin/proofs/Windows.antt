@@ -1,5 +1,5 @@
 -- Windows at grid places hold what was printed, and lie in its zone.
-use Rattle.std.proofs.Common.{◌≡◌, ◌⊎◌, inl, inr, ℕ, ◌+◌, ◌-◌, ◌*◌, ◌≤◌, ◌<◌, Bool, true, false, ◌||◌, ℤ, pos, ◌+ℤ◌, ◌-ℤ◌, ◌≤ℤ◌, ◌<ℤ◌, refl, ap, sym, subst, ◌∙◌, arith}
+use Rattle.std.proofs.Common.{◌≡◌, ◌⊎◌, inl, inr, ℕ, ◌+◌, ◌≤◌, Bool, true, false, ◌||◌, ℤ, pos, ◌+ℤ◌, ◌-ℤ◌, ◌≤ℤ◌, ◌<ℤ◌, refl, ap, sym, ◌∙◌, arith}
 use Rattle.std.proofs.lemmas.Int.{ints}
 use Rattle.vx_plane.specs.Plane.{Pixels, Page, rectangle, union, dark_at}
 use Rattle.vx_plane.specs.Count.{count_in}
@@ -16,7 +16,7 @@ use Rattle.vx_geom.specs.Seen.{seen}
 use Rattle.vx_geom.proofs.Ways.{is-rigid, scan_column-paper, scan_row-paper}
 use Rattle.vx_geom.proofs.Shown.{seen_le, seen_ge}
 use Rattle.vx_margin.specs.Marks.{image_of, LiesNear}
-use Rattle.vx_margin.specs.Flips.{flips, flips_on, frame_of, differ}
+use Rattle.vx_margin.specs.Flips.{flips, flips_on, frame_of}
 use Rattle.vx_margin.specs.Shown.{ShowsZone, count_round, dark_round}
 use Rattle.vx_margin.proofs.Parts.{changed-le}
 use Rattle.vx_margin.proofs.Deficits.{as_or_flip, swapped}

@@ -3,7 +3,6 @@ use Rattle.std.specs.Prelude.{◌<◌, ℕ, List}
 use Rattle.vx_plane.specs.Plane.{Page}
 use Rattle.vx_grid.specs.declared.paper.Paper.{Paper}
 use Rattle.vx_grid.specs.declared.places.Point.{Point}
-use Rattle.vx_grid.specs.Paper.{last_row}
 use Rattle.vx_grid.specs.Places.{point_at}
 use Rattle.vx_mark_model.specs.Mark.{IsAccepted}
 use Rattle.vx_mark_model.specs.Best.{IsNear}

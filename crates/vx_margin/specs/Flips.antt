@@ -1,5 +1,5 @@
 -- Pixels of a scan that differ from what the paper shows there.
-use Rattle.std.specs.Prelude.{Bool, true, false, not, ◌&&◌, ℤ, pos}
+use Rattle.std.specs.Prelude.{Bool, true, false, not, ◌&&◌, pos}
 use Rattle.vx_plane.specs.Plane.{Pixels, Page, rectangle, dark_at}
 use Rattle.vx_geom.specs.Slants.{Slant}
 use Rattle.vx_geom.specs.Seen.{seen, laid_back}

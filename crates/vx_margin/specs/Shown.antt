@@ -13,7 +13,7 @@ use Rattle.vx_geom.specs.Slants.{Slant, IsSlant, scan_column, scan_row}
 use Rattle.vx_geom.specs.Seen.{seen}
 use Rattle.vx_grid.specs.Marks.{marks as marks_of}
 use Rattle.vx_margin.specs.Marks.{AreMarks, mark_image}
-use Rattle.vx_margin.specs.Flips.{flips, flips_in, flips_on, frame_of}
+use Rattle.vx_margin.specs.Flips.{flips_in, flips_on, frame_of}
 
 -- the number of places of a set in the footprint of a place
 abbrev pub count_at : Point → Pixels → ℕ

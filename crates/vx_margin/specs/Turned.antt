@@ -1,5 +1,5 @@
 -- A scan and the same turned by 180 degrees.
-use Rattle.std.specs.Prelude.{◌≡◌, ◌-◌, ℕ, ℤ, pos, ◌-ℤ◌}
+use Rattle.std.specs.Prelude.{◌≡◌, ℤ, pos, ◌-ℤ◌}
 use Rattle.vx_plane.specs.Plane.{Pixels, Page, dark_at}
 use Rattle.vx_grid.specs.declared.paper.Paper.{Paper}
 use Rattle.vx_grid.specs.Paper.{page_width, page_height}

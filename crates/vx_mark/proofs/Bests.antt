@@ -2,14 +2,15 @@
 use Rattle.std.proofs.Common.{◌≡◌, ◌+◌, ◌-◌, ◌≤◌, ◌<◌, ◌⊎◌, inl, inr, ℕ, pos, ◌+ℤ◌, ◌-ℤ◌, ◌≤ℤ◌, ◌<ℤ◌, Option, Some, None, arith, refl, sym, subst}
 use Rattle.std.proofs.lemmas.Int.{ints, by_lt_z}
 use Rattle.std.proofs.lemmas.Bool.{cases_lt}
+use Rattle.vx_base.proofs.Integers.{natural-of}
 use Rattle.vx_plane.specs.Plane.{Page}
 use Rattle.vx_grid.specs.declared.places.Point.{Point}
+use Rattle.vx_grid.proofs.MarkPlaces.{same-point}
 use Rattle.vx_mark.specs.declared.pixels.Span.{Span}
 use Rattle.vx_mark.specs.declared.search.Found.{Found}
 use Rattle.vx_mark_model.specs.Mark.{deficit_of, IsAccepted}
 use Rattle.vx_mark_model.specs.Best.{IsNear, IsBetter, IsBest}
 use Rattle.vx_mark.specs.Search.{place_in, place_of, HasFootprint, AreColumns, AreRows, IsRow, AreFew, IsOut, IsCap, IsSeen, IsFound, IsBestSeen, bound_of}
-use Rattle.vx_mark.proofs.Places.{same_place, natural}
 
 -- a column and a row of the search are near the predicted place, and have room in the frame
 pub column-low : (page : Page) (predicted : Point) (columns : Span) (u : ℕ) → AreColumns page predicted columns → columns.first ≤ u → ((predicted.u -ℤ pos 10) ≤ℤ pos u) × (pos 23 ≤ℤ pos u)
@@ -83,7 +84,7 @@ seen-cases : {P : Type 0} (predicted q : Point) (u v : ℕ) → IsSeen predicted
 seen-cases predicted q u v seen before here =
     elim seen.1 [
       | inl a ↦ before (seen.0, inl a)
-      | inr b ↦ by_lt_z q.u (pos u) (λ l. before (seen.0, inr (b.0, l))) (λ m. here (same_place q (place_in u v) (omega (arith, ints)) b.0))
+      | inr b ↦ by_lt_z q.u (pos u) (λ l. before (seen.0, inr (b.0, l))) (λ m. here (same-point q (place_in u v) (omega (arith, ints)) b.0))
     ]
 
 -- the place in column u of row v is the best, where its deficit is below the bound
@@ -150,8 +151,8 @@ row-out page predicted cap v columns best c before out =
       | inl a ↦ by_lt_z q.v (pos v) (λ l. inl (seen.0, inl l)) (λ m.
           let row : q.v ≡ pos v = omega (arith, ints) in
           let held = columns-hold page predicted q columns c good seen.0 in
-          let column = natural q.u (omega (arith, ints, held.0)) in
-          let here : q ≡ place_in column.0 v = same_place q (place_in column.0 v) column.1 row in
+          let column = natural-of q.u (omega (arith, ints, held.0)) in
+          let here : q ≡ place_in column.0 v = same-point q (place_in column.0 v) column.1 row in
           let At : Point → Type 0 = λ r. bound_of cap best ≤ deficit_of page r in
           inr (inr (row, omega (arith, ints, held.0)), subst At (sym here) (out column.0 (omega (arith, ints, held.0, column.1)) (omega (arith, ints, held.1, column.1)))))
       | inr b ↦ absurd (omega (arith, ints, good.in_frame.left))

@@ -2,13 +2,15 @@
 use Rattle.std.proofs.Common.{◌≡◌, ◌+◌, ◌-◌, ◌≤◌, ◌<◌, ◌↔◌, inl, inr, ℕ, pos, ◌<ℤ◌, Option, Some, None, arith, ap}
 use Rattle.std.proofs.lemmas.Int.{ints, by_lt_z}
 use Rattle.std.proofs.lemmas.Bool.{cases_lt}
+use Rattle.vx_base.proofs.Integers.{natural-of}
 use Rattle.vx_plane.specs.Plane.{Page}
 use Rattle.vx_grid.specs.declared.places.Point.{Point}
+use Rattle.vx_grid.proofs.MarkPlaces.{same-point}
 use Rattle.vx_mark.specs.declared.pixels.Pixel.{Pixel}
 use Rattle.vx_mark_model.specs.Mark.{IsAccepted}
 use Rattle.vx_mark_model.specs.Corner.{IsInCornerRegion, ComesBefore, IsCorner}
 use Rattle.vx_mark.specs.Search.{place_in, place_of, IsPast, IsFirstColumn, IsFirstOf, IsCornerAbove, IsFirstAbove, comes_first}
-use Rattle.vx_mark.proofs.Places.{same_place, accepted_there, natural}
+use Rattle.vx_mark.proofs.Places.{accepted_there}
 
 -- what a search of a row is told of the columns before its end: those of the region whose places come
 -- before the corner of the rows above
@@ -24,11 +26,11 @@ pub record IsInColumn (past v : ℕ) (q : Point) : Type 0 where
 
 in-column : (page : Page) (past v : ℕ) (q : Point) → IsPast (pos 116) 23 page.width past → IsAccepted page q → IsInCornerRegion q → q.v ≡ pos v → IsInColumn past v q
 in-column page past v q end good region row =
-    let column = natural q.u (omega (arith, ints, good.in_frame.left)) in
+    let column = natural-of q.u (omega (arith, ints, good.in_frame.left)) in
     let before : q.u <ℤ pos past = (end.holds q.u (omega (arith, ints, good.in_frame.left))).1 (region.right, good.in_frame.right) in
     record {
       u = column.0;
-      is = same_place q (place_in column.0 v) column.1 row;
+      is = same-point q (place_in column.0 v) column.1 row;
       left = omega (arith, ints, column.1, region.left);
       right = omega (arith, ints, column.1);
     }

@@ -7,15 +7,6 @@ use Rattle.vx_grid.specs.declared.places.Point.{Point}
 use Rattle.vx_mark_model.specs.Mark.{deficit_of, IsInFrame, IsAccepted}
 use Rattle.vx_mark.specs.Search.{place_in, HasFootprint, IsUpTo}
 
--- two places in one column and one row are one
-pub same_place : (p q : Point) → p.u ≡ q.u → p.v ≡ q.v → p ≡ q
-same_place p q e f = ap₂ (λ (u v : ℤ). let r : Point = record { u = u; v = v } in r) e f
-
--- a number that isn't negative
-pub natural : (z : ℤ) → pos 0 ≤ℤ z → (n : ℕ) × (z ≡ pos n)
-natural (pos n) h = (n, refl)
-natural (negsuc n) h = absurd (omega (arith, ints))
-
 -- the same place, accepted
 pub accepted_there : (page : Page) (p q : Point) → p ≡ q → IsAccepted page p → IsAccepted page q
 accepted_there page p q e h = subst (IsAccepted page) e h

@@ -9,17 +9,13 @@ use Rattle.vx_mark_model.specs.Mark.{IsAccepted}
 use Rattle.vx_mark_model.specs.Corner.{IsCorner}
 use Rattle.vx_mark_model.specs.Best.{IsBest}
 use Rattle.vx_mark_model.specs.declared.fault.BorderFault.{BorderFault}
-use Rattle.vx_mark_model.specs.Following.{leader_of, prediction_of, IsFollowed}
+use Rattle.vx_mark_model.specs.Following.{prediction_of, IsFollowed}
 use Rattle.vx_mark_model.specs.Border.{IsBorderOf}
 
 -- an accepted place lies in the frame: within n of the origin, where the frame does
 abbrev pub AcceptedAreFramed : Type 0
 AcceptedAreFramed =
     (page : Page) (n : ℕ) (p : Point) → page.width ≤ n → page.height ≤ n → IsAccepted page p → IsPointWithin n p
-
--- the mark that leads to another comes before it
-abbrev pub LeadersComeBefore : Type 0
-LeadersComeBefore = (last k : ℕ) → 0 < k → leader_of last k < k
 
 -- the corner alone is followed
 abbrev pub CornerIsFollowed : Type 0

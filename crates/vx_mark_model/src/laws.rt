@@ -3,7 +3,7 @@
 
 ghost use Rattle.vx_mark_model.specs.Best.{BestPlaceIsOne};
 ghost use Rattle.vx_mark_model.specs.Corner.{CornerIsOne};
-ghost use Rattle.vx_mark_model.specs.Laws.{AcceptedAreFramed, LeadersComeBefore, CornerIsFollowed, FollowedGrows, FollowedIsSame, FollowedIsOne, BorderIsOne};
+ghost use Rattle.vx_mark_model.specs.Laws.{AcceptedAreFramed, CornerIsFollowed, FollowedGrows, FollowedIsSame, FollowedIsOne, BorderIsOne};
 
 /// A scan has one corner at most.
 pub fn the_corner_is_one()
@@ -18,11 +18,6 @@ pub fn the_best_place_is_one()
 /// An accepted place lies in the frame.
 pub fn accepted_places_are_framed()
     ensures { AcceptedAreFramed }
-{}
-
-/// The mark that leads to another comes before it.
-pub fn leaders_come_before()
-    ensures { LeadersComeBefore }
 {}
 
 /// The corner alone is followed, a followed list grows by the best place near where its next mark is

@@ -15,7 +15,7 @@ mod steps;
 
 pub use fault::BorderFault;
 pub use laws::{
-    a_list_is_followed, accepted_places_are_framed, borders_are_one, leaders_come_before,
-    the_best_place_is_one, the_corner_is_one,
+    a_list_is_followed, accepted_places_are_framed, borders_are_one, the_best_place_is_one,
+    the_corner_is_one,
 };
 pub use steps::{expected, first_left, index_of, is_near, leader_of, right_of, side_of};

@@ -1,5 +1,5 @@
 -- What the tests of places say.
-use Rattle.std.proofs.Common.{◌≡◌, ◌∙◌, ℕ, ℤ, true, pos, negsuc, ◌≤ℤ◌, arith, refl, ap}
+use Rattle.std.proofs.Common.{◌≡◌, ℤ, true, ◌≤ℤ◌, arith}
 use Rattle.std.specs.Prelude.{◌&&◌, int_le}
 use Rattle.std.proofs.lemmas.Int.{ints}
 use Rattle.std.proofs.lemmas.Bool.{and_parts, and_from, leb-true, le-leb}
@@ -7,16 +7,6 @@ use Rattle.vx_plane.specs.Plane.{Page}
 use Rattle.vx_grid.specs.declared.places.Point.{Point}
 use Rattle.vx_mark_model.specs.Region.{Region, IsIn, is_in}
 use Rattle.vx_mark_model.specs.Mark.{framed, deficit_of, most_wrong, IsAccepted, is_accepted}
-
--- two places in one column and one row are one
-pub same_point : (p q : Point) → p.u ≡ q.u → p.v ≡ q.v → p ≡ q
-same_point p q e f =
-    ap (λ z. let r : Point = record { u = z; v = p.v } in r) e ∙ ap (λ z. let r : Point = record { u = q.u; v = z } in r) f
-
--- a whole number from 0 on
-pub natural_of : (z : ℤ) → pos 0 ≤ℤ z → (n : ℕ) × (z ≡ pos n)
-natural_of (pos n) h = (n, refl)
-natural_of (negsuc n) h = absurd (omega (arith, ints))
 
 le_from : (a b : ℤ) → int_le a b ≡ true → a ≤ℤ b
 le_from a b h = grind (arith, ints)

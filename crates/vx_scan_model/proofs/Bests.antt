@@ -3,14 +3,16 @@ use Rattle.std.proofs.Common.{◌≡◌, ◌∙◌, ◌+◌, ◌*◌, ◌/◌, �
 use Rattle.std.specs.Prelude.{◌==◌, ◌&&◌, option_map}
 use Rattle.std.proofs.lemmas.Int.{ints}
 use Rattle.std.proofs.lemmas.Bool.{and_parts, and_from, eqb-true}
+use Rattle.vx_base.proofs.Integers.{natural-of}
 use Rattle.vx_plane.specs.Plane.{Page}
 use Rattle.vx_grid.specs.declared.places.Point.{Point}
+use Rattle.vx_grid.proofs.MarkPlaces.{same-point}
 use Rattle.vx_mark_model.specs.Region.{is_in}
 use Rattle.vx_mark_model.specs.Mark.{deficit_of, IsAccepted, is_accepted}
 use Rattle.vx_mark_model.specs.Best.{near, IsNear, IsBetter, IsBest}
 use Rattle.vx_scan_model.specs.Border.{near_numbers, near_place, may_be_best, best_of}
 use Rattle.vx_scan_model.proofs.Firsts.{IsFirstOf, find-first}
-use Rattle.vx_scan_model.proofs.Accepting.{same_point, natural_of, in_from, in_true, accepted_from, accepted_true}
+use Rattle.vx_scan_model.proofs.Accepting.{in_from, in_true, accepted_from, accepted_true}
 
 -- the number of a place in the order of places near a predicted one
 pub record HasRank (page : Page) (predicted p : Point) (n : ℕ) : Type 0 where
@@ -30,7 +32,7 @@ rank-deficit d r c row column = omega arith
 
 -- the place of a number is the only place that has it
 rank-place : (page : Page) (predicted p : Point) (n : ℕ) → HasRank page predicted p n → p ≡ near_place predicted n
-rank-place page predicted p n has = same_point p (near_place predicted n) has.column has.row
+rank-place page predicted p n has = same-point p (near_place predicted n) has.column has.row
 
 -- a deficit, a row and a column make a number
 rank-of_parts : (page : Page) (predicted p : Point) (d r c : ℕ) → deficit_of page p ≡ d → p.v ≡ (predicted.v -ℤ pos 6) +ℤ pos r → p.u ≡ (predicted.u -ℤ pos 10) +ℤ pos c → r < 32 → c < 32 → HasRank page predicted p (d * 1024 + r * 32 + c)
@@ -48,7 +50,7 @@ pub record IsRank (page : Page) (predicted p : Point) (n : ℕ) : Type 0 where
 -- what lies within a reach above a whole number
 above : (low z : ℤ) (reach : ℕ) → low ≤ℤ z → z ≤ℤ (low +ℤ pos reach) → (n : ℕ) × (z ≡ low +ℤ pos n) × (n ≤ reach)
 above low z reach from to =
-    let gap : (n : ℕ) × (z -ℤ low ≡ pos n) = natural_of (z -ℤ low) (omega (arith, ints)) in
+    let gap : (n : ℕ) × (z -ℤ low ≡ pos n) = natural-of (z -ℤ low) (omega (arith, ints)) in
     (gap.0, omega (arith, ints, gap.1), omega (arith, ints, gap.1))
 
 -- each accepted place near the predicted one has a number

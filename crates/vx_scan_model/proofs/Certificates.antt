@@ -1,14 +1,12 @@
 -- What a scan is read as is a certificate of it, and what certificates say of a scan that fits a printed page.
-use Rattle.std.proofs.Common.{◌≡◌, ◌⊎◌, inl, inr, ℕ, ◌≤◌, Bool, true, false, cond, List, map, Result, Ok, Err, refl, ap, ap₂, sym, subst, ◌∙◌, arith}
+use Rattle.std.proofs.Common.{◌≡◌, inl, inr, Bool, true, false, cond, List, map, Result, Ok, Err, refl, ap, sym, subst, ◌∙◌, arith}
 use Rattle.std.specs.Prelude.{◌==◌}
 use Rattle.std.specs.List.{range_with_len}
 use Rattle.vx_base.specs.Results.{◌>>=◌}
-use Rattle.vx_base.proofs.Results.{bind_ok}
 use Rattle.vx_base.proofs.Numbers.{equal-from_yes}
 use Rattle.vx_plane.specs.Plane.{Page, dark_at}
 use Rattle.vx_plane.proofs.Pages.{page_of-dark_at}
 use Rattle.vx_grid.specs.declared.paper.Paper.{Paper}
-use Rattle.vx_grid.specs.declared.places.Point.{Point}
 use Rattle.vx_grid.specs.Paper.{last_row}
 use Rattle.vx_grid.specs.Marks.{marks as marks_of, timing_marks}
 use Rattle.vx_grid.specs.Borders.{MarkPlaces}
@@ -19,12 +17,12 @@ use Rattle.vx_mark_model.specs.Laws.{CornerIsFollowed, FollowedGrows}
 use Rattle.vx_code.specs.declared.code.PageCode.{PageCode}
 use Rattle.vx_code.specs.declared.code.CodeFault.{CodeFault}
 use Rattle.vx_code.specs.declared.code.CodeFault.TheVariants.{BadVersion}
-use Rattle.vx_code.specs.Code.{tag_of, version_of, code_of_bits, code_of_shown, bits_shown_by, code_shown_by}
+use Rattle.vx_code.specs.Code.{version_of, code_of_bits, code_of_shown, bits_shown_by, code_shown_by}
 use Rattle.vx_election_model.specs.declared.election.Election.{Election}
 use Rattle.vx_election_model.specs.Valid.{IsValid}
 use Rattle.vx_layout.specs.declared.pages.PagePlan.{PagePlan}
 use Rattle.vx_layout.specs.Printed.{PrintedPage, code_of}
-use Rattle.vx_geom.specs.Slants.{Slant, slant_of}
+use Rattle.vx_geom.specs.Slants.{slant_of}
 use Rattle.vx_margin.specs.Chains.{IsChain, LieAtMarks}
 use Rattle.vx_margin.specs.Laws.{CornerChainsLieAtMarks, FollowedAreChains}
 use Rattle.vx_scan_model.specs.declared.reading.PageReading.{PageReading}
@@ -35,14 +33,12 @@ use Rattle.vx_scan_model.specs.Named.{named_plan, IsPrintedCode}
 use Rattle.vx_scan_model.specs.Reading.{is_allowed, box_count_of, code_read, scores_of, states_of, reading_on, reading_of_code, reading_of_border, upright_reading_of, told_turned, either_way, reading_of}
 use Rattle.vx_scan_model.specs.Fits.{FitsUpright, Fits, state_of_mark, Says}
 use Rattle.vx_scan_model.specs.Laws.{AreLaws, AreTurnedLaws}
-use Rattle.vx_scan_model.specs.Certificate.{CertifiesUpright, Certifies, ReadingsAreCertificates, SaysWhatFits, CertificatesSayWhatFits}
+use Rattle.vx_scan_model.specs.Certificate.{CertifiesUpright, Certifies, ReadingsAreCertificates, CertificatesSayWhatFits}
 use Rattle.vx_scan_model.proofs.Borders.{IsBorderOf-border_of}
 use Rattle.vx_scan_model.proofs.Plans.{named-printed, planned-named}
 use Rattle.vx_scan_model.proofs.Read.{shows-border, code-at, states-at}
 use Rattle.vx_scan_model.proofs.TurnedRead.{chain-at_marks, no-code}
-
-same-reading : (a b : PageReading) → ◌≡◌ {A = Result PageReading PageFault} (Ok a) (Ok b) → a ≡ b
-same-reading a b e = cc
+use Rattle.vx_scan_model.proofs.Once.{same-reading}
 
 same-code : (a b : PageCode) → ◌≡◌ {A = Result PageCode CodeFault} (Ok a) (Ok b) → a ≡ b
 same-code a b e = cc

@@ -1,11 +1,11 @@
 -- The clean print of a page, sheared, fits that page.
-use Rattle.std.proofs.Common.{◌≡◌, ℕ, ◌+◌, ◌*◌, ◌≤◌, ◌<◌, Bool, true, false, not, ◌&&◌, length, ℤ, pos, ◌+ℤ◌, ◌-ℤ◌, ◌*ℤ◌, ◌≤ℤ◌, ◌<ℤ◌, refl, ap, sym, subst, ◌∙◌, arith}
+use Rattle.std.proofs.Common.{◌≡◌, ℕ, ◌≤◌, ◌<◌, Bool, true, false, not, ◌&&◌, length, ℤ, pos, ◌+ℤ◌, ◌-ℤ◌, ◌*ℤ◌, ◌≤ℤ◌, ◌<ℤ◌, refl, ap, sym, subst, ◌∙◌, arith}
 use Rattle.std.specs.Prelude.{slice_index_or}
 use Rattle.std.proofs.lemmas.Int.{ints}
 use Rattle.std.specs.Int.{int_div_euclid}
 use Rattle.std.proofs.Math.IntN.{zero-*ℤ}
-use Rattle.std.proofs.lemmas.Bool.Decides.{nat_tests}
 use Rattle.std.proofs.lemmas.List.{get_or-map, length-map}
+use Rattle.vx_base.proofs.Booleans.{not-both, and-no}
 use Rattle.vx_plane.specs.Plane.{Pixels, Page, page_of, nowhere, dark_at, rectangle}
 use Rattle.vx_plane.specs.Count.{count_in}
 use Rattle.vx_plane.proofs.Counts.{count_in-none}
@@ -13,7 +13,7 @@ use Rattle.vx_plane.proofs.Pages.{dark_at-in_frame, rectangle-sides, rectangle-i
 use Rattle.vx_grid.specs.declared.paper.Paper.{Paper}
 use Rattle.vx_grid.specs.declared.paper.Paper.TheVariants.{Letter, Legal}
 use Rattle.vx_grid.specs.Paper.{page_width, page_height, last_row, first_y}
-use Rattle.vx_grid.specs.Marks.{marks as marks_of, marks_to, mark_of}
+use Rattle.vx_grid.specs.Marks.{marks as marks_of, mark_of}
 use Rattle.vx_grid.specs.Grid.{x_of, y_of, first_code_row}
 use Rattle.vx_grid.specs.Regions.{frame_zone}
 use Rattle.vx_code.specs.Code.{place_of_box, reserved_place}
@@ -25,11 +25,13 @@ use Rattle.vx_layout.specs.Pages.{IsOnGrid}
 use Rattle.vx_geom.specs.declared.shear.Shear.{Shear}
 use Rattle.vx_geom.specs.Slants.{Slant, slant_of, whole_of, down_by, right_by, scan_column, scan_row, paper_column, paper_row}
 use Rattle.vx_geom.specs.Seen.{seen}
+use Rattle.vx_grid.proofs.Papers.{last-row_low, height-is}
+use Rattle.vx_grid.proofs.MarkPlaces.{mark-column, mark-row}
 use Rattle.vx_margin.specs.Flips.{differ, flips, flips_in, flips_on}
 use Rattle.vx_scan_model.specs.Ink.{added_to, bubble_at, HasInk}
 use Rattle.vx_margin.specs.Laws.{TimingMarksAreMarks}
 use Rattle.vx_scan_model.specs.Reading.{is_allowed}
-use Rattle.vx_scan_model.proofs.Printed.{many_rows, round-sides, place-columns, place-rows}
+use Rattle.vx_scan_model.proofs.Printed.{round-sides, place-columns, place-rows}
 use Rattle.vx_scan_model.specs.Fits.{FitsUpright, sheared_print, KeepsInFrame, no_marks, ShearedPrintsFit, CleanPrintsFit}
 
 nothing-added : (b : Bool) → (b && not b) ≡ false
@@ -43,14 +45,6 @@ no-difference false = refl
 no-flip-by : (frame dark shown : Bool) → (frame ≡ true → dark ≡ shown) → (frame && differ dark shown) ≡ false
 no-flip-by true dark shown same = ap (λ d. differ d shown) (same refl) ∙ no-difference shown
 no-flip-by false dark shown same = refl
-
-second-false : (a b : Bool) → b ≡ false → (a && b) ≡ false
-second-false true b h = h
-second-false false b h = refl
-
-true_false : (b : Bool) → b ≡ true → b ≡ false → ⊥
-true_false true h g = cc
-true_false false h g = cc
 
 module _ (paper : Pixels) (shear : Shear) (width height : ℕ) where
   abbrev s : Slant
@@ -68,7 +62,7 @@ module _ (paper : Pixels) (shear : Shear) (width height : ℕ) where
       dark_at-in_frame width height (seen s paper) u v k.0 (omega (arith, ints, k.1)) k.2 (omega (arith, ints, k.3)))
 
   no-flips : (left top : ℤ) (w h : ℕ) (zone : Pixels) → count_in left top w h (flips_in s scan paper zone) ≡ 0
-  no-flips left top w h zone = count_in-none left top w h (flips_in s scan paper zone) (λ u v a b c d. second-false (seen s zone u v) (flips s scan paper u v) (no-flip u v))
+  no-flips left top w h zone = count_in-none left top w h (flips_in s scan paper zone) (λ u v a b c d. and-no (seen s zone u v) (flips s scan paper u v) (no-flip u v))
 
   no-laid : (left top : ℤ) (w h : ℕ) → count_in left top w h (flips_on s scan paper) ≡ 0
   no-laid left top w h = count_in-none left top w h (flips_on s scan paper) (λ x y a b c d. no-flip (scan_column s x y) (scan_row s x y))
@@ -78,7 +72,7 @@ no-ink : (print : Pixels) (left top : ℤ) (w h : ℕ) → count_in left top w h
 no-ink print left top w h = count_in-none left top w h (added_to print print) (λ x y a b c d. nothing-added (print x y))
 
 apart-from : (print zone : Pixels) → Apart (added_to print print) zone
-apart-from print zone = record { apart = λ x y added there. true_false (print x y && not (print x y)) added (nothing-added (print x y)) }
+apart-from print zone = record { apart = λ x y added there. not-both (print x y && not (print x y)) added (nothing-added (print x y)) }
 
 pub sheared-fits : ShearedPrintsFit
 sheared-fits election printed plan shear width height valid planned keeps =
@@ -148,10 +142,6 @@ still-seen set u v =
     let row : paper_row (slant_of still) u v ≡ v = (let down = still-down (paper_column (slant_of still) u v) in omega (arith, ints, down)) in
     ap (λ z. set z (paper_row (slant_of still) u v)) column ∙ ap (λ z. set u z) row
 
-height-is : (paper : Paper) → page_height paper ≡ first_y paper + first_y paper + 52 * last_row paper
-height-is Letter = refl
-height-is Legal = refl
-
 first-rows : (paper : Paper) → (60 ≤ first_y paper) × (first_y paper ≤ 74)
 first-rows Letter = (omega arith, omega arith)
 first-rows Legal = (omega arith, omega arith)
@@ -205,7 +195,7 @@ module _ (are : TimingMarksAreMarks) (plan : PagePlan) (clear : KeepsClear plan)
         let grid : IsOnGrid plan.paper (bubble_at plan n) = clear.on_grid n (record { contest = 0; option = 0; col = 0; row = 0 }) few in
         let sides = round-sides 36 25 (x_of (bubble_at plan n).col) (y_of plan.paper (bubble_at plan n).row) x y inside in
         let height = height-is plan.paper in
-        let many = many_rows plan.paper in
+        let many = last-row_low plan.paper in
         let first = first-rows plan.paper in
         in-page page_width (page_height plan.paper) x y (omega (arith, ints, sides.0, grid.col)) (omega (arith, ints, sides.1, grid.col, grid.few)) (omega (arith, ints, sides.2, first.0)) (omega (arith, ints, sides.3, grid.high, height, many, first.0));
     boxes = λ n few x y inside.
@@ -213,22 +203,15 @@ module _ (are : TimingMarksAreMarks) (plan : PagePlan) (clear : KeepsClear plan)
         let columns = place-columns (first_code_row plan.paper) n few in
         let rows = place-rows (first_code_row plan.paper) n few in
         let height = height-is plan.paper in
-        let many = many_rows plan.paper in
+        let many = last-row_low plan.paper in
         let first = first-rows plan.paper in
         in-page page_width (page_height plan.paper) x y (omega (arith, ints, sides.0, columns.0)) (omega (arith, ints, sides.1, columns.1)) (omega (arith, ints, sides.2, first.0)) (omega (arith, ints, sides.3, rows.1, height, many, first.0));
   }
 
--- where the marks of a paper stand
-mark-columns : (last k : ℕ) → 40 ≤ last → k < marks_to last → (mark_of last k).0 ≤ 33
-mark-columns last k many few = grind (arith, nat_tests)
-
-mark-rows : (last k : ℕ) → 40 ≤ last → k < marks_to last → (mark_of last k).1 ≤ last
-mark-rows last k many few = grind (arith, nat_tests)
-
 pub clean-fits : TimingMarksAreMarks → PrintedKeepClear → CleanPrintsFit
 clean-fits are clear election printed plan valid planned =
     let print : Pixels = print_of_page election plan printed in
-    let keeps = still-keeps are plan (clear election printed plan valid planned) (λ paper k few. (mark-columns (last_row paper) k (many_rows paper) few, mark-rows (last_row paper) k (many_rows paper) few)) in
+    let keeps = still-keeps are plan (clear election printed plan valid planned) (λ paper k few. (mark-column (last_row paper) k (last-row_low paper) few, mark-row (last_row paper) k (last-row_low paper) few)) in
     let same : sheared_print page_width (page_height plan.paper) still print ≡ page_of page_width (page_height plan.paper) print =
     page_of-same page_width (page_height plan.paper) (seen (slant_of still) print) print (λ x y a b. still-seen print (pos x) (pos y)) in
     subst (λ (page : Page). FitsUpright election page printed plan (no_marks plan)) same (sheared-fits election printed plan still page_width (page_height plan.paper) valid planned keeps)

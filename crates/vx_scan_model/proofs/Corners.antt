@@ -4,13 +4,15 @@ use Rattle.std.specs.Prelude.{option_map}
 use Rattle.std.proofs.lemmas.Int.{ints}
 use Rattle.std.proofs.lemmas.Nat.{div-mul-add, mod-mul-add}
 use Rattle.std.proofs.lemmas.Bool.{and_parts, and_from}
+use Rattle.vx_base.proofs.Integers.{natural-of}
 use Rattle.vx_plane.specs.Plane.{Page}
 use Rattle.vx_grid.specs.declared.places.Point.{Point}
+use Rattle.vx_grid.proofs.MarkPlaces.{same-point}
 use Rattle.vx_mark_model.specs.Mark.{IsAccepted}
 use Rattle.vx_mark_model.specs.Corner.{corner_region, IsInCornerRegion, ComesBefore, IsCorner}
 use Rattle.vx_scan_model.specs.Border.{corner_numbers, corner_place, may_be_corner, corner_of}
 use Rattle.vx_scan_model.proofs.Firsts.{IsFirstOf, find-first}
-use Rattle.vx_scan_model.proofs.Accepting.{same_point, natural_of, in_from, in_true, accepted_from, accepted_true}
+use Rattle.vx_scan_model.proofs.Accepting.{in_from, in_true, accepted_from, accepted_true}
 
 -- the number of a place in the order of corners
 pub record HasNumber (p : Point) (n : ℕ) : Type 0 where
@@ -23,7 +25,7 @@ place-number n = record { sum = omega (arith, ints); row = refl }
 
 -- and is the only place that has it
 number-place : (p : Point) (n : ℕ) → HasNumber p n → p ≡ corner_place n
-number-place p n has = same_point p (corner_place n) (omega (arith, ints, has.sum, has.row)) has.row
+number-place p n has = same-point p (corner_place n) (omega (arith, ints, has.sum, has.row)) has.row
 
 -- a sum and a row make a number
 number-of_sum : (p : Point) (sum row : ℕ) → p.u +ℤ p.v ≡ pos sum → p.v ≡ pos row → row < 128 → HasNumber p (sum * 128 + row)
@@ -35,8 +37,8 @@ number-of_sum p sum row s r below = record {
 -- each place of the region has a number below 221 * 128
 number-of_place : (p : Point) → IsInCornerRegion p → (n : ℕ) × HasNumber p n × (n < 28288)
 number-of_place p region =
-    let sum : (n : ℕ) × (p.u +ℤ p.v ≡ pos n) = natural_of (p.u +ℤ p.v) (omega (arith, ints, region.left, region.top)) in
-    let row : (n : ℕ) × (p.v ≡ pos n) = natural_of p.v (omega (arith, ints, region.top)) in
+    let sum : (n : ℕ) × (p.u +ℤ p.v ≡ pos n) = natural-of (p.u +ℤ p.v) (omega (arith, ints, region.left, region.top)) in
+    let row : (n : ℕ) × (p.v ≡ pos n) = natural-of p.v (omega (arith, ints, region.top)) in
     let low : row.0 ≤ 104 = omega (arith, ints, region.bottom, row.1) in
     let most : sum.0 ≤ 220 = omega (arith, ints, region.bottom, region.right, sum.1) in
     (sum.0 * 128 + row.0, number-of_sum p sum.0 row.0 sum.1 row.1 (omega arith), omega arith)

@@ -1,14 +1,13 @@
 -- Bubbles of a page that keep clear of one another are few.
 use Rattle.std.proofs.Common.{◌≡◌, ◌≢◌, ℕ, zero, suc, ◌+◌, ◌-◌, ◌*◌, ◌≤◌, ◌<◌, ◌==◌, Bool, true, false, cond, length, get_or, ℤ, pos, ◌-ℤ◌, refl, sym, ◌∙◌, arith}
-use Rattle.std.specs.Prelude.{All}
 use Rattle.std.proofs.lemmas.Int.{ints}
 use Rattle.std.proofs.lemmas.List.Elements.{All-get_or}
-use Rattle.vx_base.proofs.Numbers.{equal-from_yes, equal-no, equal-yes}
+use Rattle.std.proofs.lemmas.Bool.{true≢false}
+use Rattle.vx_base.proofs.Numbers.{equal-from_yes, equal-yes}
 use Rattle.vx_plane.proofs.Pages.{rectangle-inside}
 use Rattle.vx_grid.specs.declared.paper.Paper.{Paper}
 use Rattle.vx_grid.specs.declared.paper.Paper.TheVariants.{Letter, Legal}
-use Rattle.vx_grid.specs.Paper.{last_row, first_y}
-use Rattle.vx_grid.specs.Grid.{x_of, y_of, first_contest_row, contest_rows}
+use Rattle.vx_grid.specs.Grid.{x_of, y_of, contest_rows}
 use Rattle.vx_layout.specs.declared.bubbles.Bubble.{Bubble}
 use Rattle.vx_layout.specs.declared.pages.PagePlan.{PagePlan}
 use Rattle.vx_layout.specs.Pages.{IsOnGrid}
@@ -19,11 +18,8 @@ use Rattle.vx_layout.specs.Zones.{bubble_zone_of, bubble_box_of}
 abbrev moved : ℕ → ℕ → ℕ → ℕ
 moved m last a = cond (a == m) last a
 
-true_false : true ≡ false → ⊥
-true_false e = cc
-
 differ-from : (m n : ℕ) → (m == n) ≡ false → m ≡ n → ⊥
-differ-from m n is e = true_false (sym (equal-yes m n e) ∙ is)
+differ-from m n is e = true≢false (sym (equal-yes m n e) ∙ is)
 
 moved-low : (m last a : ℕ) (test : Bool) → (a == m) ≡ test → a < suc m → last < suc m → (a ≡ last → ⊥) → cond test last a < m
 moved-low m last a true is low low_last apart = let same : a ≡ m = equal-from_yes a m is in omega (arith, same, low_last, apart)

@@ -4,8 +4,9 @@ use Rattle.std.specs.Prelude.{slice_index_or}
 use Rattle.std.proofs.lemmas.Int.{ints}
 use Rattle.vx_plane.specs.Plane.{Pixels, union, placed, nowhere}
 use Rattle.vx_plane.specs.Count.{count_in}
-use Rattle.vx_plane.proofs.Counts.{count_in-same, count_in-le, count_in-all, count_in-none, count_in-moved, count_in-union_le, count_in-union_apart}
+use Rattle.vx_plane.proofs.Counts.{count_in-same, count_in-le, count_in-all, count_in-none, count_in-union_le, count_in-union_apart}
 use Rattle.vx_plane.proofs.Pages.{in_any-one}
+use Rattle.vx_geom.proofs.Placed.{placed-count}
 use Rattle.vx_grid.specs.declared.paper.Paper.{Paper}
 use Rattle.vx_grid.specs.Grid.{x_of, y_of}
 use Rattle.vx_grid.specs.Sizes as sizes
@@ -29,16 +30,6 @@ outline-in_zone = refl
 outline-in_box : count_in (negsuc 19) (negsuc 12) 40 26 outline ≡ 192
 unfolding count_in outline
 outline-in_box = refl
-
--- a shape that is put at a place is counted round it
-placed-count : (left top cx cy : ℤ) (width height : ℕ) (shape : Pixels) → count_in (left +ℤ cx) (top +ℤ cy) width height (placed cx cy shape) ≡ count_in left top width height shape
-placed-count left top cx cy width height shape =
-    count_in-moved left top cx cy width height (placed cx cy shape)
-    ∙ count_in-same left top width height (λ u v. placed cx cy shape (u +ℤ cx) (v +ℤ cy)) shape
-    (λ u v a b c d.
-    let across : (u +ℤ cx) -ℤ cx ≡ u = omega (arith, ints) in
-    let down : (v +ℤ cy) -ℤ cy ≡ v = omega (arith, ints) in
-    ap (λ z. shape z ((v +ℤ cy) -ℤ cy)) across ∙ ap (λ z. shape u z) down)
 
 -- the outline of a bubble, in its zone and in its box
 bubble-zone : (paper : Paper) (bubble : Bubble) → count_round paper (zone_of sizes.bubble) bubble.col bubble.row (bubble_pixels paper bubble) ≡ 192

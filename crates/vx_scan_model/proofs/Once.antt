@@ -6,7 +6,7 @@ use Rattle.vx_scan_model.specs.declared.reading.PageReading.{PageReading}
 use Rattle.vx_scan_model.specs.declared.fault.PageFault.{PageFault}
 use Rattle.vx_scan_model.specs.Fits.{state_of_mark, FittingScansAreRead, FitsOnePage}
 
-same-reading : (a b : PageReading) → ◌≡◌ {A = Result PageReading PageFault} (Ok a) (Ok b) → a ≡ b
+pub same-reading : (a b : PageReading) → ◌≡◌ {A = Result PageReading PageFault} (Ok a) (Ok b) → a ≡ b
 same-reading a b e = cc
 
 same-mark : (a b : Bool) → state_of_mark a ≡ state_of_mark b → a ≡ b

@@ -1,8 +1,8 @@
 -- The bubbles of a planned page stand on the grid, and what the plans of all cards say of a code.
 use Rattle.std.proofs.Common.{◌≡◌, ℕ, ◌≤◌, ◌<◌, ◌+◌, ◌-◌, ◌==◌, List, length, get_or, Bool, true, false, cond, refl, sym, ap, ap₂, ◌∙◌, subst, arith}
-use Rattle.std.specs.Prelude.{All, slice_get, nat_lt, Option, None, Some, Result, Ok, Err}
+use Rattle.std.specs.Prelude.{All, slice_get, Option, None, Some, Result, Ok, Err}
 use Rattle.std.proofs.lemmas.Bool.Decides.{nat_tests}
-use Rattle.vx_base.proofs.Numbers.{equal-no, equal-from_yes}
+use Rattle.vx_base.proofs.Numbers.{equal-no, equal-from_yes, below-no, equal-yes}
 use Rattle.std.proofs.lemmas.List.Elements.{All-get_or}
 use Rattle.std.proofs.lemmas.Option.{slice_get_within, slice_get_read, slice_get_past, get_or_from_slice_get}
 use Rattle.vx_grid.specs.declared.paper.Paper.{Paper}
@@ -80,35 +80,26 @@ pub code_row-within : (paper read : Paper) (row : ℕ) → read ≡ paper → ro
 code_row-within Letter read row same h = let at : row ≤ 37 = subst (λ (p : Paper). row ≤ first_code_row p + 2) same h in omega arith
 code_row-within Legal read row same h = let at : row ≤ 48 = subst (λ (p : Paper). row ≤ first_code_row p + 2) same h in omega arith
 
-not-below : (m n : ℕ) → n ≤ m → nat_lt m n ≡ false
-not-below m n h = grind (arith, nat_tests)
-
-same-yes : (m n : ℕ) → m ≡ n → (m == n) ≡ true
-same-yes m n h = grind (arith, nat_tests)
-
-same-no : (m n : ℕ) → (m ≡ n → ⊥) → (m == n) ≡ false
-same-no m n h = grind (arith, nat_tests)
-
 -- a card that the election hasn't
 plan-past_cards : (election : Election) (number : ℕ) → length (cards_of election) ≤ number → plan_of election number ≡ Err (NoSuchCard (length (cards_of election)))
 unfolding plan_of
 plan-past_cards election number past =
     let none : Result CardPlan LayoutFault = Err (NoSuchCard (length (cards_of election))) in
-    ap (λ (b : Bool). cond b (plan_of_card election number) none) (not-below number (length (cards_of election)) past)
+    ap (λ (b : Bool). cond b (plan_of_card election number) none) (below-no number (length (cards_of election)) past)
 
 -- a code of another election
 pub named-other : (election : Election) (code : PageCode) → (code.tag ≡ tag_of election.digest → ⊥) → named_plan election code ≡ Err (OtherElection code.tag)
 unfolding named_plan
 named-other election code h =
     let other : Result PagePlan PageFault = Err (OtherElection code.tag) in
-    ap (λ (b : Bool). cond b (plan_on_card code (plan_of election code.card)) other) (same-no code.tag (tag_of election.digest) h)
+    ap (λ (b : Bool). cond b (plan_on_card code (plan_of election code.card)) other) (equal-no code.tag (tag_of election.digest) h)
 
 -- a code of this election
 named-here : (election : Election) (code : PageCode) → code.tag ≡ tag_of election.digest → named_plan election code ≡ plan_on_card code (plan_of election code.card)
 unfolding named_plan
 named-here election code h =
     let other : Result PagePlan PageFault = Err (OtherElection code.tag) in
-    ap (λ (b : Bool). cond b (plan_on_card code (plan_of election code.card)) other) (same-yes code.tag (tag_of election.digest) h)
+    ap (λ (b : Bool). cond b (plan_on_card code (plan_of election code.card)) other) (equal-yes code.tag (tag_of election.digest) h)
 
 -- a code of a card that isn't there
 pub named-no_card : (election : Election) (plans : List CardPlan) (code : PageCode) → ArePlansOf election plans → code.tag ≡ tag_of election.digest → length plans ≤ code.card → named_plan election code ≡ Err (NoCard code.card)
@@ -125,12 +116,12 @@ named-on_card_plan election plans code card are h there is =
 pub numbered-zero : (card : CardPlan) (number : ℕ) → number ≡ 0 → page_numbered card number ≡ None
 numbered-zero card number h =
     let found : Option PagePlan = slice_get card.pages (number - 1) in
-    ap (λ (b : Bool). cond b None found) (same-yes number 0 h)
+    ap (λ (b : Bool). cond b None found) (equal-yes number 0 h)
 
 numbered-other : (card : CardPlan) (number : ℕ) → (number ≡ 0 → ⊥) → page_numbered card number ≡ slice_get card.pages (number - 1)
 numbered-other card number h =
     let found : Option PagePlan = slice_get card.pages (number - 1) in
-    ap (λ (b : Bool). cond b None found) (same-no number 0 h)
+    ap (λ (b : Bool). cond b None found) (equal-no number 0 h)
 
 pub numbered-past : (card : CardPlan) (number : ℕ) → (number ≡ 0 → ⊥) → length card.pages ≤ number - 1 → page_numbered card number ≡ None
 numbered-past card number h past = numbered-other card number h ∙ slice_get_past card.pages (number - 1) past

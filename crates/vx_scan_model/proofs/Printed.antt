@@ -1,18 +1,19 @@
 -- What is printed where on a page.
-use Rattle.std.proofs.Common.{◌≡◌, ◌≢◌, ◌⊎◌, inl, inr, ℕ, ◌+◌, ◌-◌, ◌*◌, ◌≤◌, ◌<◌, Bool, true, false, not, ◌&&◌, ◌||◌, if◌then◌else◌, ◌==◌, List, [], length, ℤ, pos, ◌+ℤ◌, ◌-ℤ◌, ◌≤ℤ◌, ◌<ℤ◌, refl, ap, sym, subst, ◌∙◌, arith}
+use Rattle.std.proofs.Common.{◌≡◌, ◌≢◌, ◌⊎◌, inl, inr, ℕ, ◌+◌, ◌-◌, ◌*◌, ◌≤◌, ◌<◌, Bool, true, false, not, ◌||◌, if◌then◌else◌, List, [], length, ℤ, pos, ◌+ℤ◌, ◌-ℤ◌, ◌≤ℤ◌, ◌<ℤ◌, refl, ap, sym, subst, ◌∙◌, arith}
 use Rattle.std.specs.Prelude.{slice_index_or}
 use Rattle.std.proofs.lemmas.Int.{ints}
-use Rattle.vx_base.proofs.Numbers.{equal-yes, equal-from_yes}
+use Rattle.std.proofs.lemmas.Bool.{cases_eq, true≢false}
+use Rattle.vx_base.proofs.Booleans.{is-false, same-bool, and-left}
 use Rattle.vx_plane.specs.Plane.{Pixels, rectangle, in_any, any_of, nowhere}
 use Rattle.vx_plane.proofs.Pages.{in_any-some, in_any-one, any_of-some, any_of-one, rectangle-inside, rectangle-sides, rectangle-outside}
 use Rattle.vx_grid.specs.declared.paper.Paper.{Paper}
-use Rattle.vx_grid.specs.declared.paper.Paper.TheVariants.{Letter, Legal}
 use Rattle.vx_grid.specs.Paper.{last_row, first_y}
 use Rattle.vx_grid.specs.Grid.{x_of, y_of, first_code_row, first_reserved_row, last_column}
 use Rattle.vx_grid.specs.Marks.{timing_marks}
 use Rattle.vx_grid.specs.Regions.{inner_region, frame_zone}
 use Rattle.vx_grid.specs.Sizes as sizes
 use Rattle.vx_grid.specs.Sizes.{zone_of, round}
+use Rattle.vx_grid.proofs.Papers.{last-row_low}
 use Rattle.vx_code.specs.Code.{place_from, place_of_box, reserved_place}
 use Rattle.vx_layout.specs.declared.bubbles.Bubble.{Bubble}
 use Rattle.vx_layout.specs.declared.lines.TextLine.{TextLine}
@@ -23,23 +24,6 @@ use Rattle.vx_layout.specs.Printed.{KeepsClear}
 use Rattle.vx_margin.specs.Marks.{IsInMark}
 use Rattle.vx_margin.specs.Laws.{TimingMarksAreMarks}
 use Rattle.vx_scan_model.specs.Ink.{bubble_at}
-
-pub many_rows : (paper : Paper) → 40 ≤ last_row paper
-many_rows Letter = omega arith
-many_rows Legal = omega arith
-
-is_false : (b : Bool) → (b ≡ true → ⊥) → b ≡ false
-is_false true h = absurd (h refl)
-is_false false h = refl
-
-is_true : (b : Bool) → (b ≡ false → ⊥) → b ≡ true
-is_true true h = refl
-is_true false h = absurd (h refl)
-
-same_bool : (a b : Bool) → (a ≡ true → b ≡ true) → (b ≡ true → a ≡ true) → a ≡ b
-same_bool true b to from = sym (to refl)
-same_bool false true to from = from refl
-same_bool false false to from = refl
 
 -- the sides of a thing round a centre
 pub round-sides : (half_across half_down cx cy : ℕ) (x y : ℤ) → rectangle (pos cx -ℤ pos half_across) (pos cy -ℤ pos half_down) (half_across + half_across) (half_down + half_down) x y ≡ true
@@ -56,7 +40,7 @@ round-inside a b cx cy x y h i j k = rectangle-inside (pos cx -ℤ pos a) (pos c
 -- a mark at a border point lies in the frame zone
 mark-in_zone : (paper : Paper) (c r : ℕ) (x y : ℤ) → (r ≡ 0) ⊎ (r ≡ last_row paper) ⊎ (c ≡ 0) ⊎ (c ≡ last_column) → IsInMark paper c r x y → frame_zone paper x y ≡ true
 mark-in_zone paper c r x y (inl top) m = ap not (rectangle-outside (pos 178) (pos (first_y paper + 130)) 1344 (52 * last_row paper - 260) x y (inr (inr (inl (omega (arith, ints, m.bottom, top))))))
-mark-in_zone paper c r x y (inr (inl bottom)) m = ap not (rectangle-outside (pos 178) (pos (first_y paper + 130)) 1344 (52 * last_row paper - 260) x y (inr (inr (inr (omega (arith, ints, m.top, bottom, many_rows paper))))))
+mark-in_zone paper c r x y (inr (inl bottom)) m = ap not (rectangle-outside (pos 178) (pos (first_y paper + 130)) 1344 (52 * last_row paper - 260) x y (inr (inr (inr (omega (arith, ints, m.top, bottom, last-row_low paper))))))
 mark-in_zone paper c r x y (inr (inr (inl left))) m = ap not (rectangle-outside (pos 178) (pos (first_y paper + 130)) 1344 (52 * last_row paper - 260) x y (inl (omega (arith, ints, m.right, left))))
 mark-in_zone paper c r x y (inr (inr (inr right))) m = ap not (rectangle-outside (pos 178) (pos (first_y paper + 130)) 1344 (52 * last_row paper - 260) x y (inr (inl (omega (arith, ints, m.left, right)))))
 
@@ -81,19 +65,15 @@ box-inner paper n x y few h =
     let rows = place-rows (first_code_row paper) n few in
     rectangle-inside (pos 178) (pos (first_y paper + 130)) 1344 (52 * last_row paper - 260) x y
     (omega (arith, ints, sides.0, columns.0)) (omega (arith, ints, sides.1, columns.1))
-    (omega (arith, ints, sides.2, rows.0, many_rows paper)) (omega (arith, ints, sides.3, rows.1, many_rows paper))
+    (omega (arith, ints, sides.2, rows.0, last-row_low paper)) (omega (arith, ints, sides.3, rows.1, last-row_low paper))
 
 -- the outline of a bubble lies in its box
 bubble-in_box : (paper : Paper) (bubble : Bubble) (x y : ℤ) → bubble_pixels paper bubble x y ≡ true → bubble_box_of paper bubble x y ≡ true
 unfolding bubble_pixels outline
 bubble-in_box paper bubble x y h =
-    let sides = round-sides 20 13 0 0 (x -ℤ pos (x_of bubble.col)) (y -ℤ pos (y_of paper bubble.row)) (and_first _ _ h) in
+    let sides = round-sides 20 13 0 0 (x -ℤ pos (x_of bubble.col)) (y -ℤ pos (y_of paper bubble.row)) (and-left _ _ h) in
     round-inside 20 13 (x_of bubble.col) (y_of paper bubble.row) x y
     (omega (arith, ints, sides.0)) (omega (arith, ints, sides.1)) (omega (arith, ints, sides.2)) (omega (arith, ints, sides.3))
-  where
-    and_first : (a b : Bool) → (a && b) ≡ true → a ≡ true
-    and_first true b h = refl
-    and_first false b h = cc
 
 -- and a box in its zone
 pub box-in_zone : (paper : Paper) (bubble : Bubble) (x y : ℤ) → bubble_box_of paper bubble x y ≡ true → bubble_zone_of paper bubble x y ≡ true
@@ -101,18 +81,6 @@ box-in_zone paper bubble x y h =
     let sides = round-sides 20 13 (x_of bubble.col) (y_of paper bubble.row) x y h in
     round-inside 36 25 (x_of bubble.col) (y_of paper bubble.row) x y
     (omega (arith, ints, sides.0)) (omega (arith, ints, sides.1)) (omega (arith, ints, sides.2)) (omega (arith, ints, sides.3))
-
-or_cases : {P : Type 0} (a b : Bool) → (a || b) ≡ true → (a ≡ true → P) → (b ≡ true → P) → P
-or_cases true b h left right = left refl
-or_cases false b h left right = right h
-
-or_left : (a b : Bool) → a ≡ true → (a || b) ≡ true
-or_left true b h = refl
-or_left false b h = cc
-
-or_right : (a b : Bool) → b ≡ true → (a || b) ≡ true
-or_right true b h = refl
-or_right false b h = h
 
 -- a place where only one of four sets has anything
 only-first : (a b c d : Bool) → b ≡ false → c ≡ false → d ≡ false → ((a || b) || (c || d)) ≡ a
@@ -138,16 +106,6 @@ only-third false false false false h i j = refl
 
 none-of : (a b c d : Bool) → a ≡ false → b ≡ false → c ≡ false → d ≡ false → ((a || b) || (c || d)) ≡ false
 none-of a b c d h i j k = only-first a b c d i j k ∙ h
-
-true_false : true ≡ false → ⊥
-true_false e = cc
-
-decide : (n k : ℕ) → (n ≡ k) ⊎ (n ≢ k)
-decide n k = by_test (n == k) refl
-  where
-    by_test : (test : Bool) → (n == k) ≡ test → (n ≡ k) ⊎ (n ≢ k)
-    by_test true e = inl (equal-from_yes n k e)
-    by_test false e = inr (λ same. true_false (sym (equal-yes n k same) ∙ e))
 
 abbrev no_bubble : Bubble
 no_bubble = record { contest = 0; option = 0; col = 0; row = 0 }
@@ -183,10 +141,10 @@ module _ (are : TimingMarksAreMarks) (plan : PagePlan) (keeps : KeepsClear plan)
   unfolding print_of
   frame-printed x y zone =
       only-first _ _ _ _
-      (is_false _ (λ code. true_false (sym zone ∙ code-inner x y code)))
-      (is_false _ (λ some. let k = any_of-some plan.bubbles no_bubble (bubble_pixels plan.paper) x y some in
+      (is-false _ (λ code. true≢false (sym zone ∙ code-inner x y code)))
+      (is-false _ (λ some. let k = any_of-some plan.bubbles no_bubble (bubble_pixels plan.paper) x y some in
       (keeps.clear.zones_from_frame k.0 no_bubble k.1).apart x y (bubble-zoned k.0 x y k.2) zone))
-      (is_false _ (λ some. let k = any_of-some plan.texts no_line line_pixels x y some in
+      (is-false _ (λ some. let k = any_of-some plan.texts no_line line_pixels x y some in
       (keeps.clear.text_from_frame k.0 no_line k.1).apart x y k.2 zone))
 
   -- in a bubble's zone its outline is
@@ -195,12 +153,12 @@ module _ (are : TimingMarksAreMarks) (plan : PagePlan) (keeps : KeepsClear plan)
   unfolding print_of code_pixels code_zones box_pixels
   bubble-printed n few x y zone =
       only-third _ _ _ _
-      (is_false _ (λ mark. (keeps.clear.zones_from_frame n no_bubble few).apart x y zone (marks-in_zone x y mark)))
-      (is_false _ (λ code. let k = in_any-some 84 (printed_box plan.paper boxes) x y code in
+      (is-false _ (λ mark. (keeps.clear.zones_from_frame n no_bubble few).apart x y zone (marks-in_zone x y mark)))
+      (is-false _ (λ code. let k = in_any-some 84 (printed_box plan.paper boxes) x y code in
       (keeps.clear.zones_from_code n no_bubble few).apart x y zone (in_any-one 84 k.0 (λ m. box_zone_at plan.paper (place_of_box plan.paper m)) x y k.1 (code-zoned k.0 x y (box-of k.0 x y k.2)))))
-      (is_false _ (λ some. let k = any_of-some plan.texts no_line line_pixels x y some in
+      (is-false _ (λ some. let k = any_of-some plan.texts no_line line_pixels x y some in
       ((keeps.clear.zones_from_text k.0 no_line k.1) n no_bubble few).apart x y zone k.2))
-      ∙ same_bool _ _ own (any_of-one plan.bubbles n no_bubble (bubble_pixels plan.paper) x y few)
+      ∙ same-bool _ _ own (any_of-one plan.bubbles n no_bubble (bubble_pixels plan.paper) x y few)
     where
       code-zoned : (k : ℕ) (x y : ℤ) → round sizes.code_box (x_of (place_of_box plan.paper k).0) (y_of plan.paper (place_of_box plan.paper k).1) x y ≡ true → box_zone_at plan.paper (place_of_box plan.paper k) x y ≡ true
       code-zoned k x y h =
@@ -213,7 +171,7 @@ module _ (are : TimingMarksAreMarks) (plan : PagePlan) (keeps : KeepsClear plan)
       one k within h (inr other) = absurd ((keeps.apart.each n k no_bubble few within other).apart x y zone (bubble-in_box plan.paper (bubble_at plan k) x y h))
 
       own : any_of plan.bubbles (bubble_pixels plan.paper) x y ≡ true → bubble_pixels plan.paper (bubble_at plan n) x y ≡ true
-      own some = let k = any_of-some plan.bubbles no_bubble (bubble_pixels plan.paper) x y some in one k.0 k.1 k.2 (decide n k.0)
+      own some = let k = any_of-some plan.bubbles no_bubble (bubble_pixels plan.paper) x y some in one k.0 k.1 k.2 (cases_eq n k.0)
 
   -- the place of a box of the page code, by the row that its rows begin at
   abbrev zone_from : ℕ → ℕ → Pixels
@@ -230,7 +188,7 @@ module _ (are : TimingMarksAreMarks) (plan : PagePlan) (keeps : KeepsClear plan)
 
   no-mark : (first n : ℕ) (x y : ℤ) → n < 84 → 2 ≤ first → first + 4 ≤ last_row plan.paper → zone_from first n x y ≡ true → timing_marks plan.paper x y ≡ false
   no-mark first n x y few low high h =
-      is_false _ (λ mark. let m = (are plan.paper).some x y mark in apart m.0 m.1 m.2.side m.3)
+      is-false _ (λ mark. let m = (are plan.paper).some x y mark in apart m.0 m.1 m.2.side m.3)
     where
       sides : (pos 172 ≤ℤ x) × (x <ℤ pos 1528) × ((pos (first_y plan.paper + 52 * first) -ℤ pos 22) ≤ℤ y) × (y <ℤ (pos (first_y plan.paper + 52 * (first + 2)) +ℤ pos 22))
       sides = zone-sides first n x y few h
@@ -253,12 +211,12 @@ module _ (are : TimingMarksAreMarks) (plan : PagePlan) (keeps : KeepsClear plan)
   unfolding print_of code_pixels code_zones
   code-printed n few x y zone =
       only-second _ _ _ _
-      (no-mark (first_code_row plan.paper) n x y few (omega (arith, many_rows plan.paper)) (omega (arith, many_rows plan.paper)) zone)
-      (is_false _ (λ some. let k = any_of-some plan.bubbles no_bubble (bubble_pixels plan.paper) x y some in
+      (no-mark (first_code_row plan.paper) n x y few (omega (arith, last-row_low plan.paper)) (omega (arith, last-row_low plan.paper)) zone)
+      (is-false _ (λ some. let k = any_of-some plan.bubbles no_bubble (bubble_pixels plan.paper) x y some in
       (keeps.clear.zones_from_code k.0 no_bubble k.1).apart x y (bubble-zoned k.0 x y k.2) in_zones))
-      (is_false _ (λ some. let k = any_of-some plan.texts no_line line_pixels x y some in
+      (is-false _ (λ some. let k = any_of-some plan.texts no_line line_pixels x y some in
       (keeps.clear.text_from_code k.0 no_line k.1).apart x y k.2 in_zones))
-      ∙ same_bool _ _ own (in_any-one 84 n (printed_box plan.paper boxes) x y few)
+      ∙ same-bool _ _ own (in_any-one 84 n (printed_box plan.paper boxes) x y few)
     where
       in_zones : in_any 84 (λ m. box_zone_at plan.paper (place_of_box plan.paper m)) x y ≡ true
       in_zones = in_any-one 84 n (λ m. box_zone_at plan.paper (place_of_box plan.paper m)) x y few zone
@@ -279,11 +237,11 @@ module _ (are : TimingMarksAreMarks) (plan : PagePlan) (keeps : KeepsClear plan)
   unfolding print_of code_pixels reserved_zones
   reserved-empty n few x y zone =
       none-of _ _ _ _
-      (no-mark first_reserved_row n x y few (omega arith) (omega (arith, many_rows plan.paper)) zone)
-      (is_false _ (λ some. let k = in_any-some 84 (printed_box plan.paper boxes) x y some in apart k.0 k.1 (box-of k.0 x y k.2)))
-      (is_false _ (λ some. let k = any_of-some plan.bubbles no_bubble (bubble_pixels plan.paper) x y some in
+      (no-mark first_reserved_row n x y few (omega arith) (omega (arith, last-row_low plan.paper)) zone)
+      (is-false _ (λ some. let k = in_any-some 84 (printed_box plan.paper boxes) x y some in apart k.0 k.1 (box-of k.0 x y k.2)))
+      (is-false _ (λ some. let k = any_of-some plan.bubbles no_bubble (bubble_pixels plan.paper) x y some in
       (keeps.clear.zones_from_reserved k.0 no_bubble k.1).apart x y (bubble-zoned k.0 x y k.2) in_zones))
-      (is_false _ (λ some. let k = any_of-some plan.texts no_line line_pixels x y some in
+      (is-false _ (λ some. let k = any_of-some plan.texts no_line line_pixels x y some in
       (keeps.clear.text_from_reserved k.0 no_line k.1).apart x y k.2 in_zones))
     where
       in_zones : in_any 84 (λ m. box_zone_at plan.paper (reserved_place m)) x y ≡ true
@@ -294,4 +252,4 @@ module _ (are : TimingMarksAreMarks) (plan : PagePlan) (keeps : KeepsClear plan)
           let box = box-sides k x y h in
           let rows = place-rows (first_code_row plan.paper) k within in
           let sides = zone-sides first_reserved_row n x y few zone in
-          omega (arith, ints, box.2, rows.0, sides.3, many_rows plan.paper)
+          omega (arith, ints, box.2, rows.0, sides.3, last-row_low plan.paper)

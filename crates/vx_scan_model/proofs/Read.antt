@@ -5,6 +5,7 @@ use Rattle.std.specs.List.{range_with_len}
 use Rattle.std.proofs.lemmas.Bool.Decides.{nat_tests}
 use Rattle.std.proofs.lemmas.List.{ext_get_or, get_or-map, length-map}
 use Rattle.std.proofs.lemmas.List.FromFn.{get_or-map-range_with_len, length-map-range_with_len}
+use Rattle.std.proofs.lemmas.Bool.{and_parts}
 use Rattle.vx_plane.specs.Plane.{Pixels, Page, rectangle, dark_at}
 use Rattle.vx_plane.proofs.Counts.{count_in-le}
 use Rattle.vx_grid.specs.declared.paper.Paper.{Paper}
@@ -38,6 +39,8 @@ use Rattle.vx_margin.specs.Laws.{HoldsWindow, FindsBorder}
 use Rattle.vx_scan_model.specs.declared.fault.PageFault.TheVariants.{FrameSize, OtherElection}
 use Rattle.vx_base.specs.Results.{◌>>=◌}
 use Rattle.vx_base.proofs.Numbers.{equal-yes, equal-no}
+use Rattle.vx_base.proofs.Booleans.{and-both}
+use Rattle.vx_grid.proofs.Papers.{last-row_low}
 use Rattle.vx_scan_model.specs.Border.{border_of}
 use Rattle.vx_scan_model.specs.Named.{named_plan, plan_on_card, plan_unless}
 use Rattle.vx_scan_model.specs.Reading.{is_allowed, box_count_of, code_read, bubble_score, scores_of, states_of, reading_on, reading_of_code, reading_of_border, upright_reading_of}
@@ -45,7 +48,7 @@ use Rattle.vx_scan_model.specs.Ink.{added_to, bubble_at, HasInk}
 use Rattle.vx_scan_model.specs.Fits.{bubble_flips, code_flips, FitsUpright, state_of_mark, IsReadUpright}
 use Rattle.vx_scan_model.specs.Laws.{AreLaws}
 use Rattle.vx_scan_model.proofs.Borders.{IsBorderOf-border_of}
-use Rattle.vx_scan_model.proofs.Printed.{many_rows, frame-printed, place-columns, place-rows}
+use Rattle.vx_scan_model.proofs.Printed.{frame-printed, place-columns, place-rows}
 use Rattle.vx_scan_model.proofs.Inks.{zone-ink, box-ink, box-full, box-empty}
 use Rattle.vx_scan_model.proofs.Found.{IsFoundNear, found-near}
 
@@ -69,14 +72,6 @@ clear-state score thresholds order low =
     let first : nat_le thresholds.def score ≡ false = grind (arith, nat_tests) in
     let second : nat_lt score thresholds.marg ≡ true = grind (arith, nat_tests) in
     rw first (rw second refl)
-
-both-parts : (a b : Bool) → (a && b) ≡ true → (a ≡ true) × (b ≡ true)
-both-parts true b h = (refl, h)
-both-parts false b h = cc
-
-both-from : (a b : Bool) → a ≡ true → b ≡ true → (a && b) ≡ true
-both-from true b h g = g
-both-from false b h g = cc
 
 module _ (laws : AreLaws) (election : Election) (valid : IsValid election) (scan : Page) (printed : PrintedPage) (plan : PagePlan) (marks : List Bool) (fits : FitsUpright election scan printed plan marks) where
   abbrev s : Slant
@@ -106,8 +101,8 @@ module _ (laws : AreLaws) (election : Election) (valid : IsValid election) (scan
         le_trans
         (count_in-le (p.u -ℤ pos 23) (p.v -ℤ pos 11) 46 22 (flips_in s scan (timing_marks plan.paper) (frame_zone plan.paper)) (flips_in s scan fits.paper (frame_zone plan.paper))
         (λ u v a b c d h.
-        let parts = both-parts (seen s (frame_zone plan.paper) u v) (flips s scan (timing_marks plan.paper) u v) h in
-        both-from (seen s (frame_zone plan.paper) u v) (flips s scan fits.paper u v) parts.0
+        let parts = and_parts (seen s (frame_zone plan.paper) u v) (flips s scan (timing_marks plan.paper) u v) h in
+        and-both (seen s (frame_zone plan.paper) u v) (flips s scan fits.paper u v) parts.0
         (flips-same s scan fits.paper (timing_marks plan.paper) u v (frame-paper _ _ parts.0) ∙ parts.1)))
         (fits.shows.few p framed);
   }
@@ -135,7 +130,7 @@ module _ (laws : AreLaws) (election : Election) (valid : IsValid election) (scan
         let c : ℕ = (place_of_box plan.paper n).0 in
         let r : ℕ = (place_of_box plan.paper n).1 in
         let close : LiesNear 6 4 (place_of border c r) (image_of s plan.paper c r) =
-        laws.places s border c r fits.shows.slant_is near (omega (arith, columns.1)) (omega (arith, rows.1, many_rows plan.paper)) in
+        laws.places s border c r fits.shows.slant_is near (omega (arith, columns.1)) (omega (arith, rows.1, last-row_low plan.paper)) in
         laws.windows s scan plan.paper fits.paper sizes.code_box c r code_flips (place_of border c r) fits.shows.slant_is (omega arith) (omega arith) (fits.shows.boxes n few) close
 
     box-shown : (n : ℕ) → n < 84 → (is : Bool) → slice_index_or boxes n false ≡ is → IsShown is (box_count_of scan border n)
@@ -170,7 +165,7 @@ module _ (laws : AreLaws) (election : Election) (valid : IsValid election) (scan
         let r : ℕ = (bubble_at plan n).row in
         let grid : IsOnGrid plan.paper (bubble_at plan n) = keeps.on_grid n (record { contest = 0; option = 0; col = 0; row = 0 }) few in
         let close : LiesNear 6 4 (place_of border c r) (image_of s plan.paper c r) =
-        laws.places s border c r fits.shows.slant_is near (omega (arith, grid.col, grid.few)) (omega (arith, grid.high, many_rows plan.paper)) in
+        laws.places s border c r fits.shows.slant_is near (omega (arith, grid.col, grid.few)) (omega (arith, grid.high, last-row_low plan.paper)) in
         laws.windows s scan plan.paper fits.paper sizes.bubble c r bubble_flips (place_of border c r) fits.shows.slant_is (omega arith) (omega arith) (fits.shows.bubbles n few) close
 
     scored : (n : ℕ) → n < length plan.bubbles → (mark : Bool) → HasInk mark election.thresholds plan.paper (bubble_at plan n) (added_to print fits.paper)

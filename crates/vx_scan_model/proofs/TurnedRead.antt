@@ -5,6 +5,7 @@ use Rattle.std.specs.List.{range_with_len}
 use Rattle.std.proofs.lemmas.Int.{ints, by_lt_z}
 use Rattle.std.proofs.lemmas.Bool.Decides.{nat_tests}
 use Rattle.std.proofs.lemmas.List.FromFn.{get_or-map-range_with_len, length-map-range_with_len}
+use Rattle.std.proofs.lemmas.Bool.{true≢false}
 use Rattle.vx_plane.specs.Plane.{Page, dark_at}
 use Rattle.vx_plane.proofs.Pages.{dark_at-in_frame, dark_at-out_of_frame, rectangle-inside}
 use Rattle.vx_grid.specs.declared.paper.Paper.{Paper}
@@ -29,6 +30,7 @@ use Rattle.vx_geom.specs.Slants.{Slant, slant_of}
 use Rattle.vx_margin.specs.Flips.{flips_on, frame_of}
 use Rattle.vx_margin.specs.Shown.{count_round, dark_round}
 use Rattle.vx_grid.specs.Places.{point_at}
+use Rattle.vx_grid.proofs.Papers.{last-row_low}
 use Rattle.vx_mark_model.specs.Corner.{IsInCornerRegion}
 use Rattle.vx_margin.specs.Chains.{IsChain, LieAtMarks}
 use Rattle.vx_margin.specs.Turned.{IsTurned, slant_turned}
@@ -38,7 +40,7 @@ use Rattle.vx_scan_model.specs.Reading.{is_allowed, box_count_of, code_read, rea
 use Rattle.vx_scan_model.specs.Fits.{FitsUpright, Fits, IsReadAs, IsReadUpright}
 use Rattle.vx_scan_model.specs.Laws.{AreLaws, AreTurnedLaws}
 use Rattle.vx_scan_model.proofs.Borders.{IsBorderOf-border_of}
-use Rattle.vx_scan_model.proofs.Printed.{many_rows, place-columns, place-rows}
+use Rattle.vx_scan_model.proofs.Printed.{place-columns, place-rows}
 use Rattle.vx_scan_model.proofs.Inks.{reserved-blank}
 use Rattle.vx_scan_model.proofs.Read.{shows-border, upright-read}
 
@@ -59,10 +61,7 @@ pub dark-framed : (page : Page) → IsWhole page → (u v : ℤ) → dark_at pag
 dark-framed page whole u v dark =
     by_frame page.width page.height u v
     (λ a b c d. rectangle-inside (pos 0) (pos 0) page.width page.height u v a (omega (arith, ints, b)) c (omega (arith, ints, d)))
-    (λ out. absurd (true_false (sym dark ∙ light-outside page whole u v out)))
-  where
-    true_false : true ≡ false → ⊥
-    true_false e = cc
+    (λ out. absurd (true≢false (sym dark ∙ light-outside page whole u v out)))
 
 -- a page is its turned page, turned
 pub is-turned : (page : Page) → IsWhole page → IsTurned page (turned_page page)
@@ -91,7 +90,7 @@ is-turned page whole = record {
 
 -- where a box stands, the turned page has a reserved zone
 over-box : (paper : Paper) (n : ℕ) → n < 84 → (33 - (place_of_box paper n).0 ≡ (reserved_place (83 - n)).0) × (last_row paper - (place_of_box paper n).1 ≡ (reserved_place (83 - n)).1)
-over-box paper n few = (omega arith, omega (arith, many_rows paper))
+over-box paper n few = (omega arith, omega (arith, last-row_low paper))
 
 -- the bounds of an allowed frame
 allowed-bounds : (paper : Paper) (page : Page) → is_allowed paper page ≡ true → (page.width ≤ 2000) × (page.height ≤ 52 * last_row paper + 350)
@@ -155,7 +154,7 @@ module _ (laws : AreLaws) (more : AreTurnedLaws) (election : Election) (valid : 
         (reserved-blank laws.marks_are plan keeps (boxes_of (code_of election printed)) fits.paper fits.inked.printed m (omega arith) fits.inked.reserved)) in
         let most : dark_round scan (window_of sizes.code_box) (place_of border c r) ≤ count_round plan.paper (zone_of sizes.code_box) (33 - c) (last_row plan.paper - r) fits.paper + 120 =
         more.windows s scan other border fits.paper sizes.code_box c r 120 (is-turned scan whole) fits.shows.slant_is (dark-framed scan whole) near (omega arith) (omega arith)
-        (omega (arith, columns.1)) (omega (arith, rows.1, many_rows plan.paper)) wrong in
+        (omega (arith, columns.1)) (omega (arith, rows.1, last-row_low plan.paper)) wrong in
         omega (arith, most, blank)
 
     -- so no code is read there

@@ -2,7 +2,6 @@
 -- it. This project's own rule. Nothing in it says that a place is the best one.
 use Rattle.std.specs.Prelude.{◌≡◌, ◌↔◌, List, Bool, true, Ok}
 use Rattle.vx_plane.specs.Plane.{Page}
-use Rattle.vx_grid.specs.declared.paper.Paper.{Paper}
 use Rattle.vx_grid.specs.Paper.{last_row}
 use Rattle.vx_grid.specs.Marks.{marks as marks_of}
 use Rattle.vx_grid.specs.Places.{point_at}

@@ -1,6 +1,8 @@
 -- Counts of places that were drawn, and of the first pixels of a set.
-use Rattle.std.proofs.Common.{◌≡◌, ◌⊎◌, inl, inr, ℕ, ◌+◌, ◌*◌, ◌≤◌, Bool, true, false, ◌&&◌, List, [], ◌∷◌, length, ℤ, pos, ◌+ℤ◌, ◌≤ℤ◌, ◌<ℤ◌, refl, ap, sym, ◌∙◌, arith}
+use Rattle.std.proofs.Common.{◌≡◌, ◌⊎◌, inl, inr, ℕ, ◌+◌, ◌*◌, ◌≤◌, true, false, ◌&&◌, List, [], ◌∷◌, length, ℤ, pos, ◌+ℤ◌, ◌≤ℤ◌, ◌<ℤ◌, refl, ap, sym, ◌∙◌, arith}
 use Rattle.std.specs.Ordering.{int_eq}
+use Rattle.std.proofs.lemmas.Bool.{false≢true}
+use Rattle.vx_base.proofs.Booleans.{is-false}
 use Rattle.vx_plane.specs.Plane.{Pixels, union, rectangle}
 use Rattle.vx_plane.specs.Count.{one_if, sum_from, count_in}
 use Rattle.vx_plane.proofs.Sums.{sum_from-same, sum_from-le, sum_from-same_number}
@@ -8,13 +10,6 @@ use Rattle.vx_plane.proofs.Counts.{count_in-by_rows, count_in-le, count_in-none,
 use Rattle.vx_plane.proofs.Pages.{rectangle-inside, rectangle-outside, rectangle-one}
 use Rattle.vx_geom.proofs.Runs.{run_le}
 use Rattle.vx_simulate.specs.Flips.{places_from}
-
-pub is-false : (b : Bool) → (b ≡ true → ⊥) → b ≡ false
-is-false true h = absurd (h refl)
-is-false false h = refl
-
-pub false-true : false ≡ true → ⊥
-false-true e = cc
 
 sum-none : (low : ℤ) (n : ℕ) (f : ℤ → ℕ) → ((z : ℤ) → low ≤ℤ z → z <ℤ (low +ℤ pos n) → f z ≡ 0) → sum_from low n f ≡ 0
 sum-none low n f none =
@@ -38,7 +33,7 @@ count-inside left top w h x y m n set within =
     omega (arith, here, there, across, down)
   where
     outside : (u v : ℤ) → (u <ℤ x) ⊎ ((x +ℤ pos m) ≤ℤ u) ⊎ (v <ℤ y) ⊎ ((y +ℤ pos n) ≤ℤ v) → set u v ≡ false
-    outside u v out = is-false (set u v) (λ h. false-true (sym (rectangle-outside x y m n u v out) ∙ within u v h))
+    outside u v out = is-false (set u v) (λ h. false≢true (sym (rectangle-outside x y m n u v out) ∙ within u v h))
 
 -- one place is counted at most once
 count-one : (left top : ℤ) (w h : ℕ) (x y : ℤ) → count_in left top w h (λ u v. int_eq u x && int_eq v y) ≤ 1

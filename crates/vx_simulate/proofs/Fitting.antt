@@ -2,7 +2,6 @@
 use Rattle.std.proofs.Common.{◌≡◌, ℕ, ◌+◌, ◌≤◌, ◌<◌, Bool, true, List, length, ℤ, pos, ◌-ℤ◌, ◌≤ℤ◌, refl, arith}
 use Rattle.std.proofs.lemmas.Int.{ints}
 use Rattle.std.proofs.lemmas.List.{length-map}
-use Rattle.std.proofs.lemmas.Bool.Decides.{nat_tests}
 use Rattle.rand_pcg.specs.Lcg.{Lcg}
 use Rattle.vx_plane.specs.Plane.{Pixels, Page, page_of, rectangle}
 use Rattle.vx_plane.proofs.Pages.{rectangle-inside, rectangle-sides}
@@ -10,7 +9,7 @@ use Rattle.vx_grid.specs.declared.paper.Paper.{Paper}
 use Rattle.vx_grid.specs.declared.paper.Paper.TheVariants.{Letter, Legal}
 use Rattle.vx_grid.specs.Paper.{last_row, first_y}
 use Rattle.vx_grid.specs.Places.{IsWithin}
-use Rattle.vx_grid.specs.Marks.{marks_to, mark_of}
+use Rattle.vx_grid.specs.Marks.{mark_of}
 use Rattle.vx_grid.specs.Grid.{x_of, y_of, first_code_row, first_reserved_row}
 use Rattle.vx_code.specs.Code.{place_from, reserved_place}
 use Rattle.vx_layout.specs.declared.pages.PagePlan.{PagePlan}
@@ -28,6 +27,7 @@ use Rattle.vx_simulate.specs.Marks.{draw_marks, marks_of, is_marked}
 use Rattle.vx_simulate.specs.Lie.{frame_width, frame_height, shear_to, start_column, start_columns}
 use Rattle.vx_simulate.specs.Flips.{draw_flips, drawn_flips}
 use Rattle.vx_geom.specs.Seen.{seen}
+use Rattle.vx_grid.proofs.MarkPlaces.{mark-column, mark-row}
 use Rattle.vx_simulate.specs.Ink.{draw_inks, inked}
 use Rattle.vx_simulate.specs.Simulated.{draw_page, SimulatedScansFit}
 use Rattle.vx_simulate.proofs.Drawn.{draw-below}
@@ -55,12 +55,6 @@ frame-allowed Legal set = refl
 rows-between : (paper : Paper) → (40 ≤ last_row paper) × (60 ≤ first_y paper)
 rows-between Letter = (omega arith, omega arith)
 rows-between Legal = (omega arith, omega arith)
-
-mark-columns : (last k : ℕ) → 40 ≤ last → k < marks_to last → (mark_of last k).0 ≤ 33
-mark-columns last k many few = grind (arith, nat_tests)
-
-mark-rows : (last k : ℕ) → 40 ≤ last → k < marks_to last → (mark_of last k).1 ≤ last
-mark-rows last k many few = grind (arith, nat_tests)
 
 slope : (n : ℕ) → n < 129 → IsWithin 64 (pos n -ℤ pos 64)
 slope n few = record { low = omega (arith, ints, few); high = omega (arith, ints, few) }
@@ -138,8 +132,8 @@ module _ (plan : PagePlan) (keeps : KeepsClear plan) (a b u v : ℤ) (rows : IsW
           marks = λ k few.
               let c : ℕ = (mark_of (last_row plan.paper) k).0 in
               let r : ℕ = (mark_of (last_row plan.paper) k).1 in
-              let column : c ≤ 33 = mark-columns (last_row plan.paper) k many.0 few in
-              let row : r ≤ last_row plan.paper = mark-rows (last_row plan.paper) k many.0 few in
+              let column : c ≤ 33 = mark-column (last_row plan.paper) k many.0 few in
+              let row : r ≤ last_row plan.paper = mark-row (last_row plan.paper) k many.0 few in
               let at = inside (pos (x_of c)) (pos (y_of plan.paper r)) (record {
                 left = omega (arith, ints);
                 right = omega (arith, ints, column);

@@ -1,19 +1,17 @@
 -- The flips of a simulated scan are few, wherever there may be only few.
-use Rattle.std.proofs.Common.{◌≡◌, ◌≢◌, ◌⊎◌, inl, inr, ℕ, ◌+◌, ◌-◌, ◌≤◌, ◌<◌, Bool, true, false, not, ◌||◌, [], length, ℤ, pos, negsuc, ◌+ℤ◌, ◌-ℤ◌, ◌≤ℤ◌, ◌<ℤ◌, refl, ap, sym, subst, ◌∙◌, arith}
+use Rattle.std.proofs.Common.{◌≡◌, ◌≢◌, ◌⊎◌, inl, inr, ℕ, ◌+◌, ◌-◌, ◌≤◌, ◌<◌, Bool, true, false, not, ◌||◌, [], length, ℤ, pos, ◌+ℤ◌, ◌-ℤ◌, ◌≤ℤ◌, ◌<ℤ◌, refl, ap, sym, subst, ◌∙◌, arith}
 use Rattle.std.specs.Prelude.{slice_index_or}
 use Rattle.std.specs.List.{range_with_len}
 use Rattle.std.proofs.lemmas.Int.{ints}
-use Rattle.std.proofs.lemmas.Bool.{cases_lt}
+use Rattle.std.proofs.lemmas.Bool.{cases_lt, cases_eq, false≢true}
 use Rattle.rand_pcg.specs.Lcg.{Lcg}
 use Rattle.vx_base.proofs.Booleans.{and-left, and-right, or-left, or-right, or-cases}
+use Rattle.vx_base.proofs.Integers.{natural-of}
 use Rattle.vx_plane.specs.Plane.{Pixels, Page, page_of, union, rectangle, dark_at}
 use Rattle.vx_plane.specs.Count.{count_in}
 use Rattle.vx_plane.proofs.Counts.{count_in-le, count_in-union_le, count_in-same}
 use Rattle.vx_plane.proofs.Pages.{in_any-some, in_any-one, rectangle-inside, rectangle-sides, dark_at-in_frame}
-use Rattle.vx_grid.specs.declared.paper.Paper.{Paper}
-use Rattle.vx_grid.specs.declared.paper.Paper.TheVariants.{Letter, Legal}
 use Rattle.vx_grid.specs.declared.places.Point.{Point}
-use Rattle.vx_grid.specs.Paper.{last_row}
 use Rattle.vx_grid.specs.Grid.{x_of, y_of}
 use Rattle.vx_grid.specs.Regions.{frame_zone}
 use Rattle.vx_grid.specs.Sizes as sizes
@@ -30,20 +28,17 @@ use Rattle.vx_geom.specs.Laws.{IsNearlyMoved}
 use Rattle.vx_geom.proofs.Ways.{paper_column-scan, paper_row-scan, scan_column-paper, scan_row-paper}
 use Rattle.vx_geom.proofs.Pieces.{nearly-moved}
 use Rattle.vx_geom.proofs.Shown.{conserves-counts}
+use Rattle.vx_grid.proofs.Papers.{last-row_low}
 use Rattle.vx_margin.specs.Flips.{differ, flips, flips_in, flips_on}
 use Rattle.vx_margin.specs.Shown.{count_at, count_round}
 use Rattle.vx_scan_model.specs.Ink.{bubble_at}
 use Rattle.vx_simulate.specs.Lie.{frame_width, frame_height}
 use Rattle.vx_simulate.specs.declared.flips.Flips.{Flips}
 use Rattle.vx_simulate.specs.Flips.{draw_flips, bubble_places, box_places, paper_flips, scan_flips, drawn_flips, draw_at_bubbles, draw_at_boxes}
-use Rattle.vx_simulate.proofs.Counting.{false-true, count-places, count-among}
+use Rattle.vx_simulate.proofs.Counting.{count-places, count-among}
 use Rattle.vx_simulate.proofs.Drawn.{lists-few, lists-inside}
-use Rattle.vx_simulate.proofs.Inking.{no_bubble, decide}
+use Rattle.vx_simulate.proofs.Inking.{no_bubble}
 use Rattle.vx_simulate.proofs.Tiles.{tiles, window-few, windows-few}
-
-many-rows : (paper : Paper) → 40 ≤ last_row paper
-many-rows Letter = omega arith
-many-rows Legal = omega arith
 
 differ-back : (flip shown : Bool) → differ (differ flip shown) shown ≡ flip
 differ-back true true = refl
@@ -51,14 +46,9 @@ differ-back true false = refl
 differ-back false true = refl
 differ-back false false = refl
 
--- a number that isn't negative
-natural : (z : ℤ) → pos 0 ≤ℤ z → (n : ℕ) × (z ≡ pos n)
-natural (pos n) h = (n, refl)
-natural (negsuc n) h = absurd (omega (arith, ints, h))
-
 not-false : (b : Bool) → not b ≡ true → b ≡ true → ⊥
-not-false true h g = false-true h
-not-false false h g = false-true g
+not-false true h g = false≢true h
+not-false false h g = false≢true g
 
 module _ (plan : PagePlan) (keeps : KeepsClear plan) (s : Slant) (slant : IsSlant s) (paper : Pixels) (g : Lcg) where
   abbrev drawn : Flips
@@ -140,8 +130,8 @@ module _ (plan : PagePlan) (keeps : KeepsClear plan) (s : Slant) (slant : IsSlan
 
   pub few-framed : (p : Point) → IsInFrame scan p → count_at p (flips_in s scan paper (frame_zone plan.paper)) ≤ 20
   few-framed p framed =
-      let l = natural (p.u -ℤ pos 23) (omega (arith, ints, framed.left)) in
-      let t = natural (p.v -ℤ pos 11) (omega (arith, ints, framed.top)) in
+      let l = natural-of (p.u -ℤ pos 23) (omega (arith, ints, framed.left)) in
+      let t = natural-of (p.v -ℤ pos 11) (omega (arith, ints, framed.top)) in
       let most : count_at p (flips_in s scan paper (frame_zone plan.paper)) ≤ count_in (p.u -ℤ pos 23) (p.v -ℤ pos 11) 46 22 in_tiles =
       count_in-le (p.u -ℤ pos 23) (p.v -ℤ pos 11) 46 22 (flips_in s scan paper (frame_zone plan.paper)) in_tiles (λ u v a b c d h. framed-flip u v h) in
       let there : count_in (p.u -ℤ pos 23) (p.v -ℤ pos 11) 46 22 in_tiles ≡ count_in (pos l.0) (pos t.0) 46 22 in_tiles =
@@ -186,7 +176,7 @@ module _ (plan : PagePlan) (keeps : KeepsClear plan) (s : Slant) (slant : IsSlan
       own x y zone h =
           laid-cases x y h
           (λ there. paper-cases x y there
-          (λ k within at. mine k x y within zone at (decide n k))
+          (λ k within at. mine k x y within zone at (cases_eq n k))
           (λ k within at. absurd ((keeps.clear.zones_from_code n no_bubble few).apart x y zone (in-code k x y within (box-zoned k x y at)))))
           (λ tile frame no_code. absurd ((keeps.clear.zones_from_frame n no_bubble few).apart x y zone frame))
 
@@ -249,8 +239,8 @@ module _ (plan : PagePlan) (keeps : KeepsClear plan) (s : Slant) (slant : IsSlan
       let corner : rectangle left top 60 44 left top ≡ true = rectangle-inside left top 60 44 left top (omega (arith, ints)) (omega (arith, ints)) (omega (arith, ints)) (omega (arith, ints)) in
       let column = moved.columns left top corner in
       let row = moved.rows left top corner in
-      let l = natural (left +ℤ moved.right) (elim column [ inl is ↦ omega (arith, ints, is, right_of) | inr is ↦ omega (arith, ints, is, right_of) ]) in
-      let t = natural (top +ℤ moved.down) (elim row [ inl is ↦ omega (arith, ints, is, below) | inr is ↦ omega (arith, ints, is, below) ]) in
+      let l = natural-of (left +ℤ moved.right) (elim column [ inl is ↦ omega (arith, ints, is, right_of) | inr is ↦ omega (arith, ints, is, right_of) ]) in
+      let t = natural-of (top +ℤ moved.down) (elim row [ inl is ↦ omega (arith, ints, is, below) | inr is ↦ omega (arith, ints, is, below) ]) in
       let set : Pixels = laid_back s in_tiles in
       let most : count_in left top 60 44 (flips_on s scan paper) ≤ count_in left top 60 44 set =
       count_in-le left top 60 44 (flips_on s scan paper) set (λ x y a b c d h. tiled x y (rectangle-inside left top 60 44 x y a b c d) h) in
@@ -275,7 +265,7 @@ module _ (plan : PagePlan) (keeps : KeepsClear plan) (s : Slant) (slant : IsSlan
       far k x y within zone at =
           let a = rectangle-sides (pos (x_of (reserved_place n).0) -ℤ pos 30) (pos (y_of plan.paper (reserved_place n).1) -ℤ pos 22) 60 44 x y zone in
           let b = rectangle-sides (pos (x_of (place_of_box plan.paper k).0) -ℤ pos 30) (pos (y_of plan.paper (place_of_box plan.paper k).1) -ℤ pos 22) 60 44 x y (box-zoned k x y at) in
-          let rows = many-rows plan.paper in
+          let rows = last-row_low plan.paper in
           omega (arith, ints, a.2, a.3, b.2, b.3, rows, few, within)
 
       tiled : (x y : ℤ) → box_zone_at plan.paper (reserved_place n) x y ≡ true → flips_on s scan paper x y ≡ true → in_tiles (scan_column s x y) (scan_row s x y) ≡ true

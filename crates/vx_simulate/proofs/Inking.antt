@@ -1,14 +1,16 @@
 -- The ink of a simulated voter is that of the marks.
 use Rattle.std.proofs.Common.{◌≡◌, ◌≢◌, ◌⊎◌, inl, inr, ℕ, ◌+◌, ◌-◌, ◌≤◌, ◌<◌, min, Bool, true, false, not, ◌&&◌, ◌||◌, List, length, ℤ, pos, negsuc, ◌+ℤ◌, ◌-ℤ◌, refl, ap, sym, subst, ◌∙◌, arith}
-use Rattle.std.specs.Prelude.{slice_index_or, nat_lt, ◌==◌}
+use Rattle.std.specs.Prelude.{slice_index_or, nat_lt}
 use Rattle.std.proofs.lemmas.Int.{ints}
+use Rattle.std.proofs.lemmas.Bool.{cases_eq, false≢true}
 use Rattle.rand_pcg.specs.Lcg.{Lcg}
 use Rattle.vx_base.proofs.Booleans.{and-left, and-right}
-use Rattle.vx_base.proofs.Numbers.{equal-yes, equal-from_yes, below-from_no}
+use Rattle.vx_base.proofs.Numbers.{below-from_no}
 use Rattle.vx_plane.specs.Plane.{Pixels, placed}
 use Rattle.vx_plane.specs.Count.{count_in}
-use Rattle.vx_plane.proofs.Counts.{count_in-le, count_in-same, count_in-moved}
+use Rattle.vx_plane.proofs.Counts.{count_in-le}
 use Rattle.vx_plane.proofs.Pages.{in_any-some, in_any-one, rectangle-inside, rectangle-sides}
+use Rattle.vx_geom.proofs.Placed.{placed-count}
 use Rattle.vx_grid.specs.declared.paper.Paper.{Paper}
 use Rattle.vx_grid.specs.declared.state.Thresholds.{Thresholds}
 use Rattle.vx_grid.specs.Grid.{x_of, y_of}
@@ -26,7 +28,7 @@ use Rattle.vx_simulate.specs.Draws.{draw}
 use Rattle.vx_simulate.specs.declared.ink.Ink.{Ink}
 use Rattle.vx_simulate.specs.declared.ink.Ink.TheVariants.{FirstPixels, WholeBox}
 use Rattle.vx_simulate.specs.Ink.{ink_pixels, draw_mark, draw_ink, draw_inks, inked_bubble, inked}
-use Rattle.vx_simulate.proofs.Counting.{false-true, count-inside}
+use Rattle.vx_simulate.proofs.Counting.{count-inside}
 use Rattle.vx_simulate.proofs.Drawn.{draw-below, all-at}
 use Rattle.vx_simulate.proofs.Fronts.{count-first}
 
@@ -52,8 +54,8 @@ inner-unprinted : (box outer inner : Bool) → inner ≡ true → not (box && (o
 inner-unprinted true true true h = refl
 inner-unprinted true false true h = refl
 inner-unprinted false outer true h = refl
-inner-unprinted true true false h = absurd (false-true h)
-inner-unprinted true false false h = absurd (false-true h)
+inner-unprinted true true false h = absurd (false≢true h)
+inner-unprinted true false false h = absurd (false≢true h)
 inner-unprinted false outer false h = refl
 
 -- ink counts the pixels that it adds to the print
@@ -124,16 +126,6 @@ box-zoned paper bubble x y h =
 pub ink-boxed : (plan : PagePlan) (inks : List Ink) (n : ℕ) (x y : ℤ) → inked_bubble plan inks n x y ≡ true → bubble_box_of plan.paper (bubble_at plan n) x y ≡ true
 ink-boxed plan inks n x y h = box-sides plan.paper (bubble_at plan n) x y (ink-in_box (slice_index_or inks n (FirstPixels 0)) _ _ h)
 
--- a shape that is put at a place is counted round it
-placed-count : (left top cx cy : ℤ) (width height : ℕ) (shape : Pixels) → count_in (left +ℤ cx) (top +ℤ cy) width height (placed cx cy shape) ≡ count_in left top width height shape
-placed-count left top cx cy width height shape =
-    count_in-moved left top cx cy width height (placed cx cy shape)
-    ∙ count_in-same left top width height (λ u v. placed cx cy shape (u +ℤ cx) (v +ℤ cy)) shape
-    (λ u v a b c d.
-    let across : (u +ℤ cx) -ℤ cx ≡ u = omega (arith, ints) in
-    let down : (v +ℤ cy) -ℤ cy ≡ v = omega (arith, ints) in
-    ap (λ z. shape z ((v +ℤ cy) -ℤ cy)) across ∙ ap (λ z. shape u z) down)
-
 round-count : (cx cy : ℤ) (shape : Pixels) → count_in (cx -ℤ pos 20) (cy -ℤ pos 13) 40 26 (placed cx cy shape) ≡ count_in (negsuc 19) (negsuc 12) 40 26 shape
 round-count cx cy shape =
     let left : cx -ℤ pos 20 ≡ negsuc 19 +ℤ cx = omega (arith, ints) in
@@ -141,25 +133,18 @@ round-count cx cy shape =
     ap (λ z. count_in z (cy -ℤ pos 13) 40 26 (placed cx cy shape)) left ∙ ap (λ z. count_in (negsuc 19 +ℤ cx) z 40 26 (placed cx cy shape)) top
     ∙ placed-count (negsuc 19) (negsuc 12) cx cy 40 26 shape
 
-pub decide : (n k : ℕ) → (n ≡ k) ⊎ (n ≢ k)
-decide n k = by_test (n == k) refl
-  where
-    by_test : (test : Bool) → (n == k) ≡ test → (n ≡ k) ⊎ (n ≢ k)
-    by_test true e = inl (equal-from_yes n k e)
-    by_test false e = inr (λ same. false-true (sym e ∙ equal-yes n k same))
-
 -- what was added isn't printed, but in the other set
 added-by : (print more : Bool) → ((print || more) && not print) ≡ true → more ≡ true
 added-by false more h = and-left more true h
-added-by true more h = absurd (false-true h)
+added-by true more h = absurd (false≢true h)
 
 is-added : (print more : Bool) → print ≡ false → more ≡ true → ((print || more) && not print) ≡ true
 is-added false true h g = refl
 is-added false false h g = g
-is-added true more h g = absurd (false-true (sym h))
+is-added true more h g = absurd (false≢true (sym h))
 
 not-true : (b : Bool) → not b ≡ true → b ≡ false
-not-true true h = absurd (false-true h)
+not-true true h = absurd (false≢true h)
 not-true false h = refl
 
 module _ (plan : PagePlan) (keeps : KeepsClear plan) (print : Pixels)
@@ -197,7 +182,7 @@ module _ (plan : PagePlan) (keeps : KeepsClear plan) (print : Pixels)
 
     -- in its zone nothing is added but its own ink
     own-ink : (x y : ℤ) → bubble_zone_of plan.paper bubble x y ≡ true → added_to print paper x y ≡ true → inked_bubble plan inks n x y ≡ true
-    own-ink x y zone h = let k = added-ink x y h in own k.0 k.1 k.2 (decide n k.0)
+    own-ink x y zone h = let k = added-ink x y h in own k.0 k.1 k.2 (cases_eq n k.0)
       where
         own : (k : ℕ) → k < length plan.bubbles → inked_bubble plan inks k x y ≡ true → (n ≡ k) ⊎ (n ≢ k) → inked_bubble plan inks n x y ≡ true
         own k within is (inl same) = subst (λ (m : ℕ). inked_bubble plan inks m x y ≡ true) (sym same) is
@@ -260,4 +245,4 @@ module _ (plan : PagePlan) (keeps : KeepsClear plan) (print : Pixels)
     where
       shown : (a b : Bool) → a ≡ true → (a || b) ≡ true
       shown true b h = refl
-      shown false b h = absurd (false-true h)
+      shown false b h = absurd (false≢true h)

@@ -4,6 +4,8 @@ use Rattle.std.proofs.lemmas.Int.{ints}
 use Rattle.std.specs.List.{list_all}
 use Rattle.std.proofs.lemmas.Bool.{cases_lt, and_parts}
 use Rattle.std.proofs.lemmas.List.Folds.{list_all_at}
+use Rattle.vx_base.proofs.Booleans.{and-both, same-bool}
+use Rattle.vx_base.proofs.Numbers.{below-yes, below-from_yes}
 use Rattle.vx_plane.specs.Plane.{Pixels, Page, rows_of, page_of, dark_at, rectangle, in_any, placed}
 use Rattle.vx_plane.specs.Count.{one_if, sum_from, count_in}
 use Rattle.vx_plane.proofs.Sums.{sum_from-more}
@@ -14,7 +16,6 @@ use Rattle.vx_simulate.specs.declared.painting.Stretch.{Stretch}
 use Rattle.vx_simulate.specs.declared.ink.Ink.TheVariants.{FirstPixels, WholeBox}
 use Rattle.vx_simulate.specs.declared.painting.TheConstants.{INSIDE}
 use Rattle.vx_simulate.specs.Inside.{stretch_of, stretches}
-use Rattle.vx_simulate.proofs.Laid.{same_bool, both-true}
 use Rattle.vx_simulate.specs.Ink.{before, ink_pixels}
 
 -- the table and the ellipse are the same, place by place
@@ -118,12 +119,6 @@ count-before row column i j h l across down =
 abbrev pub cut : ℕ → ℕ → Pixels
 cut n row = rectangle (pos (stretch_of row).first -ℤ pos 20) (pos row -ℤ pos 13) (min (n - above row) (stretch_of row).width) 1
 
-lt-true : (m n : ℕ) → m < n → nat_lt m n ≡ true
-lt-true m n h = grind arith
-
-lt-is : (m n : ℕ) → nat_lt m n ≡ true → m < n
-lt-is m n h = grind arith
-
 stretch-true : (first width m : ℕ) → first ≤ m → m < first + width → (nat_le first m && nat_lt m (first + width)) ≡ true
 stretch-true first width m h g = grind arith
 
@@ -141,7 +136,7 @@ ink-cut n row i j h down is =
     let few : column < 40 = omega (arith, ints, across, sides.1) in
     let stretch = stretch-is (stretch_of row).first (stretch_of row).width column (sym (ap₂ inner_ellipse across down ∙ inner-is column row few h) ∙ inner.0) in
     let many : above row + part_of (stretch_of row).first (stretch_of row).width column < n =
-    lt-is _ n (ap (λ m. nat_lt m n) (sym (count-before row column i j h (omega (arith, few)) across down)) ∙ inner.1) in
+    below-from_yes _ n (ap (λ m. nat_lt m n) (sym (count-before row column i j h (omega (arith, few)) across down)) ∙ inner.1) in
     rectangle-inside (pos (stretch_of row).first -ℤ pos 20) (pos row -ℤ pos 13) (min (n - above row) (stretch_of row).width) 1 i j
     (omega (arith, ints, across, stretch.0))
     (omega (arith, ints, across, stretch.0, stretch.1, many))
@@ -160,17 +155,17 @@ cut-ink n row i j h is =
     let to : column < (stretch_of row).first + min (n - above row) (stretch_of row).width = omega (arith, ints, across, sides.1) in
     let few : column < 40 = omega (arith, to, fits) in
     let many : above row + part_of (stretch_of row).first (stretch_of row).width column < n = omega (arith, from, to) in
-    both-true _ _
+    and-both _ _
     (rectangle-inside (negsuc 19) (negsuc 12) 40 26 i j (omega (arith, ints, across)) (omega (arith, ints, across, few)) (omega (arith, ints, down)) (omega (arith, ints, down, h)))
-    (both-true _ _
+    (and-both _ _
     (ap₂ inner_ellipse across down ∙ inner-is column row few h ∙ stretch-true (stretch_of row).first (stretch_of row).width column from (omega (arith, to)))
-    (ap (λ m. nat_lt m n) (count-before row column i j h (omega (arith, few)) across down) ∙ lt-true _ n many))
+    (ap (λ m. nat_lt m n) (count-before row column i j h (omega (arith, few)) across down) ∙ below-yes _ n many))
 
 -- all rows of ink
 pub cuts-ink : (n : ℕ) (i j : ℤ) → in_any 26 (cut n) i j ≡ ink_pixels (FirstPixels n) i j
 unfolding ink_pixels
 cuts-ink n i j =
-    same_bool (in_any 26 (cut n) i j) (ink_pixels (FirstPixels n) i j)
+    same-bool (in_any 26 (cut n) i j) (ink_pixels (FirstPixels n) i j)
     (λ h. let some : (row : ℕ) × (row < 26) × (cut n row i j ≡ true) = in_any-some 26 (cut n) i j h in cut-ink n some.0 i j some.1 some.2)
     (λ h.
     let sides = rectangle-sides (negsuc 19) (negsuc 12) 40 26 i j (and_parts _ _ h).0 in
@@ -183,7 +178,7 @@ cuts-ink n i j =
 pub rectangle-placed : (x y left top width height : ℕ) (a b u v : ℤ) → pos left ≡ pos x +ℤ a → pos top ≡ pos y +ℤ b
     → rectangle (pos left) (pos top) width height u v ≡ placed (pos x) (pos y) (rectangle a b width height) u v
 rectangle-placed x y left top width height a b u v across down =
-    same_bool (rectangle (pos left) (pos top) width height u v) (placed (pos x) (pos y) (rectangle a b width height) u v)
+    same-bool (rectangle (pos left) (pos top) width height u v) (placed (pos x) (pos y) (rectangle a b width height) u v)
     (λ h.
     let sides = rectangle-sides (pos left) (pos top) width height u v h in
     rectangle-inside a b width height (u -ℤ pos x) (v -ℤ pos y)

@@ -5,13 +5,14 @@ use Rattle.std.proofs.lemmas.Int.{ints, by_lt_z}
 use Rattle.std.proofs.lemmas.Bool.{and_parts}
 use Rattle.std.proofs.lemmas.Bool.Decides.{Decides-int_eq}
 use Rattle.std.proofs.lemmas.List.Folds.{list_any_more}
+use Rattle.vx_base.proofs.Booleans.{is-false, and-both, same-bool}
 use Rattle.vx_plane.specs.Plane.{Pixels, Page, page_of, dark_at, nowhere, union, painted, in_any, rectangle, with_pixel}
 use Rattle.vx_plane.proofs.Pages.{page_of-same, dark_at-inside, painted-union, painted-none, painted-same, painted-one, in_any-more, rectangle-one, rectangle-inside}
 use Rattle.vx_grid.specs.declared.places.Point.{Point}
 use Rattle.vx_geom.specs.Slants.{Slant, scan_row, scan_column, paper_column, paper_row, to_scan_of}
 use Rattle.vx_geom.specs.Seen.{seen}
-use Rattle.vx_geom.proofs.Shears.{same_point}
 use Rattle.vx_geom.proofs.Ways.{paper_column-scan, paper_row-scan, scan_column-paper, scan_row-paper}
+use Rattle.vx_grid.proofs.MarkPlaces.{same-point}
 use Rattle.vx_simulate.specs.Flips.{places_from}
 use Rattle.vx_simulate.specs.Flipped.{only, within}
 
@@ -41,17 +42,6 @@ pub on-light : (width height : ℕ) (set : Pixels) → painted (page_of width he
 on-light width height set =
     page_of-same width height _ set (λ x y l h. ap (λ (t : Bool). t || set (pos x) (pos y)) (dark_at-inside width height x y nowhere l h))
 
-pub same_bool : (a b : Bool) → (a ≡ true → b ≡ true) → (b ≡ true → a ≡ true) → a ≡ b
-same_bool true true to from = refl
-same_bool true false to from = sym (to refl)
-same_bool false true to from = from refl
-same_bool false false to from = refl
-
-pub both-true : (a b : Bool) → a ≡ true → b ≡ true → (a && b) ≡ true
-both-true true true h g = refl
-both-true true false h g = g
-both-true false b h g = absurd (cc)
-
 -- the place itself
 pub only-is : (p : Point) (u v : ℤ) → only p u v ≡ true → (u ≡ p.u) × (v ≡ p.v)
 only-is p u v h =
@@ -60,12 +50,12 @@ only-is p u v h =
 
 pub only-here : (p : Point) (u v : ℤ) → u ≡ p.u → v ≡ p.v → only p u v ≡ true
 only-here p u v across down =
-    both-true (int_eq u p.u) (int_eq v p.v) ((Decides-int_eq u p.u).1 across) ((Decides-int_eq v p.v).1 down)
+    and-both (int_eq u p.u) (int_eq v p.v) ((Decides-int_eq u p.u).1 across) ((Decides-int_eq v p.v).1 down)
 
 -- where a scan shows one place of the paper
 pub seen-only : (s : Slant) (p : Point) (u v : ℤ) → only (to_scan_of s p) u v ≡ seen s (only p) u v
 seen-only s p u v =
-    same_bool (only (to_scan_of s p) u v) (seen s (only p) u v)
+    same-bool (only (to_scan_of s p) u v) (seen s (only p) u v)
     (λ h.
     let is = only-is (to_scan_of s p) u v h in
     only-here p (paper_column s u v) (paper_row s u v)
@@ -76,10 +66,6 @@ seen-only s p u v =
     only-here (to_scan_of s p) u v
     (sym (scan_column-paper s u v) ∙ ap₂ (scan_column s) is.0 is.1)
     (sym (scan_row-paper s u v) ∙ ap₂ (scan_row s) is.0 is.1))
-
-pub is-false : (b : Bool) → (b ≡ true → ⊥) → b ≡ false
-is-false true h = absurd (h refl)
-is-false false h = refl
 
 -- a place that isn't on a page isn't painted
 pub only-off : (page : Page) (p : Point) → IsWhole page → (p.u <ℤ pos 0) ⊎ (pos page.width ≤ℤ p.u) ⊎ (p.v <ℤ pos 0) ⊎ (pos page.height ≤ℤ p.v) → page ≡ painted page (only p)
@@ -115,8 +101,8 @@ off-frame width height u v out =
 -- a place that is in a set, or isn't
 pub within-here : (p : Point) (zone : Pixels) (u v : ℤ) → zone p.u p.v ≡ true → only p u v ≡ within (only p) zone u v
 within-here p zone u v inside =
-    same_bool (only p u v) (within (only p) zone u v)
-    (λ h. let is = only-is p u v h in both-true (only p u v) (zone u v) h (ap₂ zone is.0 is.1 ∙ inside))
+    same-bool (only p u v) (within (only p) zone u v)
+    (λ h. let is = only-is p u v h in and-both (only p u v) (zone u v) h (ap₂ zone is.0 is.1 ∙ inside))
     (λ h. (and_parts (only p u v) (zone u v) h).0)
 
 pub within-not : (p : Point) (zone : Pixels) (u v : ℤ) → zone p.u p.v ≡ false → within (only p) zone u v ≡ false
@@ -232,7 +218,7 @@ not-laid_within page p zone whole out = laid-none page (within (only p) zone) wh
 
 -- the same, by what the code knows of the place
 at_place : (p : Point) (u v : ℤ) → u ≡ p.u → v ≡ p.v → ◌≡◌ {A = Point} (record { u = u; v = v }) p
-at_place p u v across down = same_point u v p.u p.v across down
+at_place p u v across down = same-point _ _ across down
 
 pub shown-laid_at : (s : Slant) (page after : Page) (p r : Point) (u v : ℤ) → after ≡ painted page (only r) → r ≡ to_scan_of s (record { u = u; v = v }) → u ≡ p.u → v ≡ p.v
     → after ≡ painted page (seen s (only p))

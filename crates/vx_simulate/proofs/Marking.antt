@@ -1,9 +1,10 @@
 -- What is drawn for the contests of a page.
-use Rattle.std.proofs.Common.{◌≡◌, ℕ, ◌+◌, ◌≤◌, ◌<◌, Bool, true, false, cond, List, [], ◌∷◌, ◌++◌, length, filter, ap, ◌∙◌, arith}
+use Rattle.std.proofs.Common.{◌≡◌, ℕ, ◌+◌, ◌≤◌, ◌<◌, Bool, true, false, List, [], ◌∷◌, ◌++◌, length, filter, ap, ◌∙◌, arith}
 use Rattle.std.specs.List.{range_with_len}
 use Rattle.std.proofs.lemmas.List.Elements.{filter-append}
 use Rattle.rand_pcg.specs.Lcg.{Lcg}
 use Rattle.vx_base.proofs.Ranges.{range-more}
+use Rattle.vx_base.proofs.Booleans.{either-le}
 use Rattle.vx_election_model.specs.declared.contest.Contest.{Contest}
 use Rattle.vx_election_model.specs.declared.election.Election.{Election}
 use Rattle.vx_election_model.specs.Options.{options_of}
@@ -11,10 +12,6 @@ use Rattle.vx_election_model.specs.Valid.{IsContest, HasChoices, IsValid}
 use Rattle.vx_layout.specs.Flow.{contest_at, no_contest}
 use Rattle.vx_simulate.specs.Draws.{draw_all}
 use Rattle.vx_simulate.proofs.OneMore.{all-append}
-
-either-le : (b : Bool) (m n most : ℕ) → m ≤ most → n ≤ most → cond b m n ≤ most
-either-le true m n most h k = h
-either-le false m n most h k = k
 
 few-choices : (is_yes_no : Bool) (contest : Contest) → HasChoices is_yes_no contest → length contest.choices ≤ 100
 few-choices true contest has = let two = ap length has.answers.2 in omega (arith, two)

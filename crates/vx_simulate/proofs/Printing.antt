@@ -2,16 +2,16 @@
 use Rattle.std.proofs.Common.{◌≡◌, inl, inr, ℕ, ◌+◌, ◌-◌, ◌*◌, ◌≤◌, ◌<◌, Bool, true, false, not, ◌||◌, if◌then◌else◌, List, [], ℤ, pos, negsuc, ◌-ℤ◌, ◌≤ℤ◌, ◌<ℤ◌, refl, sym, ◌∙◌, arith}
 use Rattle.std.specs.Prelude.{slice_index_or}
 use Rattle.std.proofs.lemmas.Int.{ints}
-use Rattle.std.proofs.lemmas.Bool.{cases_lt}
-use Rattle.vx_base.proofs.Booleans.{and-left, or-cases}
+use Rattle.std.proofs.lemmas.Bool.{cases_lt, false≢true}
+use Rattle.vx_base.proofs.Booleans.{and-left, or-cases, is-false}
 use Rattle.vx_plane.specs.Plane.{Pixels, page_of, dark_at, any_of, nowhere}
 use Rattle.vx_plane.proofs.Pages.{rectangle-sides, in_any-some, any_of-some, dark_at-inside, dark_at-beside, dark_at-under}
 use Rattle.vx_grid.specs.declared.paper.Paper.{Paper}
-use Rattle.vx_grid.specs.declared.paper.Paper.TheVariants.{Letter, Legal}
 use Rattle.vx_grid.specs.Paper.{last_row, first_y, page_width, page_height}
 use Rattle.vx_grid.specs.Grid.{x_of, y_of, first_code_row}
 use Rattle.vx_grid.specs.Marks.{timing_marks}
 use Rattle.vx_grid.specs.Regions.{inner_region, frame_zone}
+use Rattle.vx_grid.proofs.Papers.{last-row_low, first-y_low, height-is}
 use Rattle.vx_code.specs.Code.{place_of_box}
 use Rattle.vx_layout.specs.declared.bubbles.Bubble.{Bubble}
 use Rattle.vx_layout.specs.declared.lines.TextLine.{TextLine}
@@ -23,7 +23,6 @@ use Rattle.vx_layout.specs.Printed.{KeepsClear}
 use Rattle.vx_margin.specs.Marks.{IsInMark}
 use Rattle.vx_margin.specs.Laws.{TimingMarksAreMarks}
 use Rattle.vx_scan_model.specs.Ink.{bubble_at}
-use Rattle.vx_simulate.proofs.Counting.{is-false, false-true}
 use Rattle.vx_simulate.proofs.Inking.{no_bubble, box-sides}
 
 -- a place of a frame of so many columns and rows
@@ -52,29 +51,17 @@ dark-framed width height set (pos x) (pos y) h =
     elim (cases_lt x width) [
       | inl across ↦ elim (cases_lt y height) [
         | inl down ↦ record { left = omega (arith, ints); right = omega (arith, ints, across); top = omega (arith, ints); bottom = omega (arith, ints, down) }
-        | inr under ↦ absurd (false-true (sym (dark_at-under width height x y set under) ∙ h))
+        | inr under ↦ absurd (false≢true (sym (dark_at-under width height x y set under) ∙ h))
       ]
-      | inr beside ↦ absurd (false-true (sym (dark_at-beside width height x y set beside) ∙ h))
+      | inr beside ↦ absurd (false≢true (sym (dark_at-beside width height x y set beside) ∙ h))
     ]
-dark-framed width height set (pos x) (negsuc y) h = absurd (false-true h)
-dark-framed width height set (negsuc x) y h = absurd (false-true h)
-
-pub height-is : (paper : Paper) → page_height paper ≡ first_y paper + first_y paper + 52 * last_row paper
-height-is Letter = refl
-height-is Legal = refl
-
-pub first-low : (paper : Paper) → 60 ≤ first_y paper
-first-low Letter = omega arith
-first-low Legal = omega arith
-
-last-low : (paper : Paper) → 40 ≤ last_row paper
-last-low Letter = omega arith
-last-low Legal = omega arith
+dark-framed width height set (pos x) (negsuc y) h = absurd (false≢true h)
+dark-framed width height set (negsuc x) y h = absurd (false≢true h)
 
 mark-on_page : (paper : Paper) (c r : ℕ) (x y : ℤ) → c ≤ 33 → r ≤ last_row paper → IsInMark paper c r x y → IsOnPage page_width (page_height paper) x y
 mark-on_page paper c r x y column row m =
     let height = height-is paper in
-    let first = first-low paper in
+    let first = first-y_low paper in
     record {
       left = omega (arith, ints, m.left);
       right = omega (arith, ints, m.right, column);
@@ -102,9 +89,9 @@ code-box-on_page paper n x y few h =
     let sides = rectangle-sides (pos (x_of c) -ℤ pos 14) (pos (y_of paper r) -ℤ pos 10) 28 20 x y h in
     let column : c ≤ 30 = omega arith in
     let row : r ≤ first_code_row paper + 2 = omega arith in
-    let many = last-low paper in
+    let many = last-row_low paper in
     let height = height-is paper in
-    let first = first-low paper in
+    let first = first-y_low paper in
     record {
       left = omega (arith, ints, sides.0);
       right = omega (arith, ints, sides.1, column);
@@ -117,7 +104,7 @@ pub box-on_page : (paper : Paper) (bubble : Bubble) (x y : ℤ) → IsOnGrid pap
 box-on_page paper bubble x y grid h =
     let sides = rectangle-sides (pos (x_of bubble.col) -ℤ pos 20) (pos (y_of paper bubble.row) -ℤ pos 13) 40 26 x y h in
     let height = height-is paper in
-    let first = first-low paper in
+    let first = first-y_low paper in
     record {
       left = omega (arith, ints, sides.0, grid.col);
       right = omega (arith, ints, sides.1, grid.col, grid.few);
@@ -135,7 +122,7 @@ unframed-on_page : (paper : Paper) (x y : ℤ) → (frame_zone paper x y ≡ tru
 unframed-on_page paper x y unframed = by_region (inner_region paper x y) refl
   where
     not-false : (b : Bool) → b ≡ false → not b ≡ true
-    not-false true h = absurd (false-true (sym h))
+    not-false true h = absurd (false≢true (sym h))
     not-false false h = refl
 
     by_region : (inner : Bool) → inner_region paper x y ≡ inner → IsOnPage page_width (page_height paper) x y

@@ -1,6 +1,7 @@
 -- The zones of the page code, one by one, and where they stand.
 use Rattle.std.proofs.Common.{◌≡◌, ℕ, ◌+◌, ◌/◌, ◌<◌, Bool, true, false, ◌||◌, ℤ, pos, ◌-ℤ◌, ap, ap₂, sym, ◌∙◌, arith}
 use Rattle.std.proofs.lemmas.Int.{ints}
+use Rattle.vx_base.proofs.Booleans.{is-false}
 use Rattle.vx_plane.specs.Plane.{rectangle, in_any}
 use Rattle.vx_plane.proofs.Pages.{rectangle-sides, rectangle-inside, in_any-some, in_any-one, in_any-more}
 use Rattle.vx_grid.specs.declared.paper.Paper.{Paper}
@@ -8,7 +9,6 @@ use Rattle.vx_grid.specs.declared.paper.Paper.TheVariants.{Letter, Legal}
 use Rattle.vx_grid.specs.Grid.{x_of, y_of, first_code_row, first_contest_row, contest_rows}
 use Rattle.vx_code.specs.Code.{place_of_box}
 use Rattle.vx_layout.specs.Zones.{box_zone_at, code_zones}
-use Rattle.vx_simulate.proofs.Laid.{is-false}
 
 -- the zone of a box is in the rectangle of all of them
 zone-inside : (paper : Paper) (n : ℕ) (u v : ℤ) → n < 84 → box_zone_at paper (place_of_box paper n) u v ≡ true

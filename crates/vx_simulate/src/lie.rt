@@ -1,15 +1,14 @@
 //! How a simulated page lies in its scan.
 
-ghost use Rattle.std.specs.Prelude.{◌≡◌, ◌<◌, ◌≤◌, ◌+◌, pos, ◌-ℤ◌, ◌*ℤ◌, ◌≤ℤ◌};
+ghost use Rattle.std.specs.Prelude.{◌≡◌, ◌<◌, ◌≤◌, ◌+◌, pos, ◌-ℤ◌, ◌≤ℤ◌};
 ghost use Rattle.vx_grid.specs.Paper.{first_y};
 ghost use Rattle.vx_grid.specs.Places.{IsWithin};
-ghost use Rattle.vx_geom.specs.Slants.{whole_of};
 ghost use Rattle.vx_simulate.specs.Draws.{draw as draw_of};
 ghost use Rattle.vx_simulate.specs.Lie as lie;
 
 use crate::drawing::draw;
 use rand_pcg::Pcg32;
-use vx_geom::Shear;
+use vx_geom::{Shear, rise};
 use vx_grid::Paper;
 
 /// The number of columns of a simulated scan.
@@ -38,16 +37,6 @@ fn first_row(paper: Paper) -> i32
         Paper::Letter => 60,
         Paper::Legal => 74,
     }
-}
-
-/// How far a slope rises along a way: in whole pixels, rounded towards minus infinity.
-fn rise(slope: i32, along: i32) -> i32
-    requires slope { IsWithin 64 slope }
-    requires along { IsWithin 200 along }
-    ensures value { result ≡ whole_of (slope *ℤ along) }
-    ensures bound { IsWithin 5 result }
-{
-    (slope * along).div_euclid(4096)
 }
 
 /// The way from one coordinate to another, but for a rise.

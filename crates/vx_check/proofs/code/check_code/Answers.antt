@@ -11,8 +11,7 @@ returns-then-not-is_in_range-clause-exact c = sym (code-out c.args.counter.now c
 pub returns-then-not-is_in_range-clause-read : goal.returns-then-not-is_in_range-clause-read
 returns-then-not-is_in_range-clause-read c = λ h.
     let passed : code_tested c.args.counter.now c.args.border.now c.args.code.now ≡ Ok tt =
-    read-passes c.args.counter.now c.args.border.now c.args.code.now c.paper.result c.box_counts-counts.result c.read_boxes-read.result
-    c.paper.ensures c.box_counts-counts.ensures c.read_boxes-read.ensures.exact c.read_boxes-read.ensures.shown h in
+    read-passes c.args.counter.now c.args.border.now c.args.code.now c.read_codes_are_shown.ensures h in
     let range = of-range c.args.code.now (code-shown c.args.counter.now c.args.border.now c.args.code.now passed).0 in
     absurd (false≢true (c.if-not-is_in_range.ensures.exact ∙ range))
 
@@ -25,8 +24,7 @@ returns-clause-exact c =
 pub returns-clause-read : goal.returns-clause-read
 returns-clause-read c = λ h.
     let passed : code_tested c.args.counter.now c.args.border.now c.args.code.now ≡ Ok tt =
-    read-passes c.args.counter.now c.args.border.now c.args.code.now c.paper.result c.box_counts-counts.result c.read_boxes-read.result
-    c.paper.ensures c.box_counts-counts.ensures c.read_boxes-read.ensures.exact c.read_boxes-read.ensures.shown h in
+    read-passes c.args.counter.now c.args.border.now c.args.code.now c.read_codes_are_shown.ensures h in
     let exact =
     c.check_pairs.ensures
     ∙ ap₂ (λ (counts : List ℕ) (boxes : List Bool). in_order (pair_tested counts boxes) 0 42) c.box_counts-counts.ensures c.boxes_of.ensures.exact

@@ -5,15 +5,12 @@ use Rattle.vx_grid.specs.declared.paper.Paper.{Paper}
 use Rattle.vx_grid.specs.declared.places.Point.{Point}
 use Rattle.vx_grid.specs.Places.{IsWithin, IsPointWithin, point_at}
 use Rattle.vx_grid.specs.Paper.{last_row}
+use Rattle.vx_grid.proofs.MarkPlaces.{same-point}
 use Rattle.vx_fit.specs.Fit.{left_mark, right_mark, between, place_between}
 use Rattle.vx_fit.proofs.fit.place.Goals as goal
 
 same_within : (z w : ℤ) → w ≡ z → IsWithin 9000 z → IsWithin 9000 w
 same_within z w e h = let Within : ℤ → Type 0 = λ x. IsWithin 9000 x in subst Within (sym e) h
-
-same_point : (u v x y : ℤ) → u ≡ x → v ≡ y → ◌≡◌ {A = Point} (record { u = u; v = v }) (record { u = x; v = y })
-same_point u v x y e f =
-    ap (λ z. let p : Point = record { u = z; v = v } in p) e ∙ ap (λ z. let p : Point = record { u = x; v = z } in p) f
 
 left_is : (a b : Paper) (row n : ℕ) → n ≡ left_mark (last_row a) row → a ≡ b → left_mark (last_row b) row ≡ n
 left_is a b row n is same = sym (is ∙ ap (λ p. left_mark (last_row p) row) same)
@@ -57,6 +54,6 @@ returns-clause-value c =
     bu ∙ (c.between.ensures.value ∙ (ap (λ z. between z (to_z w32 (of_z w32 c.at-right.result.u)) c.args.col) lu ∙ ap (λ z. between c.at-left.result.u z c.args.col) ru)) in
     let v : to_z w32 (of_z w32 c.between-2.result) ≡ between c.at-left.result.v c.at-right.result.v c.args.col =
     bv ∙ (c.between-2.ensures.value ∙ (ap (λ z. between z (to_z w32 (of_z w32 c.at-right.result.v)) c.args.col) lv ∙ ap (λ z. between c.at-left.result.v z c.args.col) rv)) in
-    same_point _ _ _ _ u v
+    same-point _ _ u v
     ∙ (ap (λ (x : Point). place_between x c.at-right.result c.args.col) (sym left)
     ∙ ap (λ (x : Point). place_between (point_at c.args.border.now.places (left_mark (last_row c.args.border.now.paper) c.args.row)) x c.args.col) (sym right))

@@ -4,7 +4,7 @@ use Rattle.std.specs.Int.{int_div_euclid}
 use Rattle.vx_grid.specs.Places.{IsWithin}
 use Rattle.vx_geom.specs.Slants.{whole_of}
 use Rattle.vx_geom.proofs.Products.{product-within}
-use Rattle.vx_geom.proofs.Floors.{whole-within}
+use Rattle.vx_geom.proofs.Floors.{whole_of-is, whole-within}
 use Rattle.vx_geom.proofs.shear.rise.Goals as goal
 
 parts-are : (c : goal.After-div_euclid) → to_z w32 (of_z w32 (to_z w32 (of_z w32 c.args.slope) *ℤ to_z w32 (of_z w32 c.args.along))) ≡ c.args.slope *ℤ c.args.along
@@ -36,3 +36,13 @@ pub returns-clause-bound : goal.returns-clause-bound
 returns-clause-bound c =
     let Within : ℤ → Type 0 = λ z. IsWithin 500 z in
     subst Within (sym (as-it-is c)) (whole-bound c)
+
+whole-few : (z : ℤ) → IsWithin (64 * 200) z → IsWithin 5 (whole_of z)
+whole-few z h =
+    let f = whole_of-is z in
+    record { low = omega (arith, ints, f.low, f.high, h.low, h.high); high = omega (arith, ints, f.low, f.high, h.low, h.high) }
+
+pub returns-clause-short : goal.returns-clause-short
+returns-clause-short c = λ along.
+    let Within : ℤ → Type 0 = λ z. IsWithin 5 z in
+    subst Within (sym (as-it-is c ∙ whole-is c)) (whole-few _ (product-within 64 200 _ _ c.requires.slope along))

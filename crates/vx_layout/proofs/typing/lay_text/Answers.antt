@@ -7,8 +7,8 @@ use lib.Utf8.{encodes}
 use Rattle.vx_layout.proofs.Bytes.{scalars-drop}
 use Rattle.vx_base.proofs.Ranges.{map-laid}
 use Rattle.vx_grid.specs.Grid.{x_of, y_of}
+use Rattle.vx_grid.proofs.Papers.{last-row_high}
 use Rattle.vx_layout.specs.Lines.{lines_of, placed_line, lines_at}
-use Rattle.vx_layout.proofs.Papers.{last-row_high}
 use Rattle.vx_layout.proofs.typing.lay_text.Goals as goal
 
 pub overflow_cast-count : goal.overflow_cast-count

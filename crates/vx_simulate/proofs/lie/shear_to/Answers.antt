@@ -1,8 +1,9 @@
-use Rattle.std.proofs.Common.{◌≡◌, ap, ◌∙◌, ℤ, pos, ◌-ℤ◌, ◌*ℤ◌, to_z, of_z, w32, arith}
+use Rattle.std.proofs.Common.{◌≡◌, ℕ, ◌≤◌, ap, ◌∙◌, ℤ, pos, ◌-ℤ◌, ◌*ℤ◌, to_z, of_z, w32, arith}
 use Rattle.std.proofs.lemmas.Int.{ints}
 use Rattle.vx_grid.specs.Paper.{first_y}
 use Rattle.vx_geom.specs.declared.shear.Shear.{Shear}
 use Rattle.vx_geom.specs.Slants.{whole_of}
+use Rattle.vx_grid.specs.Places.{IsWithin}
 use Rattle.vx_simulate.proofs.lie.shear_to.Goals as goal
 
 abbrev shear_from : ℤ → ℤ → ℤ → ℤ → Shear
@@ -26,3 +27,13 @@ returns-clause-shear c =
     let sy : to_z w32 (of_z w32 c.way-2.result) ≡ (pos c.args.v -ℤ pos (first_y c.args.paper)) -ℤ whole_of (c.args.b *ℤ pos 58) =
     omega (arith, ints, c.way-2.ensures.value, c.way-2.ensures.bound.low, c.way-2.ensures.bound.high, v, down, c.rise-down.ensures.bound.low, c.rise-down.ensures.bound.high, c.first_row.ensures.row, c.first_row.ensures.low, c.first_row.ensures.high) in
     shear-same _ _ _ _ _ _ _ _ sx sy a b
+
+-- a short way rises little, from whatever number of 32 bits
+short-rise : (z : ℤ) → IsWithin 5 z → IsWithin 5 (to_z w32 (of_z w32 z))
+short-rise z h = record { low = omega (arith, ints, h.low, h.high); high = omega (arith, ints, h.low, h.high) }
+
+near-way : (u : ℕ) → u ≤ 112 → IsWithin 200 (to_z w32 u)
+near-way u few = record { low = omega (arith, ints, few); high = omega (arith, ints, few) }
+
+pub way-requires-clause-rise : goal.way-requires-clause-rise
+way-requires-clause-rise c = short-rise c.rise-right.result (c.rise-right.ensures.short (near-way c.args.v (omega arith)))

@@ -1,8 +1,9 @@
-use Rattle.std.proofs.Common.{◌≡◌, ◌∙◌, ap, sym, arith, ℤ, pos, ◌+ℤ◌, ◌-ℤ◌, ◌*ℤ◌, to_z, of_z, w32}
+use Rattle.std.proofs.Common.{◌≡◌, ◌∙◌, ap, arith, ◌+ℤ◌, ◌*ℤ◌, to_z, of_z, w32}
 use Rattle.std.proofs.lemmas.Int.{ints}
-use Rattle.vx_geom.specs.Slants.{whole_of, down_by, right_by, slant_of, scan_row, scan_column, paper_row, paper_column}
-use Rattle.vx_geom.proofs.Shears.{down_by-shear, right_by-shear, same_point, same_product}
+use Rattle.vx_geom.specs.Slants.{whole_of, down_by, right_by, slant_of, paper_row, paper_column}
+use Rattle.vx_geom.proofs.Shears.{down_by-shear, right_by-shear, same_product}
 use Rattle.vx_geom.proofs.shear.Shear.to_paper.Goals as goal
+use Rattle.vx_grid.proofs.MarkPlaces.{same-point}
 
 column : (c : goal.After-moved_back-v) → to_z w32 (of_z w32 c.moved_back-u.result) ≡ paper_column (slant_of c.args.self.now) c.args.p.u c.args.p.v
 column c =
@@ -28,4 +29,4 @@ row c =
     same ∙ c.moved_back-v.ensures.value ∙ omega (arith, ints, sy, pv, rise, down)
 
 pub returns : goal.returns
-returns c = same_point _ _ _ _ (column c) (row c)
+returns c = same-point _ _ (column c) (row c)

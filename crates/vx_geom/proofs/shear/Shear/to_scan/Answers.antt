@@ -1,8 +1,9 @@
-use Rattle.std.proofs.Common.{◌≡◌, ◌∙◌, ap, sym, arith, ℤ, pos, ◌+ℤ◌, ◌-ℤ◌, ◌*ℤ◌, to_z, of_z, w32}
+use Rattle.std.proofs.Common.{◌≡◌, ◌∙◌, ap, arith, ◌+ℤ◌, ◌*ℤ◌, to_z, of_z, w32}
 use Rattle.std.proofs.lemmas.Int.{ints}
-use Rattle.vx_geom.specs.Slants.{whole_of, down_by, right_by, slant_of, scan_row, scan_column, paper_row, paper_column}
-use Rattle.vx_geom.proofs.Shears.{down_by-shear, right_by-shear, same_point, same_product}
+use Rattle.vx_geom.specs.Slants.{whole_of, down_by, right_by, slant_of, scan_row, scan_column}
+use Rattle.vx_geom.proofs.Shears.{down_by-shear, right_by-shear, same_product}
 use Rattle.vx_geom.proofs.shear.Shear.to_scan.Goals as goal
+use Rattle.vx_grid.proofs.MarkPlaces.{same-point}
 
 row : (c : goal.After-moved-u) → to_z w32 (of_z w32 c.moved-v.result) ≡ scan_row (slant_of c.args.self.now) c.args.p.u c.args.p.v
 row c =
@@ -28,4 +29,4 @@ column c =
     same ∙ c.moved-u.ensures.value ∙ omega (arith, ints, sx, pu, rise, right)
 
 pub returns : goal.returns
-returns c = same_point _ _ _ _ (column c) (row c)
+returns c = same-point _ _ (column c) (row c)
