@@ -2,6 +2,7 @@ pub mod Centers
 pub mod ItemWords
 pub mod Made
 pub mod Moving
+pub mod Names
 pub mod OneSpelling
 pub mod Parsed
 pub mod Seeds
