@@ -130,13 +130,15 @@ module _ (words : List (Bor (List ℕ))) where
   behind_it = omega (arith, length-map words (λ (word : Bor (List ℕ)). word.now))
 
   pub not_so_many : (4 ≤ length words → length words ≤ 19 → ⊥) → NoCommand (name_word names.Center ∷ shown words)
-  not_so_many other = so_many (name_word names.Center ∷ shown words) refl (λ least most. other (omega (arith, behind_it, least)) (omega (arith, behind_it, most)))
+  not_so_many other =
+      so_many (name_word names.Center ∷ shown words) refl (λ least most. other (omega (arith, behind_it, least)) (omega (arith, behind_it, most)))
 
   pub no_moment_made : 4 ≤ length words → is_moment (get_or words 1 nowhere).now ≡ false → NoCommand (name_word names.Center ∷ shown words)
   no_moment_made least bad = no_moment (name_word names.Center ∷ shown words) refl (get_or words 1 nowhere).now (got words 1 nowhere (omega (arith, least))) bad
 
   pub no_device_made : 4 ≤ length words → None ≡ device_of (get_or words 2 nowhere).now → NoCommand (name_word names.Center ∷ shown words)
-  no_device_made least bad = no_device (name_word names.Center ∷ shown words) refl (get_or words 2 nowhere).now (got words 2 nowhere (omega (arith, least))) (ap is_some (sym bad))
+  no_device_made least bad =
+      no_device (name_word names.Center ∷ shown words) refl (get_or words 2 nowhere).now (got words 2 nowhere (omega (arith, least))) (ap is_some (sym bad))
 
   pub center_made : (named : List ℕ) (items : List ItemWord) → 4 ≤ length words → length words ≤ 19 → All IsArgument (shown words)
       → is_moment (get_or words 1 nowhere).now ≡ true → device_of (get_or words 2 nowhere).now ≡ Some named → NameItems (drop 3 (shown words)) items
@@ -147,7 +149,8 @@ module _ (words : List (Bor (List ℕ))) where
       (got words 0 nowhere (omega (arith, least))) (got words 1 nowhere (omega (arith, least))) (got words 2 nowhere (omega (arith, least))) good known name
 
   -- where the items can't be read, neither can the command
-  pub no_items_made : (fault told : UsageFault) → told ≡ fault → ReadsItems (drop 3 (shown words)) (Err fault) → Reads (name_word names.Center ∷ shown words) (Err told)
+  pub no_items_made : (fault told : UsageFault) → told ≡ fault → ReadsItems (drop 3 (shown words)) (Err fault)
+      → Reads (name_word names.Center ∷ shown words) (Err told)
   no_items_made fault Usage is said =
       let Said : UsageFault → Type 0 = λ some. ReadsItems (drop 3 (shown words)) (Err some) in
       no_items (name_word names.Center ∷ shown words) refl (subst Said (sym is) said)

@@ -27,14 +27,16 @@ abbrev pub shown : List (Bor (List ℕ)) → List (List ℕ)
 shown words = map (λ (word : Bor (List ℕ)). word.now) words
 
 pub print_made :
-    (words : List (Bor (List ℕ))) (none : Bor (List ℕ)) (card : ℕ) (kind : Kind) (test : Bool) → 3 ≤ length words → length words < 4 → All IsArgument (shown words)
+    (words : List (Bor (List ℕ))) (none : Bor (List ℕ)) (card : ℕ) (kind : Kind) (test : Bool) → 3 ≤ length words → length words < 4
+    → All IsArgument (shown words)
     → card ≤ 1023 → (get_or words 1 none).now ≡ decimal card → kind ≢ Other → (get_or words 2 none).now ≡ kind_word kind test
     → Spells (name_word names.Print ∷ shown words) (Print (get_or words 0 none).now card kind test)
 print_made [] none card kind test least most are few is_card printed is_kind = absurd (omega (arith, least))
 print_made (a ∷ []) none card kind test least most are few is_card printed is_kind = absurd (omega (arith, least))
 print_made (a ∷ b ∷ []) none card kind test least most are few is_card printed is_kind = absurd (omega (arith, least))
 print_made (a ∷ b ∷ c ∷ []) none card kind test least most are few is_card printed is_kind =
-    print_spelled (name_word names.Print ∷ a.now ∷ b.now ∷ c.now ∷ []) b.now c.now card kind test (record { first = refl; enough = omega arith; no_more = omega arith; arguments = are }) refl refl few is_card printed is_kind
+    print_spelled (name_word names.Print ∷ a.now ∷ b.now ∷ c.now ∷ []) b.now c.now card kind test
+    (record { first = refl; enough = omega arith; no_more = omega arith; arguments = are }) refl refl few is_card printed is_kind
 print_made (a ∷ b ∷ c ∷ d ∷ more) none card kind test least most are few is_card printed is_kind = absurd (omega (arith, most))
 
 pub check_made : (words : List (Bor (List ℕ))) (none : Bor (List ℕ)) → 3 ≤ length words → length words < 4 → All IsArgument (shown words)
@@ -42,14 +44,16 @@ pub check_made : (words : List (Bor (List ℕ))) (none : Bor (List ℕ)) → 3 �
 check_made [] none least most are = absurd (omega (arith, least))
 check_made (a ∷ []) none least most are = absurd (omega (arith, least))
 check_made (a ∷ b ∷ []) none least most are = absurd (omega (arith, least))
-check_made (a ∷ b ∷ c ∷ []) none least most are = check_spelled (name_word names.Check ∷ a.now ∷ b.now ∷ c.now ∷ []) (record { first = refl; enough = omega arith; no_more = omega arith; arguments = are })
+check_made (a ∷ b ∷ c ∷ []) none least most are =
+    check_spelled (name_word names.Check ∷ a.now ∷ b.now ∷ c.now ∷ []) (record { first = refl; enough = omega arith; no_more = omega arith; arguments = are })
 check_made (a ∷ b ∷ c ∷ d ∷ more) none least most are = absurd (omega (arith, most))
 
 pub decide_made : (words : List (Bor (List ℕ))) (none : Bor (List ℕ)) → 2 ≤ length words → length words < 3 → All IsArgument (shown words)
     → Spells (name_word names.Decide ∷ shown words) (Decide (get_or words 0 none).now (get_or words 1 none).now)
 decide_made [] none least most are = absurd (omega (arith, least))
 decide_made (a ∷ []) none least most are = absurd (omega (arith, least))
-decide_made (a ∷ b ∷ []) none least most are = decide_spelled (name_word names.Decide ∷ a.now ∷ b.now ∷ []) (record { first = refl; enough = omega arith; no_more = omega arith; arguments = are })
+decide_made (a ∷ b ∷ []) none least most are =
+    decide_spelled (name_word names.Decide ∷ a.now ∷ b.now ∷ []) (record { first = refl; enough = omega arith; no_more = omega arith; arguments = are })
 decide_made (a ∷ b ∷ c ∷ more) none least most are = absurd (omega (arith, most))
 
 pub read_made : (words : List (Bor (List ℕ))) (none : Bor (List ℕ)) → 2 ≤ length words → length words ≤ 65 → All IsArgument (shown words)
@@ -58,7 +62,8 @@ read_made [] none least most are = absurd (omega (arith, least))
 read_made (a ∷ []) none least most are = absurd (omega (arith, least))
 read_made (a ∷ b ∷ more) none least most are =
     let size : length (shown more) ≡ length more = length-map more (λ (word : Bor (List ℕ)). word.now) in
-    read_spelled (name_word names.Read ∷ a.now ∷ b.now ∷ shown more) (record { first = refl; enough = omega (arith, size); no_more = omega (arith, size, most); arguments = are })
+    read_spelled (name_word names.Read ∷ a.now ∷ b.now ∷ shown more)
+    (record { first = refl; enough = omega (arith, size); no_more = omega (arith, size, most); arguments = are })
 
 pub count_made :
     (words : List (Bor (List ℕ))) (none : Bor (List ℕ)) (workers : ℕ) → 4 ≤ length words → length words ≤ 67 → All IsArgument (shown words)
@@ -73,11 +78,13 @@ count_made (a ∷ b ∷ c ∷ d ∷ more) none workers least most are good some 
     count_spelled (name_word names.Count ∷ a.now ∷ b.now ∷ c.now ∷ d.now ∷ shown more) b.now c.now workers
     (record { first = refl; enough = omega (arith, size); no_more = omega (arith, size, most); arguments = are }) refl refl good some few is
 
-pub no_workers_made : (words : List (Bor (List ℕ))) (none : Bor (List ℕ)) (workers : ℕ) → 4 ≤ length words → (get_or words 2 none).now ≡ decimal workers → workers ≡ 0 → NoCommand (name_word names.Count ∷ shown words)
+pub no_workers_made : (words : List (Bor (List ℕ))) (none : Bor (List ℕ)) (workers : ℕ) → 4 ≤ length words
+    → (get_or words 2 none).now ≡ decimal workers → workers ≡ 0 → NoCommand (name_word names.Count ∷ shown words)
 no_workers_made [] none workers least is zero_is = absurd (omega (arith, least))
 no_workers_made (a ∷ []) none workers least is zero_is = absurd (omega (arith, least))
 no_workers_made (a ∷ b ∷ []) none workers least is zero_is = absurd (omega (arith, least))
-no_workers_made (a ∷ b ∷ c ∷ more) none workers least is zero_is = no_workers (name_word names.Count ∷ a.now ∷ b.now ∷ c.now ∷ shown more) c.now workers refl refl is zero_is
+no_workers_made (a ∷ b ∷ c ∷ more) none workers least is zero_is =
+    no_workers (name_word names.Count ∷ a.now ∷ b.now ∷ c.now ∷ shown more) c.now workers refl refl is zero_is
 
 pub export_made :
     (words : List (Bor (List ℕ))) (none : Bor (List ℕ)) (named : List ℕ) → length words ≡ 3 → All IsArgument (shown words)
@@ -87,7 +94,8 @@ export_made [] none named three are good known = absurd (omega (arith, three))
 export_made (a ∷ []) none named three are good known = absurd (omega (arith, three))
 export_made (a ∷ b ∷ []) none named three are good known = absurd (omega (arith, three))
 export_made (a ∷ b ∷ c ∷ []) none named three are good known =
-    export_spelled (name_word names.Export ∷ a.now ∷ b.now ∷ c.now ∷ []) b.now c.now named (record { first = refl; enough = omega arith; no_more = omega arith; arguments = are }) refl refl good known
+    export_spelled (name_word names.Export ∷ a.now ∷ b.now ∷ c.now ∷ []) b.now c.now named
+    (record { first = refl; enough = omega arith; no_more = omega arith; arguments = are }) refl refl good known
 export_made (a ∷ b ∷ c ∷ d ∷ more) none named three are good known = absurd (omega (arith, three))
 
 pub demo_made :
@@ -97,10 +105,12 @@ pub demo_made :
 demo_made [] none seed sheets least most are small is_seed some few is = absurd (omega (arith, least))
 demo_made (a ∷ []) none seed sheets least most are small is_seed some few is = absurd (omega (arith, least))
 demo_made (a ∷ b ∷ []) none seed sheets least most are small is_seed some few is =
-    demo_spelled (name_word names.Demo ∷ a.now ∷ b.now ∷ []) a.now b.now seed sheets (record { first = refl; enough = omega arith; no_more = omega arith; arguments = are }) refl refl small is_seed some few is
+    demo_spelled (name_word names.Demo ∷ a.now ∷ b.now ∷ []) a.now b.now seed sheets
+    (record { first = refl; enough = omega arith; no_more = omega arith; arguments = are }) refl refl small is_seed some few is
 demo_made (a ∷ b ∷ c ∷ more) none seed sheets least most are small is_seed some few is = absurd (omega (arith, most))
 
-pub no_sheets_made : (words : List (Bor (List ℕ))) (none : Bor (List ℕ)) (sheets : ℕ) → 2 ≤ length words → (get_or words 1 none).now ≡ decimal sheets → sheets ≡ 0 → NoCommand (name_word names.Demo ∷ shown words)
+pub no_sheets_made : (words : List (Bor (List ℕ))) (none : Bor (List ℕ)) (sheets : ℕ) → 2 ≤ length words → (get_or words 1 none).now ≡ decimal sheets
+    → sheets ≡ 0 → NoCommand (name_word names.Demo ∷ shown words)
 no_sheets_made [] none sheets least is zero_is = absurd (omega (arith, least))
 no_sheets_made (a ∷ []) none sheets least is zero_is = absurd (omega (arith, least))
 no_sheets_made (a ∷ b ∷ more) none sheets least is zero_is = no_sheets (name_word names.Demo ∷ a.now ∷ b.now ∷ shown more) b.now sheets refl refl is zero_is
@@ -135,7 +145,8 @@ not_three words other = λ command spelled.
     let four : length (name_word names.Export ∷ shown words) ≡ 4 = ap (λ (w : List (List ℕ)). length w) is.words_are in
     other (omega (arith, size, four))
 
-pub no_moment_made : (words : List (Bor (List ℕ))) (none : Bor (List ℕ)) → length words ≡ 3 → is_moment (get_or words 1 none).now ≡ false → NoCommand (name_word names.Export ∷ shown words)
+pub no_moment_made : (words : List (Bor (List ℕ))) (none : Bor (List ℕ)) → length words ≡ 3 → is_moment (get_or words 1 none).now ≡ false
+    → NoCommand (name_word names.Export ∷ shown words)
 no_moment_made [] none three bad = absurd (omega (arith, three))
 no_moment_made (a ∷ []) none three bad = absurd (omega (arith, three))
 no_moment_made (a ∷ b ∷ more) none three bad = λ command spelled.
@@ -143,7 +154,8 @@ no_moment_made (a ∷ b ∷ more) none three bad = λ command spelled.
     let same : b.now ≡ is.moment = ap (λ (w : List (List ℕ)). get_or w 2 []) is.words_are in
     false≢true (sym bad ∙ ap is_moment same ∙ is.good)
 
-pub no_device_made : (words : List (Bor (List ℕ))) (none : Bor (List ℕ)) → length words ≡ 3 → None ≡ device_of (get_or words 2 none).now → NoCommand (name_word names.Export ∷ shown words)
+pub no_device_made : (words : List (Bor (List ℕ))) (none : Bor (List ℕ)) → length words ≡ 3 → None ≡ device_of (get_or words 2 none).now
+    → NoCommand (name_word names.Export ∷ shown words)
 no_device_made [] none three bad = absurd (omega (arith, three))
 no_device_made (a ∷ []) none three bad = absurd (omega (arith, three))
 no_device_made (a ∷ b ∷ []) none three bad = absurd (omega (arith, three))

@@ -41,7 +41,8 @@ module _ {X : Type 0} (p : X → Bool) where
   -- what all pass it passes
   every : (test : X → Bool) (xs : List X) (x : X) → find p xs ≡ Some x → list_all test xs ≡ true → test x ≡ true
   every test [] x is all = absurd (none-some x is)
-  every test (y ∷ xs) x is all = by (p y) is (and_parts (test y) (list_all test xs) all).0 (λ it. every test xs x it (and_parts (test y) (list_all test xs) all).1)
+  every test (y ∷ xs) x is all =
+      by (p y) is (and_parts (test y) (list_all test xs) all).0 (λ it. every test xs x it (and_parts (test y) (list_all test xs) all).1)
     where
       by : (here : Bool) → cond here (Some y) (find p xs) ≡ Some x → test y ≡ true → (find p xs ≡ Some x → test x ≡ true) → test x ≡ true
       by true it passes later = ap test (sym (same_Some y x it)) ∙ passes

@@ -90,16 +90,19 @@ pub named_first : (words : List (List ℕ)) (command : Command) → Spells words
 named_first words command spelled = ap (λ (w : List (List ℕ)). slice_get w 0) spelled.words_are
 
 -- words spell the command with the name that is their first, and no other
-pub is_named : (words : List (List ℕ)) (name : Name) (command : Command) → slice_get words 0 ≡ Some (name_word name) → Spells words command → name ≡ name_of command
+pub is_named : (words : List (List ℕ)) (name : Name) (command : Command) → slice_get words 0 ≡ Some (name_word name) → Spells words command
+    → name ≡ name_of command
 is_named words name command first spelled =
     same_name name (name_of command) (same_Some (name_word name) (name_word (name_of command)) (sym first ∙ named_first words command spelled))
 
-spelled_as : (words : List (List ℕ)) (name : Name) (command : Command) → slice_get words 0 ≡ Some (name_word name) → Spells words command → command_at name words ≡ command
+spelled_as : (words : List (List ℕ)) (name : Name) (command : Command) → slice_get words 0 ≡ Some (name_word name) → Spells words command
+    → command_at name words ≡ command
 spelled_as words name command first spelled =
     ap (λ (n : Name). command_at n words) (is_named words name command first spelled) ∙ ap (command_at (name_of command)) spelled.words_are
     ∙ command_back spelled.device command spelled.sound
 
-pub spells_it : (words : List (List ℕ)) (name : Name) (command : Command) → slice_get words 0 ≡ Some (name_word name) → Spells words command → Spells words (command_at name words)
+pub spells_it : (words : List (List ℕ)) (name : Name) (command : Command) → slice_get words 0 ≡ Some (name_word name) → Spells words command
+    → Spells words (command_at name words)
 spells_it words name command first spelled =
     let Is : Command → Type 0 = λ it. Spells words it in
     subst Is (sym (spelled_as words name command first spelled)) spelled

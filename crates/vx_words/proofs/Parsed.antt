@@ -22,7 +22,8 @@ use Rattle.vx_words.proofs.OneSpelling.{named_first}
 use Rattle.vx_words.proofs.Spellings.{two_words}
 use Rattle.vx_words.proofs.Split.{answers, called, called_itself, not_empty, not_stray, splits, taken}
 
-pub is_split : (words : List Text) (found : ArgMatches) → All IsArgument words → fault_of line words ≡ [] → subcommand_rows_of found ≡ subcommand_of line words → IsSplit words found
+pub is_split : (words : List Text) (found : ArgMatches) → All IsArgument words → fault_of line words ≡ []
+    → subcommand_rows_of found ≡ subcommand_of line words → IsSplit words found
 is_split [] found are clear is = absurd (not_empty clear)
 is_split (word ∷ words) found are clear is = by_name (called word) refl
   where
@@ -61,7 +62,8 @@ spelled_taken (word ∷ words) are few command spelled =
     taken word words (All-tail IsArgument word words are) (omega (arith, few)) (ap called same ∙ called_by_name (name_of command) ∙ ap Some (sym same))
 
 -- an error of `clap`, told
-pub told : (words : List Text) → All IsArgument words → length words < 2 ^ 32 → (fault : UsageFault) (cause : ErrorKind) → (takes line words ≡ true → cause ≡ kind.OutOfMemory) → (fault ≡ Usage → cause ≢ kind.OutOfMemory) → Reads words (Err fault)
+pub told : (words : List Text) → All IsArgument words → length words < 2 ^ 32 → (fault : UsageFault) (cause : ErrorKind)
+    → (takes line words ≡ true → cause ≡ kind.OutOfMemory) → (fault ≡ Usage → cause ≢ kind.OutOfMemory) → Reads words (Err fault)
 told words are few Usage cause passes says = λ command spelled. says refl (passes (spelled_taken words are few command spelled))
 told words are few OutOfMemory cause passes says = tt
 

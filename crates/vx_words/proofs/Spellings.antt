@@ -125,7 +125,8 @@ is_want Usage = false
 is_want OutOfMemory = true
 
 -- memory ran out where words spell a command
-pub refused : (words : List (List ℕ)) (result : Result Command UsageFault) → IsErrAnd result (λ fault. fault ≡ OutOfMemory) → (command : Command) → Spells words command → Parses words result
+pub refused : (words : List (List ℕ)) (result : Result Command UsageFault) → IsErrAnd result (λ fault. fault ≡ OutOfMemory) → (command : Command)
+    → Spells words command → Parses words result
 refused words (Ok found) is command spelled = absurd is
 refused words (Err Usage) is command spelled = absurd (false≢true (ap is_want is))
 refused words (Err OutOfMemory) is command spelled = (command, spelled)
@@ -247,29 +248,36 @@ pub no_command : (words : List (List ℕ)) → ((name : Name) → HasName words 
 no_command words none command spelled = none (name_of command) (spelled_named words command spelled)
 
 -- the word of no workers is no number of workers
-pub no_workers : (words : List (List ℕ)) (word : List ℕ) (workers : ℕ) → slice_get words 0 ≡ Some (name_word names.Count) → slice_get words 3 ≡ Some word → word ≡ decimal workers → workers ≡ 0 → NoCommand words
+pub no_workers : (words : List (List ℕ)) (word : List ℕ) (workers : ℕ) → slice_get words 0 ≡ Some (name_word names.Count)
+    → slice_get words 3 ≡ Some word → word ≡ decimal workers → workers ≡ 0 → NoCommand words
 no_workers words word workers first at_3 is none command spelled =
     let count = spells_it words names.Count command first spelled in
     let others : ℕ = digits_value 10 (get_or words 3 []) in
     let shown : slice_get words 3 ≡ Some (decimal others) = ap (λ (w : List (List ℕ)). slice_get w 3) count.words_are in
     let same : decimal workers ≡ decimal others = cc in
-    let equal : workers ≡ others = sym (decimal_is_IsNumeral workers (omega (arith, none))).1 ∙ ap (digits_value 10) same ∙ (decimal_is_IsNumeral others (omega (arith, count.sound.few_workers))).1 in
+    let equal : workers ≡ others =
+    sym (decimal_is_IsNumeral workers (omega (arith, none))).1 ∙ ap (digits_value 10) same
+    ∙ (decimal_is_IsNumeral others (omega (arith, count.sound.few_workers))).1 in
     omega (arith, equal, none, count.sound.some_worker)
 
 -- the word of no sheets is no number of sheets
-pub no_sheets : (words : List (List ℕ)) (word : List ℕ) (sheets : ℕ) → slice_get words 0 ≡ Some (name_word names.Demo) → slice_get words 2 ≡ Some word → word ≡ decimal sheets → sheets ≡ 0 → NoCommand words
+pub no_sheets : (words : List (List ℕ)) (word : List ℕ) (sheets : ℕ) → slice_get words 0 ≡ Some (name_word names.Demo) → slice_get words 2 ≡ Some word
+    → word ≡ decimal sheets → sheets ≡ 0 → NoCommand words
 no_sheets words word sheets first at_2 is none command spelled =
     let demo = spells_it words names.Demo command first spelled in
     let others : ℕ = digits_value 10 (get_or words 2 []) in
     let shown : slice_get words 2 ≡ Some (decimal others) = ap (λ (w : List (List ℕ)). slice_get w 2) demo.words_are in
     let same : decimal sheets ≡ decimal others = cc in
-    let equal : sheets ≡ others = sym (decimal_is_IsNumeral sheets (omega (arith, none))).1 ∙ ap (digits_value 10) same ∙ (decimal_is_IsNumeral others (omega (arith, demo.sound.few_sheets))).1 in
+    let equal : sheets ≡ others =
+    sym (decimal_is_IsNumeral sheets (omega (arith, none))).1 ∙ ap (digits_value 10) same
+    ∙ (decimal_is_IsNumeral others (omega (arith, demo.sound.few_sheets))).1 in
     omega (arith, equal, none, demo.sound.some_sheet)
 
 -- the words of a demo
 pub demo_spelled :
     (words : List (List ℕ)) (first second : List ℕ) (seed sheets : ℕ) → HasName words names.Demo
-    → slice_get words 1 ≡ Some first → slice_get words 2 ≡ Some second → seed < 2 ^ 64 → first ≡ decimal seed → 1 ≤ sheets → sheets ≤ 1000 → second ≡ decimal sheets
+    → slice_get words 1 ≡ Some first → slice_get words 2 ≡ Some second → seed < 2 ^ 64 → first ≡ decimal seed → 1 ≤ sheets → sheets ≤ 1000
+    → second ≡ decimal sheets
     → Spells words (Demo seed sheets)
 demo_spelled [] first second seed sheets called at_1 at_2 small is_seed some few is = absurd (omega (arith, called.enough))
 demo_spelled (a ∷ []) first second seed sheets called at_1 at_2 small is_seed some few is = absurd (omega (arith, called.enough))
@@ -282,7 +290,8 @@ demo_spelled (name ∷ b ∷ c ∷ []) first second seed sheets called at_1 at_2
 demo_spelled (a ∷ b ∷ c ∷ d ∷ more) first second seed sheets called at_1 at_2 small is_seed some few is = absurd (omega (arith, called.no_more))
 
 -- a word that names no device is no device of an export
-pub no_device : (words : List (List ℕ)) (word : List ℕ) → HasName words names.Export → slice_get words 3 ≡ Some word → is_some (device_of word) ≡ false → NoCommand words
+pub no_device : (words : List (List ℕ)) (word : List ℕ) → HasName words names.Export → slice_get words 3 ≡ Some word
+    → is_some (device_of word) ≡ false → NoCommand words
 no_device words word called at_3 none command spelled =
     let export = spells_it words names.Export command called.first spelled in
     let shown : slice_get words 3 ≡ Some export.device = ap (λ (w : List (List ℕ)). slice_get w 3) export.words_are in
@@ -304,7 +313,8 @@ spelled_arguments words command spelled =
     with_name words (name_word (name_of command)) called.first (name_is_argument (name_of command)) called.arguments
 
 -- words behind a name are as many as its command has
-pub called_so : (name : Name) (behind : List (List ℕ)) → All IsArgument behind → (row_of name).least ≤ length behind + 1 → length behind + 1 ≤ (row_of name).most → HasName (name_word name ∷ behind) name
+pub called_so : (name : Name) (behind : List (List ℕ)) → All IsArgument behind → (row_of name).least ≤ length behind + 1
+    → length behind + 1 ≤ (row_of name).most → HasName (name_word name ∷ behind) name
 called_so name behind are enough no_more = record { first = refl; enough = omega (arith, enough); no_more = omega (arith, no_more); arguments = are }
 
 -- a command has a word behind its name
@@ -312,7 +322,8 @@ pub two_words : (words : List (List ℕ)) (command : Command) → Spells words c
 two_words words command spelled = omega (arith, two_words_at_least (name_of command), (spelled_named words command spelled).enough)
 
 -- the command whose name begins the words, where they have as many as it
-pub no_other_name : (words : List (List ℕ)) (word : List ℕ) (name other : Name) → slice_get words 0 ≡ Some word → Some name ≡ name_in word → HasName words other → other ≡ name
+pub no_other_name : (words : List (List ℕ)) (word : List ℕ) (name other : Name) → slice_get words 0 ≡ Some word → Some name ≡ name_in word
+    → HasName words other → other ≡ name
 no_other_name words word name other at_0 is called =
     same_Some other name (sym (found other) ∙ ap name_in (same_Some (name_word other) word (sym called.first ∙ at_0)) ∙ sym is)
 
