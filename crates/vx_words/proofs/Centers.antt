@@ -17,7 +17,8 @@ use Rattle.vx_words.specs.Moments.{is_moment}
 use Rattle.vx_words.specs.Words.{Decides, HasName, IsArgument, IsSoundCenter, NoCommand, Reads, Spells}
 use Rattle.vx_words.specs.declared.name.Name.TheVariants as names
 use Rattle.vx_words.specs.Names.{name_word}
-use Rattle.vx_words.proofs.OneSpelling.{known, spells_it}
+use Rattle.vx_words.proofs.OneSpelling.{spells_it}
+use Rattle.vx_words.proofs.Parts.{known}
 use Rattle.vx_words.proofs.ItemWords.{item_in, each_named, name_items}
 use Rattle.vx_words.proofs.Made.{nowhere, shown}
 use Rattle.vx_words.proofs.Moving.{got}

@@ -16,7 +16,8 @@ use Rattle.vx_words.specs.Devices.{device_of}
 use Rattle.vx_words.specs.Words.{IsArgument, NoCommand, Spells}
 use Rattle.vx_words.specs.declared.name.Name.TheVariants as names
 use Rattle.vx_words.specs.Names.{name_word}
-use Rattle.vx_words.proofs.OneSpelling.{known, spells_it}
+use Rattle.vx_words.proofs.OneSpelling.{spells_it}
+use Rattle.vx_words.proofs.Parts.{known}
 use Rattle.vx_words.proofs.Spellings.{check_spelled, count_spelled, decide_spelled, demo_spelled, export_spelled, no_sheets, no_workers, print_spelled, read_spelled}
 
 -- what the text past the end of a slice is

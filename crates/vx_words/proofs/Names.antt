@@ -8,22 +8,11 @@ use Rattle.std.proofs.lemmas.List.{at_drop_more}
 use Rattle.std.proofs.lemmas.Option.{none-some, same_Some}
 use Rattle.std.proofs.lemmas.Slice.Eq.{bytes_eq-Decides}
 use Rattle.vx_words.specs.declared.name.Name.{Name}
-use Rattle.vx_words.specs.declared.name.Name.TheVariants.{Print, Read, Check, Count, Decide, Queue, Export, Demo, Center}
 use Rattle.vx_words.specs.Names.{all_names, name_in, name_word, row_of}
 use Rattle.vx_words.specs.Words.{IsArgument}
+use Rattle.vx_words.proofs.Commands.{found}
 
--- Each name is found by its own word: no two names of the table are the same, and none is missing in it.
-pub found : (name : Name) → name_in (name_word name) ≡ Some name
-found Print = refl
-found Read = refl
-found Check = refl
-found Count = refl
-found Decide = refl
-found Queue = refl
-found Export = refl
-found Demo = refl
-found Center = refl
-
+-- no two names are the same
 pub same_name : (a b : Name) → name_word a ≡ name_word b → a ≡ b
 same_name a b same = same_Some a b (sym (found a) ∙ ap name_in same ∙ found b)
 

@@ -17,7 +17,7 @@ use Rattle.vx_words.specs.Words.{IsArgument, Reads, Spells, name_of}
 use Rattle.vx_words.specs.Line.{IsSplit, line, names, rows_for}
 use Rattle.vx_words.specs.declared.name.Name.{Name}
 use Rattle.vx_words.specs.Names.{all_names, name_word}
-use Rattle.vx_words.proofs.Names.{found}
+use Rattle.vx_words.proofs.Commands.{found}
 use Rattle.vx_words.proofs.OneSpelling.{named_first}
 use Rattle.vx_words.proofs.Spellings.{two_words}
 use Rattle.vx_words.proofs.Split.{answers, called, called_itself, not_empty, not_stray, splits, taken}

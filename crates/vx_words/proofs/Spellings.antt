@@ -1,124 +1,29 @@
 -- Words and the commands that they spell.
-use Rattle.std.proofs.Common.{◌≡◌, ℕ, Bool, true, false, List, [], ◌∷◌, ◌+◌, ◌^◌, ◌≤◌, ◌<◌, lit<, length, map, drop, get_or, Some, refl, sym, ap, subst, ◌∙◌, arith}
-use Rattle.std.specs.Prelude.{All, slice_get}
-use Rattle.std.proofs.lemmas.List.{length-map}
-use Rattle.std.proofs.lemmas.List.Elements.{All-head, All-tail}
-use Rattle.std.proofs.lemmas.List.Elements.{All-cons, All-nil}
+use Rattle.std.proofs.Common.{◌≡◌, ℕ, Bool, true, false, List, [], ◌∷◌, ◌+◌, ◌^◌, ◌≤◌, ◌<◌, length, drop, get_or, Some, refl, sym, ap, subst, ◌∙◌, arith}
+use Rattle.std.specs.Prelude.{All, slice_get, ◌≢◌, is_some, Option, None, Result, Ok, Err, IsErrAnd}
+use Rattle.std.proofs.lemmas.List.Elements.{All-head, All-tail, All-cons, All-nil}
 use Rattle.std.proofs.lemmas.Bool.{false≢true}
 use Rattle.std.proofs.lemmas.Option.{none-some, same_Some}
-use Rattle.std.specs.Prelude.{◌≢◌, is_some, Option, None, Result, Ok, Err, IsErrAnd}
 use Rattle.std.specs.Fmt.{decimal}
 use Rattle.std.specs.Str.Parse.{digits_value}
 use Rattle.std.proofs.lemmas.Fmt.{decimal_is_IsNumeral}
-use Rattle.vx_base.specs.Numeral.{StartsNumeral}
-use Rattle.vx_words.proofs.Seeds.{decimal_starts}
 use Rattle.vx_grid.specs.declared.kind.Kind.{Kind}
-use Rattle.vx_grid.specs.declared.kind.Kind.TheVariants.{Precinct, Absentee, Provisional, Other}
+use Rattle.vx_grid.specs.declared.kind.Kind.TheVariants.{Other}
 use Rattle.vx_grid.specs.Kinds.{kind_word}
 use Rattle.vx_words.specs.declared.command.Command.{Command}
-use Rattle.vx_words.specs.declared.command.Command.TheVariants.{Print, Read, Check, Count, Decide, Queue, Export, Demo, Center}
-use Rattle.vx_words.specs.declared.command.ItemWord.{ItemWord}
-use Rattle.vx_words.specs.declared.command.ItemWord.TheVariants.{Script, Scan}
+use Rattle.vx_words.specs.declared.command.Command.TheVariants.{Print, Read, Check, Count, Decide, Queue, Export, Demo}
 use Rattle.vx_words.specs.declared.fault.UsageFault.{UsageFault}
 use Rattle.vx_words.specs.declared.fault.UsageFault.TheVariants.{Usage, OutOfMemory}
 use Rattle.vx_events.specs.Fits.{is_batch}
 use Rattle.vx_words.specs.Moments.{is_moment}
 use Rattle.vx_words.specs.Devices.{device_of}
-use Rattle.vx_words.specs.Items.{item_word}
-use Rattle.vx_words.specs.Words.{HasName, IsArgument, IsSound, NoCommand, Parses, Spells, name_of, words_with}
+use Rattle.vx_words.specs.Words.{HasName, IsArgument, NoCommand, Parses, Spells, name_of}
 use Rattle.vx_words.specs.declared.name.Name.{Name}
 use Rattle.vx_words.specs.declared.name.Name.TheVariants as names
 use Rattle.vx_words.specs.Names.{name_in, name_word, row_of}
-use Rattle.vx_words.proofs.Names.{found, its_word, name_is_argument, two_words_at_least}
-use Rattle.vx_words.proofs.OneSpelling.{spells_it}
-
--- numbers and kinds may be arguments
-number_is_argument : (n : ℕ) → n < 2 ^ 64 → IsArgument (decimal n)
-number_is_argument n few =
-    let starts : StartsNumeral (decimal n) = decimal_starts n few in
-    record { some = starts.some; no_option = λ is. absurd (omega (arith, is, starts.low)) }
-
-kind_is_argument : (kind : Kind) (test : Bool) → IsArgument (kind_word kind test)
-kind_is_argument Precinct true = record { some = lit< tt; no_option = λ is. absurd (omega (arith, is)) }
-kind_is_argument Absentee true = record { some = lit< tt; no_option = λ is. absurd (omega (arith, is)) }
-kind_is_argument Provisional true = record { some = lit< tt; no_option = λ is. absurd (omega (arith, is)) }
-kind_is_argument Other true = record { some = lit< tt; no_option = λ is. absurd (omega (arith, is)) }
-kind_is_argument Precinct false = record { some = lit< tt; no_option = λ is. absurd (omega (arith, is)) }
-kind_is_argument Absentee false = record { some = lit< tt; no_option = λ is. absurd (omega (arith, is)) }
-kind_is_argument Provisional false = record { some = lit< tt; no_option = λ is. absurd (omega (arith, is)) }
-kind_is_argument Other false = record { some = lit< tt; no_option = λ is. absurd (omega (arith, is)) }
-
--- and so may the words of items, as they begin with an `s`
-with_s : (rest : List ℕ) → IsArgument (115 ∷ rest)
-with_s rest = record { some = omega arith; no_option = λ is. absurd (omega (arith, is)) }
-
-items_are_arguments : (items : List ItemWord) → All IsArgument (map item_word items)
-items_are_arguments [] = All-nil IsArgument
-items_are_arguments (Script name ∷ items) = All-cons IsArgument (item_word (Script name)) (map item_word items) (with_s _) (items_are_arguments items)
-items_are_arguments (Scan batch name ∷ items) = All-cons IsArgument (item_word (Scan batch name)) (map item_word items) (with_s _) (items_are_arguments items)
-
--- a command's words, its name behind them
-named : (device : List ℕ) (command : Command) → IsSound device command → HasName (words_with device command) (name_of command)
-named device (Print election card kind test) sound = record {
-  first = refl;
-  enough = omega arith;
-  no_more = omega arith;
-  arguments = All-cons IsArgument election (decimal card ∷ kind_word kind test ∷ []) sound.is_argument
-      (All-cons IsArgument (decimal card) (kind_word kind test ∷ []) (number_is_argument card (omega (arith, sound.card_in_range)))
-      (All-cons IsArgument (kind_word kind test) [] (kind_is_argument kind test) (All-nil IsArgument)));
-}
-named device (Read election scans) sound = record {
-  first = refl;
-  enough = omega (arith, sound.are_scans.some);
-  no_more = omega (arith, sound.are_scans.few);
-  arguments = All-cons IsArgument election scans sound.is_argument sound.are_scans.are_arguments;
-}
-named device (Check election scans readings) sound = record { first = refl; enough = omega arith; no_more = omega arith; arguments = sound }
-named device (Count election batch workers scans) sound = record {
-  first = refl;
-  enough = omega (arith, sound.are_scans.some);
-  no_more = omega (arith, sound.are_scans.few);
-  arguments = All-cons IsArgument election (batch ∷ decimal workers ∷ scans) sound.is_argument
-      (All-cons IsArgument batch (decimal workers ∷ scans) sound.batch_is_argument
-      (All-cons IsArgument (decimal workers) scans (number_is_argument workers (omega (arith, sound.few_workers)))
-      sound.are_scans.are_arguments));
-}
-named device (Decide election script) sound = record { first = refl; enough = omega arith; no_more = omega arith; arguments = sound }
-named device (Queue election) sound = record {
-  first = refl;
-  enough = omega arith;
-  no_more = omega arith;
-  arguments = All-cons IsArgument election [] sound (All-nil IsArgument);
-}
-named device (Export election moment known) sound = record {
-  first = refl;
-  enough = omega arith;
-  no_more = omega arith;
-  arguments = All-cons IsArgument election (moment ∷ device ∷ []) sound.is_argument
-      (All-cons IsArgument moment (device ∷ []) sound.moment_is_argument
-      (All-cons IsArgument device [] sound.device_is_argument (All-nil IsArgument)));
-}
-named device (Demo seed sheets) sound = record {
-  first = refl;
-  enough = omega arith;
-  no_more = omega arith;
-  arguments = All-cons IsArgument (decimal seed) (decimal sheets ∷ []) (number_is_argument seed sound.seed_in_range)
-      (All-cons IsArgument (decimal sheets) [] (number_is_argument sheets (omega (arith, sound.few_sheets))) (All-nil IsArgument));
-}
-named device (Center election moment known items) sound =
-    let size : length (map item_word items) ≡ length items = length-map items item_word in
-    record {
-      first = refl;
-      enough = omega (arith, size, sound.are_items.some);
-      no_more = omega (arith, size, sound.are_items.few);
-      arguments = All-cons IsArgument election (moment ∷ device ∷ map item_word items) sound.as_export.is_argument
-          (All-cons IsArgument moment (device ∷ map item_word items) sound.as_export.moment_is_argument
-          (All-cons IsArgument device (map item_word items) sound.as_export.device_is_argument (items_are_arguments items)));
-    }
-
-pub spelled_named : (words : List (List ℕ)) (command : Command) → Spells words command → HasName words (name_of command)
-spelled_named words command spelled =
-    subst (λ (w : List (List ℕ)). HasName w (name_of command)) (sym spelled.words_are) (named spelled.device command spelled.sound)
+use Rattle.vx_words.proofs.Commands.{found}
+use Rattle.vx_words.proofs.Names.{its_word, name_is_argument, two_words_at_least}
+use Rattle.vx_words.proofs.OneSpelling.{spelled_named, spells_it}
 
 abbrev is_want : UsageFault → Bool
 is_want Usage = false

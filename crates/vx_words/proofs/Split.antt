@@ -2,22 +2,17 @@
 use Rattle.std.proofs.Common.{◌^◌, ◌≡◌, ◌++◌, ◌+◌, ◌==◌, ◌<◌, ◌≤◌, ℕ, Bool, true, false, List, [], ◌∷◌, Option, Some, None, length, map, take, get_or, refl, sym, ap, ◌∙◌, arith, append_assoc, append-nil, inl, inr}
 use Rattle.std.specs.Prelude.{All, codes, find, fold, unwrap_or, is_some, not, if◌then◌else◌, option_map, ◌≢◌}
 use Rattle.std.specs.Str.{bytes_eq}
-use Rattle.std.proofs.lemmas.Bool.{eqb-true, cases_Bool, le-leb}
+use Rattle.std.proofs.lemmas.Bool.{eqb-true, cases_Bool, le-leb, or_from, or_right, false≢true}
 use Rattle.clap.specs.Lexer.{long_of, short_of, strip_byte, usize_max}
-use Rattle.clap.specs.Words.{App, Rule, Shape, Text}
-use Rattle.clap.specs.Walk.{Held, Names, Walk, positional, idle, walk, walk_from, walked, nothing_held, answers_to}
+use Rattle.clap.specs.Words.{App, Rule, Shape, Text, subcommand_of, takes, fault_of, is_simple, with_subcommand, Kinds, is_simple_and_free}
+use Rattle.clap.specs.Walk.{Held, Names, Walk, positional, idle, walk, walk_from, walked, nothing_held, answers_to, rows_after, subcommand_met}
 use Rattle.clap.specs.declared.builder.action.ArgAction.TheVariants.{Append}
 use Rattle.clap.specs.declared.builder.value_parser.ValueParser.TheVariants as vp
-use Rattle.clap.specs.Simple.{built, names_of, new_shape}
-use Rattle.clap.specs.Walk.{rows_after, subcommand_met}
-use Rattle.clap.specs.Simple.{label_of}
-use Rattle.clap.specs.Words.{subcommand_of, takes, fault_of, is_simple, with_subcommand, Kinds}
+use Rattle.clap.specs.Simple.{built, names_of, new_shape, label_of}
 use Rattle.clap.specs.Faults.{walk_fault, defaults_fault}
 use Rattle.clap.specs.declared.error.kind.ErrorKind.TheVariants.{UnknownArgument, InvalidSubcommand, MissingSubcommand}
 use Rattle.clap.proofs.WalkLemmas.{find-map, walk_stopped}
 use Rattle.std.proofs.lemmas.Slice.Eq.{bytes_eq-Decides}
-use Rattle.std.proofs.lemmas.Bool.{or_from, or_right, false≢true}
-use Rattle.clap.specs.Words.{is_simple_and_free}
 use Rattle.clap.specs.Takes.{turn_passes, walk_passes, values_pass, use_passes, level_passes}
 use Rattle.std.proofs.lemmas.List.Elements.{All-head, All-tail}
 use Rattle.std.proofs.lemmas.List.{take_all}
