@@ -53,7 +53,9 @@ called_by_name : (name : Name) → called (name_word name) ≡ Some (name_word n
 called_by_name name =
     let word : Text = name_word name in
     sym (find-map (answers word) name_word all_names)
-    ∙ ap (option_map name_word) (same_first (λ (n : Name). answers word (name_word n)) (λ (n : Name). bytes_eq (name_word n) word) (λ (n : Name). no_alias word (name_word n)) all_names ∙ found name)
+    ∙ ap (option_map name_word)
+    (same_first (λ (n : Name). answers word (name_word n)) (λ (n : Name). bytes_eq (name_word n) word) (λ (n : Name). no_alias word (name_word n))
+    all_names ∙ found name)
 
 spelled_taken : (words : List Text) → All IsArgument words → length words < 2 ^ 32 → (command : Command) → Spells words command → takes line words ≡ true
 spelled_taken [] are few command spelled = absurd (omega (arith, two_words [] command spelled))
