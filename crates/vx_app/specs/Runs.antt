@@ -1,14 +1,15 @@
 -- Which commands `run` does, and which words are `run_center`'s.
-use Rattle.std.specs.Prelude.{◌≡◌, ℕ, Bool, true, false, List, Some, codes, slice_get}
+use Rattle.std.specs.Prelude.{◌≡◌, ℕ, Bool, true, List, Some, codes, not, slice_get}
+use Rattle.std.specs.Str.{bytes_eq}
 use Rattle.vx_words.specs.declared.command.Command.{Command}
 use Rattle.vx_words.specs.declared.command.Command.TheVariants.{Center}
 use Rattle.vx_words.specs.declared.command.ItemWord.{ItemWord}
-use Rattle.vx_words.specs.Words.{Spells}
+use Rattle.vx_words.specs.Names.{name_word}
+use Rattle.vx_words.specs.Words.{Spells, name_of}
 
--- a command that `run` does: each but `center`
+-- a command that `run` does: each but `center`, which has a top call of its own
 abbrev pub is_run : Command → Bool
-is_run (Center election moment device items) = false
-is_run command = true
+is_run command = not (bytes_eq (name_word (name_of command)) (codes "center"))
 
 -- the words are this command, which `run` does
 pub record SpellsRun (words : List (List ℕ)) (command : Command) : Type 0 where

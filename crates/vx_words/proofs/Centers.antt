@@ -1,13 +1,13 @@
 -- The words of `center`.
 use Rattle.std.proofs.Common.{◌≡◌, ◌+◌, ◌≤◌, ℕ, Bool, true, false, List, [], ◌∷◌, length, map, drop, get_or, Some, None, refl, sym, ap, subst, ◌∙◌, arith}
-use Rattle.std.specs.Prelude.{All, Err, codes, is_some, slice_get}
+use Rattle.std.specs.Prelude.{All, Err, is_some, slice_get}
 use Rattle.std.specs.Borrow.{Bor}
 use Rattle.std.proofs.lemmas.Bool.{false≢true}
 use Rattle.std.proofs.lemmas.Option.{slice_get-get_or}
 use Rattle.std.proofs.lemmas.List.{length-map}
 use Rattle.std.proofs.lemmas.List.Elements.{All-head, All-tail}
 use Rattle.vx_words.specs.declared.command.Command.{Command}
-use Rattle.vx_words.specs.declared.command.Command.TheVariants.{Print, Read, Check, Count, Decide, Queue, Export, Demo, Center}
+use Rattle.vx_words.specs.declared.command.Command.TheVariants.{Center}
 use Rattle.vx_words.specs.declared.command.ItemWord.{ItemWord}
 use Rattle.vx_words.specs.Devices.{device_of}
 use Rattle.vx_words.specs.declared.fault.UsageFault.{UsageFault}
@@ -15,10 +15,14 @@ use Rattle.vx_words.specs.declared.fault.UsageFault.TheVariants.{Usage, OutOfMem
 use Rattle.vx_words.specs.Items.{IsItemWord, NameItems, ReadsItems, item_word}
 use Rattle.vx_words.specs.Moments.{is_moment}
 use Rattle.vx_words.specs.Words.{Decides, HasName, IsArgument, IsSoundCenter, NoCommand, Reads, Spells}
-use Rattle.vx_words.proofs.ItemWords.{each_named, name_items}
+use Rattle.vx_words.specs.declared.name.Name.TheVariants as names
+use Rattle.vx_words.specs.Names.{name_word}
+use Rattle.vx_words.proofs.OneSpelling.{spells_it}
+use Rattle.vx_words.proofs.Parts.{known}
+use Rattle.vx_words.proofs.ItemWords.{item_in, each_named, name_items}
 use Rattle.vx_words.proofs.Made.{nowhere, shown}
 use Rattle.vx_words.proofs.Moving.{got}
-use Rattle.vx_words.proofs.Spellings.{behind_name, other_third, some_device}
+use Rattle.vx_words.proofs.Spellings.{called_so, some_device}
 
 -- words of an election, a moment, a device's word and items
 record IsCenter (words : List (List ℕ)) : Type 0 where
@@ -27,29 +31,23 @@ record IsCenter (words : List (List ℕ)) : Type 0 where
   device : List ℕ
   named : List ℕ
   items : List ItemWord
-  words_are : words ≡ codes "center" ∷ election ∷ moment ∷ device ∷ map item_word items
+  words_are : words ≡ name_word names.Center ∷ election ∷ moment ∷ device ∷ map item_word items
   sound : IsSoundCenter election moment device named items
 
-centered : (words : List (List ℕ)) → slice_get words 0 ≡ Some (codes "center") → (command : Command) → Spells words command → IsCenter words
-centered words first (Center election moment named items) spelled = record {
-  election = election;
-  moment = moment;
-  device = spelled.device;
-  named = named;
-  items = items;
-  words_are = spelled.words_are;
-  sound = spelled.sound;
-}
-centered words first (Print election card kind test) spelled = absurd (other_third words (codes "center") (Print election card kind test) first spelled (λ same. absurd (omega (arith, same))))
-centered words first (Read election scans) spelled = absurd (other_third words (codes "center") (Read election scans) first spelled (λ same. absurd (omega (arith, same))))
-centered words first (Check election scans readings) spelled = absurd (other_third words (codes "center") (Check election scans readings) first spelled (λ same. absurd (omega (arith, same))))
-centered words first (Count election batch workers scans) spelled = absurd (other_third words (codes "center") (Count election batch workers scans) first spelled (λ same. absurd (omega (arith, same))))
-centered words first (Decide election script) spelled = absurd (other_third words (codes "center") (Decide election script) first spelled (λ same. absurd (omega (arith, same))))
-centered words first (Queue election) spelled = absurd (other_third words (codes "center") (Queue election) first spelled (λ same. absurd (omega (arith, same))))
-centered words first (Export election moment named) spelled = absurd (other_third words (codes "center") (Export election moment named) first spelled (λ same. absurd (omega (arith, same))))
-centered words first (Demo seed sheets) spelled = absurd (other_third words (codes "center") (Demo seed sheets) first spelled (λ same. absurd (omega (arith, same))))
+centered : (words : List (List ℕ)) → slice_get words 0 ≡ Some (name_word names.Center) → (command : Command) → Spells words command → IsCenter words
+centered words first command spelled =
+    let center = spells_it words names.Center command first spelled in
+    record {
+      election = get_or words 1 [];
+      moment = get_or words 2 [];
+      device = center.device;
+      named = known (device_of (get_or words 3 []));
+      items = map item_in (drop 4 words);
+      words_are = center.words_are;
+      sound = center.sound;
+    }
 
-module _ (words : List (List ℕ)) (first : slice_get words 0 ≡ Some (codes "center")) where
+module _ (words : List (List ℕ)) (first : slice_get words 0 ≡ Some (name_word names.Center)) where
   -- it has 5 to 20 words
   pub so_many : (5 ≤ length words → length words ≤ 20 → ⊥) → NoCommand words
   so_many other command spelled =
@@ -83,7 +81,7 @@ module _ (words : List (List ℕ)) (first : slice_get words 0 ≡ Some (codes "c
 
 -- the words of a center
 pub center_spelled :
-    (words : List (List ℕ)) (election moment device named : List ℕ) (items : List ItemWord) → HasName words (codes "center") 5 20
+    (words : List (List ℕ)) (election moment device named : List ℕ) (items : List ItemWord) → HasName words names.Center
     → slice_get words 1 ≡ Some election → slice_get words 2 ≡ Some moment → slice_get words 3 ≡ Some device
     → is_moment moment ≡ true → device_of device ≡ Some named → NameItems (drop 4 words) items
     → Spells words (Center election moment named items)
@@ -118,7 +116,7 @@ center_spelled (name ∷ b ∷ c ∷ d ∷ more) election moment device named it
 
 -- whether words are a center's, by whether the last of them name items
 pub decided :
-    (words : List (List ℕ)) (moment device : List ℕ) → HasName words (codes "center") 5 20 → slice_get words 2 ≡ Some moment → slice_get words 3 ≡ Some device
+    (words : List (List ℕ)) (moment device : List ℕ) → HasName words names.Center → slice_get words 2 ≡ Some moment → slice_get words 3 ≡ Some device
     → is_moment moment ≡ true → is_some (device_of device) ≡ true → (decision : Bool)
     → (decision ≡ true → All IsItemWord (drop 4 words)) → (All IsItemWord (drop 4 words) → decision ≡ true) → Decides words decision
 decided words moment device called at_2 at_3 good known true are back =
@@ -129,29 +127,32 @@ decided words moment device called at_2 at_3 good known false are back = no_item
 
 -- the words behind the name
 module _ (words : List (Bor (List ℕ))) where
-  behind_it : length (codes "center" ∷ shown words) ≡ length words + 1
+  behind_it : length (name_word names.Center ∷ shown words) ≡ length words + 1
   behind_it = omega (arith, length-map words (λ (word : Bor (List ℕ)). word.now))
 
-  pub not_so_many : (4 ≤ length words → length words ≤ 19 → ⊥) → NoCommand (codes "center" ∷ shown words)
-  not_so_many other = so_many (codes "center" ∷ shown words) refl (λ least most. other (omega (arith, behind_it, least)) (omega (arith, behind_it, most)))
+  pub not_so_many : (4 ≤ length words → length words ≤ 19 → ⊥) → NoCommand (name_word names.Center ∷ shown words)
+  not_so_many other =
+      so_many (name_word names.Center ∷ shown words) refl (λ least most. other (omega (arith, behind_it, least)) (omega (arith, behind_it, most)))
 
-  pub no_moment_made : 4 ≤ length words → is_moment (get_or words 1 nowhere).now ≡ false → NoCommand (codes "center" ∷ shown words)
-  no_moment_made least bad = no_moment (codes "center" ∷ shown words) refl (get_or words 1 nowhere).now (got words 1 nowhere (omega (arith, least))) bad
+  pub no_moment_made : 4 ≤ length words → is_moment (get_or words 1 nowhere).now ≡ false → NoCommand (name_word names.Center ∷ shown words)
+  no_moment_made least bad = no_moment (name_word names.Center ∷ shown words) refl (get_or words 1 nowhere).now (got words 1 nowhere (omega (arith, least))) bad
 
-  pub no_device_made : 4 ≤ length words → None ≡ device_of (get_or words 2 nowhere).now → NoCommand (codes "center" ∷ shown words)
-  no_device_made least bad = no_device (codes "center" ∷ shown words) refl (get_or words 2 nowhere).now (got words 2 nowhere (omega (arith, least))) (ap is_some (sym bad))
+  pub no_device_made : 4 ≤ length words → None ≡ device_of (get_or words 2 nowhere).now → NoCommand (name_word names.Center ∷ shown words)
+  no_device_made least bad =
+      no_device (name_word names.Center ∷ shown words) refl (get_or words 2 nowhere).now (got words 2 nowhere (omega (arith, least))) (ap is_some (sym bad))
 
   pub center_made : (named : List ℕ) (items : List ItemWord) → 4 ≤ length words → length words ≤ 19 → All IsArgument (shown words)
       → is_moment (get_or words 1 nowhere).now ≡ true → device_of (get_or words 2 nowhere).now ≡ Some named → NameItems (drop 3 (shown words)) items
-      → Spells (codes "center" ∷ shown words) (Center (get_or words 0 nowhere).now (get_or words 1 nowhere).now named items)
+      → Spells (name_word names.Center ∷ shown words) (Center (get_or words 0 nowhere).now (get_or words 1 nowhere).now named items)
   center_made named items least most are good known name =
-      center_spelled (codes "center" ∷ shown words) (get_or words 0 nowhere).now (get_or words 1 nowhere).now (get_or words 2 nowhere).now named items
-      (behind_name (codes "center") (shown words) 5 20 are (omega (arith, behind_it, least)) (omega (arith, behind_it, most)))
+      center_spelled (name_word names.Center ∷ shown words) (get_or words 0 nowhere).now (get_or words 1 nowhere).now (get_or words 2 nowhere).now named items
+      (called_so names.Center (shown words) are (omega (arith, behind_it, least)) (omega (arith, behind_it, most)))
       (got words 0 nowhere (omega (arith, least))) (got words 1 nowhere (omega (arith, least))) (got words 2 nowhere (omega (arith, least))) good known name
 
   -- where the items can't be read, neither can the command
-  pub no_items_made : (fault told : UsageFault) → told ≡ fault → ReadsItems (drop 3 (shown words)) (Err fault) → Reads (codes "center" ∷ shown words) (Err told)
+  pub no_items_made : (fault told : UsageFault) → told ≡ fault → ReadsItems (drop 3 (shown words)) (Err fault)
+      → Reads (name_word names.Center ∷ shown words) (Err told)
   no_items_made fault Usage is said =
       let Said : UsageFault → Type 0 = λ some. ReadsItems (drop 3 (shown words)) (Err some) in
-      no_items (codes "center" ∷ shown words) refl (subst Said (sym is) said)
+      no_items (name_word names.Center ∷ shown words) refl (subst Said (sym is) said)
   no_items_made fault OutOfMemory is said = tt

@@ -1,9 +1,12 @@
 pub mod Centers
+pub mod Commands
 pub mod ItemWords
 pub mod Made
 pub mod Moving
+pub mod Names
 pub mod OneSpelling
 pub mod Parsed
+pub mod Parts
 pub mod Seeds
 pub mod Spellings
 pub mod Split

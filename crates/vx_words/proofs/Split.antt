@@ -1,27 +1,26 @@
 -- How `clap` splits words of which none begins with a hyphen.
-use Rattle.std.proofs.Common.{◌^◌, ◌≡◌, ◌++◌, ◌==◌, ◌<◌, ℕ, Bool, true, false, List, [], ◌∷◌, Option, Some, None, length, map, refl, sym, ap, ◌∙◌, arith, append_assoc, append-nil, inl, inr}
+use Rattle.std.proofs.Common.{◌^◌, ◌≡◌, ◌++◌, ◌+◌, ◌==◌, ◌<◌, ◌≤◌, ℕ, Bool, true, false, List, [], ◌∷◌, Option, Some, None, length, map, take, get_or, refl, sym, ap, ◌∙◌, arith, append_assoc, append-nil, inl, inr}
 use Rattle.std.specs.Prelude.{All, codes, find, fold, unwrap_or, is_some, not, if◌then◌else◌, option_map, ◌≢◌}
 use Rattle.std.specs.Str.{bytes_eq}
-use Rattle.std.proofs.lemmas.Bool.{eqb-true, cases_Bool, le-leb}
+use Rattle.std.proofs.lemmas.Bool.{eqb-true, cases_Bool, le-leb, or_from, or_right, false≢true}
 use Rattle.clap.specs.Lexer.{long_of, short_of, strip_byte, usize_max}
-use Rattle.clap.specs.Words.{App, Rule, Shape, Text}
-use Rattle.clap.specs.Walk.{Held, Names, Walk, positional, idle, walk, walk_from, walked, nothing_held, answers_to}
+use Rattle.clap.specs.Words.{App, Rule, Shape, Text, subcommand_of, takes, fault_of, is_simple, with_subcommand, Kinds, is_simple_and_free}
+use Rattle.clap.specs.Walk.{Held, Names, Walk, positional, idle, walk, walk_from, walked, nothing_held, answers_to, rows_after, subcommand_met}
 use Rattle.clap.specs.declared.builder.action.ArgAction.TheVariants.{Append}
 use Rattle.clap.specs.declared.builder.value_parser.ValueParser.TheVariants as vp
-use Rattle.clap.specs.Simple.{built, names_of, new_shape}
-use Rattle.clap.specs.Walk.{rows_after, subcommand_met}
-use Rattle.clap.specs.Simple.{label_of}
-use Rattle.clap.specs.Words.{subcommand_of, takes, fault_of, is_simple, with_subcommand, Kinds}
+use Rattle.clap.specs.Simple.{built, names_of, new_shape, label_of}
 use Rattle.clap.specs.Faults.{walk_fault, defaults_fault}
 use Rattle.clap.specs.declared.error.kind.ErrorKind.TheVariants.{UnknownArgument, InvalidSubcommand, MissingSubcommand}
 use Rattle.clap.proofs.WalkLemmas.{find-map, walk_stopped}
 use Rattle.std.proofs.lemmas.Slice.Eq.{bytes_eq-Decides}
-use Rattle.std.proofs.lemmas.Bool.{or_from, or_right, false≢true}
-use Rattle.clap.specs.Words.{is_simple_and_free}
 use Rattle.clap.specs.Takes.{turn_passes, walk_passes, values_pass, use_passes, level_passes}
 use Rattle.std.proofs.lemmas.List.Elements.{All-head, All-tail}
+use Rattle.std.proofs.lemmas.List.{take_all}
+use Rattle.std.proofs.lemmas.List.Sums.{fold_more}
+use Rattle.vx_words.specs.declared.name.Name.{Name}
+use Rattle.vx_words.specs.Names.{all_names, name_word}
 use Rattle.vx_words.specs.Words.{IsArgument}
-use Rattle.vx_words.specs.Line.{arguments, form, line, names, rows_for}
+use Rattle.vx_words.specs.Line.{arguments, form, line, names, rows_for, with_names}
 
 -- ---- a word that may be an argument is no flag
 
@@ -151,7 +150,7 @@ level_taken name (word ∷ words) are few = rw (all_taken name (word ∷ words) 
 
 -- ---- the command that the first word names
 
-abbrev answers : Text → Text → Bool
+abbrev pub answers : Text → Text → Bool
 answers word name = answers_to word (name, [])
 
 abbrev pub called_among : List Text → Text → Option Text
@@ -241,11 +240,15 @@ start = record {
   subs = [];
 }
 
-abbrev pub and_form : App → Text → App
-and_form made name = with_subcommand made (form name)
+pub one_form_more : (made : App) (list : List Name) (i : ℕ) (name : Name) → i < length list → name ≡ get_or list i name
+    → with_subcommand (with_names made (take i list)) (form (name_word name)) ≡ with_names made (take (i + 1) list)
+one_form_more made list i name inside is =
+    ap (λ (n : Name). with_subcommand (with_names made (take i list)) (form (name_word n))) is
+    ∙ sym (fold_more (λ (some : App) (n : Name). with_subcommand some (form (name_word n))) made list i name inside)
 
-pub grown :
-    and_form (and_form (and_form (and_form (and_form (and_form (and_form (and_form (and_form start (codes "print")) (codes "read")) (codes "check")) (codes "count")) (codes "decide")) (codes "queue")) (codes "export")) (codes "demo")) (codes "center")
-    ≡ line
+pub all_forms : (made : App) (list : List Name) (i : ℕ) → length list ≤ i → with_names made (take i list) ≡ with_names made list
+all_forms made list i past = ap (λ (l : List Name). with_names made l) (take_all i list past)
+
+pub grown : with_names start all_names ≡ line
 unfolding line
 grown = refl

@@ -1,16 +1,18 @@
 -- The command line as `clap` reads it: one level of subcommands, and each takes all words behind its name.
-use Rattle.std.specs.Prelude.{◌≡◌, All, List, [], ◌∷◌, None, Some, codes, true, false, map}
+use Rattle.std.specs.Prelude.{◌≡◌, All, List, [], ◌∷◌, None, Some, codes, true, false, fold, map}
 use Rattle.clap.specs.Lexer.{usize_max}
-use Rattle.clap.specs.Words.{App, Row, Rule, Shape, Text, new_rule, subcommand_rows_of}
+use Rattle.clap.specs.Words.{App, Row, Rule, Shape, Text, new_rule, subcommand_rows_of, with_subcommand}
 use Rattle.clap.specs.Simple.{new_shape}
 use Rattle.clap.specs.declared.parser.matches.ArgMatches.{ArgMatches}
 use Rattle.clap.specs.declared.parser.matches.ValueSource.TheVariants.{CommandLine}
 use Rattle.clap.specs.declared.builder.value_parser.Reading.TheVariants.{AsWritten}
+use Rattle.vx_words.specs.declared.name.Name.{Name}
+use Rattle.vx_words.specs.Names.{all_names, name_word}
 use Rattle.vx_words.specs.Words.{IsArgument}
 
 -- the names of the commands
 abbrev pub names : List Text
-names = codes "print" ∷ codes "read" ∷ codes "check" ∷ codes "count" ∷ codes "decide" ∷ codes "queue" ∷ codes "export" ∷ codes "demo" ∷ codes "center" ∷ []
+names = map name_word all_names
 
 -- what stands behind a name: one word or more, which `clap` only counts
 abbrev pub arguments : Rule
@@ -22,7 +24,11 @@ arguments = record (new_rule (codes "arguments")) {
 abbrev pub form : Text → Shape
 form name = record (new_shape name) { rules = arguments ∷ [] }
 
--- without flags and without `help`
+-- a command line with more commands
+abbrev pub with_names : App → List Name → App
+with_names made list = fold (λ some name. with_subcommand some (form (name_word name))) made list
+
+-- all commands, without flags and without `help`
 unfoldable pub line : App
 line = record {
   top = record (new_shape (codes "vx")) {

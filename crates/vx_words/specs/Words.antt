@@ -1,5 +1,5 @@
 -- Which words are which command: this program's own positions and spellings.
-use Rattle.std.specs.Prelude.{⊤, Bool, false, ◌≡◌, ◌≢◌, ◌≤◌, ◌<◌, ◌^◌, All, ℕ, List, ◌∷◌, [], length, map, slice_index, true, codes, Some, slice_get, Result, Ok, Err, drop}
+use Rattle.std.specs.Prelude.{⊤, Bool, false, ◌≡◌, ◌≢◌, ◌≤◌, ◌<◌, ◌^◌, All, ℕ, List, ◌∷◌, [], length, map, slice_index, true, Some, slice_get, Result, Ok, Err, drop}
 use Rattle.std.specs.Fmt.{decimal}
 use Rattle.vx_grid.specs.declared.kind.Kind.{Kind}
 use Rattle.vx_grid.specs.declared.kind.Kind.TheVariants.{Other}
@@ -10,22 +10,40 @@ use Rattle.vx_words.specs.declared.command.Command.TheVariants.{Print, Read, Che
 use Rattle.vx_words.specs.declared.command.ItemWord.{ItemWord}
 use Rattle.vx_words.specs.declared.fault.UsageFault.{UsageFault}
 use Rattle.vx_words.specs.declared.fault.UsageFault.TheVariants.{Usage, OutOfMemory}
+use Rattle.vx_words.specs.declared.name.Name.{Name}
+use Rattle.vx_words.specs.declared.name.Name.TheVariants as names
+use Rattle.vx_words.specs.Names.{name_word, row_of}
 use Rattle.vx_words.specs.Moments.{is_moment}
 use Rattle.vx_words.specs.Devices.{device_of}
 use Rattle.vx_words.specs.Items.{AreItemWords, item_word}
 
--- the words of a command, where the word that names its device is this one
+-- a command's row in the table
+abbrev pub name_of : Command → Name
+name_of (Print election card kind test) = names.Print
+name_of (Read election scans) = names.Read
+name_of (Check election scans readings) = names.Check
+name_of (Count election batch workers scans) = names.Count
+name_of (Decide election script) = names.Decide
+name_of (Queue election) = names.Queue
+name_of (Export election moment named) = names.Export
+name_of (Demo seed sheets) = names.Demo
+name_of (Center election moment named items) = names.Center
+
+-- the words behind a command's name, where the word that names its device is this one
+abbrev pub behind_name : List ℕ → Command → List (List ℕ)
+behind_name device (Print election card kind test) = election ∷ decimal card ∷ kind_word kind test ∷ []
+behind_name device (Read election scans) = election ∷ scans
+behind_name device (Check election scans readings) = election ∷ scans ∷ readings ∷ []
+behind_name device (Count election batch workers scans) = election ∷ batch ∷ decimal workers ∷ scans
+behind_name device (Decide election script) = election ∷ script ∷ []
+behind_name device (Queue election) = election ∷ []
+behind_name device (Export election moment named) = election ∷ moment ∷ device ∷ []
+behind_name device (Demo seed sheets) = decimal seed ∷ decimal sheets ∷ []
+behind_name device (Center election moment named items) = election ∷ moment ∷ device ∷ map item_word items
+
+-- the words of a command
 abbrev pub words_with : List ℕ → Command → List (List ℕ)
-words_with device (Print election card kind test) =
-    codes "print" ∷ election ∷ decimal card ∷ kind_word kind test ∷ []
-words_with device (Read election scans) = codes "read" ∷ election ∷ scans
-words_with device (Check election scans readings) = codes "check" ∷ election ∷ scans ∷ readings ∷ []
-words_with device (Count election batch workers scans) = codes "count" ∷ election ∷ batch ∷ decimal workers ∷ scans
-words_with device (Decide election script) = codes "decide" ∷ election ∷ script ∷ []
-words_with device (Queue election) = codes "queue" ∷ election ∷ []
-words_with device (Export election moment named) = codes "export" ∷ election ∷ moment ∷ device ∷ []
-words_with device (Demo seed sheets) = codes "demo" ∷ decimal seed ∷ decimal sheets ∷ []
-words_with device (Center election moment named items) = codes "center" ∷ election ∷ moment ∷ device ∷ map item_word items
+words_with device command = name_word (name_of command) ∷ behind_name device command
 
 -- a word that may be an argument: it isn't empty and doesn't begin with `-`
 pub record IsArgument (word : List ℕ) : Type 0 where
@@ -115,11 +133,11 @@ abbrev pub Decides : List (List ℕ) → Bool → Type 0
 Decides words true = (command : Command) × Spells words command
 Decides words false = NoCommand words
 
--- the words begin with a command's name; the others may be arguments, and there are so many words
-pub record HasName (words : List (List ℕ)) (name : List ℕ) (least most : ℕ) : Type 0 where
-  pub first : slice_get words 0 ≡ Some name
-  pub enough : least ≤ length words
-  pub no_more : length words ≤ most
+-- the words begin with a command's name; the others may be arguments, and there are as many as the command has
+pub record HasName (words : List (List ℕ)) (name : Name) : Type 0 where
+  pub first : slice_get words 0 ≡ Some (name_word name)
+  pub enough : (row_of name).least ≤ length words
+  pub no_more : length words ≤ (row_of name).most
   pub arguments : All IsArgument (drop 1 words)
 
 -- words spell one command only

@@ -1,7 +1,7 @@
 //! The words behind a command's name.
 
 ghost use Rattle.std.specs.Prelude.{◌≡◌, ◌↔◌, ◌<◌, ◌≤◌, [], All, ◌^◌, IsTrue, IfOk, OnOk, drop, length, map};
-ghost use Rattle.vx_words.specs.Words.{HasName, IsArgument};
+ghost use Rattle.vx_words.specs.Words.{IsArgument};
 
 use std::alloc::{AllocError, Global};
 use vx_io::Words;
@@ -28,15 +28,6 @@ pub fn are_arguments(words: &Words, from: u32) -> bool
         }
     }
     true
-}
-
-/// Whether the words begin with a command's name, and there are so many words.
-pub fn has_name(words: &Words, name: &str, least: u32, most: u32) -> bool
-    requires { 0 < least }
-    ensures { IsTrue result ↔ HasName words.now name.now least most }
-{
-    let count = words.count();
-    least <= count && count <= most && words.word(0) == name && are_arguments(words, 1)
 }
 
 /// The words in a row, lent.

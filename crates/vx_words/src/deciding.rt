@@ -1,19 +1,21 @@
 //! Whether words spell a command, decided without memory.
 
-ghost use Rattle.std.specs.Prelude.{◌≡◌, codes};
+ghost use Rattle.std.specs.Prelude.{MatchOption};
+ghost use Rattle.vx_words.specs.declared.name.Name.{Name as NameOf};
 ghost use Rattle.vx_words.specs.Words.{Decides, HasName};
 
-use crate::arguments::has_name;
+use crate::arguments::are_arguments;
 use crate::items::are_items;
 use crate::kinds::kind_and_test;
 use crate::moment::{is_device, is_moment};
+use crate::name::{Name, Row, name_in, row_in_table};
 use crate::seed::read_seed;
 use vx_base::read_number;
 use vx_events::is_batch;
 use vx_io::Words;
 
 fn is_print(words: &Words) -> bool
-    requires { HasName words.now (codes "print") 4 4 }
+    requires { HasName words.now Name.Print }
     ensures { Decides words.now result }
 {
     let Some(_card) = read_number(words.word(2), 1023) else {
@@ -26,7 +28,7 @@ fn is_print(words: &Words) -> bool
 }
 
 fn is_count(words: &Words) -> bool
-    requires { HasName words.now (codes "count") 5 68 }
+    requires { HasName words.now Name.Count }
     ensures { Decides words.now result }
 {
     if !is_batch(words.word(2).as_bytes()) {
@@ -42,7 +44,7 @@ fn is_count(words: &Words) -> bool
 }
 
 fn is_export(words: &Words) -> bool
-    requires { HasName words.now (codes "export") 4 4 }
+    requires { HasName words.now Name.Export }
     ensures { Decides words.now result }
 {
     if !is_moment(words.word(2)) {
@@ -55,7 +57,7 @@ fn is_export(words: &Words) -> bool
 }
 
 fn is_demo(words: &Words) -> bool
-    requires { HasName words.now (codes "demo") 3 3 }
+    requires { HasName words.now Name.Demo }
     ensures { Decides words.now result }
 {
     let Some(_seed) = read_seed(words.word(1)) else {
@@ -71,7 +73,7 @@ fn is_demo(words: &Words) -> bool
 }
 
 fn is_center(words: &Words) -> bool
-    requires { HasName words.now (codes "center") 5 20 }
+    requires { HasName words.now Name.Center }
     ensures { Decides words.now result }
 {
     if !is_moment(words.word(2)) {
@@ -83,36 +85,42 @@ fn is_center(words: &Words) -> bool
     are_items(words, 4)
 }
 
+/// The command whose name the words begin with, if they are as many as it has.
+fn called(words: &Words) -> Option<Name>
+    ensures { MatchOption result
+        ((name : NameOf) → HasName words.now name → ⊥) (λ name. HasName words.now name) }
+{
+    if words.count() == 0 {
+        return None;
+    }
+    let name = name_in(words.word(0))?;
+    let Row { least, most, .. } = row_in_table(name);
+    if words.count() < least || words.count() > most {
+        return None;
+    }
+    if are_arguments(words, 1) {
+        Some(name)
+    } else {
+        None
+    }
+}
+
 /// Whether the words spell a command. It takes no memory.
 pub fn is_command(words: &Words) -> bool
     ensures { Decides words.now result }
 {
-    if has_name(words, "print", 4, 4) {
-        return is_print(words);
+    let Some(name) = called(words) else {
+        return false;
+    };
+    match name {
+        Name::Print => is_print(words),
+        Name::Read => true,
+        Name::Check => true,
+        Name::Count => is_count(words),
+        Name::Decide => true,
+        Name::Queue => true,
+        Name::Export => is_export(words),
+        Name::Demo => is_demo(words),
+        Name::Center => is_center(words),
     }
-    if has_name(words, "count", 5, 68) {
-        return is_count(words);
-    }
-    if has_name(words, "export", 4, 4) {
-        return is_export(words);
-    }
-    if has_name(words, "read", 3, 66) {
-        return true;
-    }
-    if has_name(words, "check", 4, 4) {
-        return true;
-    }
-    if has_name(words, "decide", 3, 3) {
-        return true;
-    }
-    if has_name(words, "queue", 2, 2) {
-        return true;
-    }
-    if has_name(words, "demo", 3, 3) {
-        return is_demo(words);
-    }
-    if has_name(words, "center", 5, 20) {
-        return is_center(words);
-    }
-    false
 }

@@ -1,10 +1,11 @@
 //! The words of a command line: which command they spell, by position and spelling.
 //!
-//! Which words are which command stands in `specs/Words.antt`, one line a command; moments in
-//! `specs/Moments.antt`, devices in `specs/Devices.antt`, items in `specs/Items.antt`. `parse` answers
-//! Usage exactly where the words are no command. The words are split by `clap`: its command line stands
-//! in `line.rt` and `specs/Line.antt`, and each command is made of the words behind its name in
-//! `making.rt`.
+//! The commands' names are a table, in `name.rt` and `specs/Names.antt`. Which words stand behind a name is
+//! in `specs/Words.antt`, one line a command; moments in `specs/Moments.antt`, devices in
+//! `specs/Devices.antt`, items in `specs/Items.antt`. `parse` answers Usage exactly where the words are no
+//! command. The words are split by `clap`, whose command line is made of the table in `line.rt` and
+//! `specs/Line.antt`; each command is made of the words behind its name in `making.rt`, and decided without
+//! memory in `deciding.rt`.
 #![tactic(auto)]
 
 mod arguments;
@@ -17,6 +18,7 @@ mod laws;
 mod line;
 mod making;
 mod moment;
+mod name;
 mod parsing;
 mod reading;
 mod seed;

@@ -3,8 +3,9 @@
 ghost use Rattle.std.specs.Prelude.{◌≡◌, IfOk, false};
 ghost use Rattle.clap.specs.Words.{app_of, shape_of, with_subcommand};
 ghost use Rattle.clap.specs.declared.builder.command.Command.TheViews.{out-Command as fields_of};
-ghost use Rattle.vx_words.specs.Line.{form, line};
+ghost use Rattle.vx_words.specs.Line.{form, line, with_names};
 
+use crate::name::{NAMES, Name, row_in_table};
 use clap::{Arg, Command};
 use std::alloc::{AllocError, Global};
 
@@ -24,6 +25,20 @@ fn with_form<'a>(alloc: Global, line: Command<'a>, name: &'a str) -> Result<Comm
     line.subcommand(form(alloc, name)?)
 }
 
+/// The command line with more commands, in order.
+fn with_forms<'a>(
+    alloc: Global,
+    mut line: Command<'a>,
+    names: &[Name],
+) -> Result<Command<'a>, AllocError>
+    ensures { IfOk result (λ made. app_of made ≡ with_names (app_of line.entry) names.now) }
+{
+    for name in names {
+        line = with_form(alloc, line, row_in_table(*name).name)?;
+    }
+    Ok(line)
+}
+
 /// All commands, without flags and without `help`.
 pub fn command_line<'a>(alloc: Global) -> Result<Command<'a>, AllocError>
     ensures { IfOk result (λ made. app_of made ≡ line) }
@@ -33,13 +48,5 @@ pub fn command_line<'a>(alloc: Global) -> Result<Command<'a>, AllocError>
         .disable_help_flag(true)
         .disable_help_subcommand(true)
         .subcommand_required(true);
-    let line = with_form(alloc, line, "print")?;
-    let line = with_form(alloc, line, "read")?;
-    let line = with_form(alloc, line, "check")?;
-    let line = with_form(alloc, line, "count")?;
-    let line = with_form(alloc, line, "decide")?;
-    let line = with_form(alloc, line, "queue")?;
-    let line = with_form(alloc, line, "export")?;
-    let line = with_form(alloc, line, "demo")?;
-    with_form(alloc, line, "center")
+    with_forms(alloc, line, &NAMES)
 }

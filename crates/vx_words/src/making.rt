@@ -1,6 +1,7 @@
 //! The commands, made of the words behind their names.
 
-ghost use Rattle.std.specs.Prelude.{◌≡◌, ◌∷◌, All, codes, map};
+ghost use Rattle.std.specs.Prelude.{◌≡◌, ◌∷◌, All, map};
+ghost use Rattle.vx_words.specs.Names.{name_word};
 ghost use Rattle.vx_words.specs.Words.{IsArgument, Reads};
 
 use crate::arguments::texts_from;
@@ -9,6 +10,7 @@ use crate::fault::UsageFault;
 use crate::items::items_from;
 use crate::kinds::kind_and_test;
 use crate::moment::{device_of, is_moment};
+use crate::name::{Name, name_in};
 use crate::seed::read_seed;
 use std::alloc::Global;
 use vx_base::read_number;
@@ -18,7 +20,7 @@ use vx_json::Text;
 /// `print ELECTION CARD KIND`.
 fn print_of(alloc: Global, arguments: &[&str]) -> Result<Command, UsageFault>
     requires { All IsArgument (map (λ word. word.now) arguments.now) }
-    ensures { Reads (codes "print" ∷ map (λ word. word.now) arguments.now) result }
+    ensures { Reads (name_word Name.Print ∷ map (λ word. word.now) arguments.now) result }
 {
     let [election, card, kind] = arguments else {
         return Err(UsageFault::Usage);
@@ -41,7 +43,7 @@ fn print_of(alloc: Global, arguments: &[&str]) -> Result<Command, UsageFault>
 /// `read ELECTION SCANS`.
 fn read_of(alloc: Global, arguments: &[&str]) -> Result<Command, UsageFault>
     requires { All IsArgument (map (λ word. word.now) arguments.now) }
-    ensures { Reads (codes "read" ∷ map (λ word. word.now) arguments.now) result }
+    ensures { Reads (name_word Name.Read ∷ map (λ word. word.now) arguments.now) result }
 {
     if arguments.len() < 2 || arguments.len() > 65 {
         return Err(UsageFault::Usage);
@@ -54,7 +56,7 @@ fn read_of(alloc: Global, arguments: &[&str]) -> Result<Command, UsageFault>
 /// `check ELECTION SCANS READINGS`.
 fn check_of(alloc: Global, arguments: &[&str]) -> Result<Command, UsageFault>
     requires { All IsArgument (map (λ word. word.now) arguments.now) }
-    ensures { Reads (codes "check" ∷ map (λ word. word.now) arguments.now) result }
+    ensures { Reads (name_word Name.Check ∷ map (λ word. word.now) arguments.now) result }
 {
     let [election, scans, readings] = arguments else {
         return Err(UsageFault::Usage);
@@ -72,7 +74,7 @@ fn check_of(alloc: Global, arguments: &[&str]) -> Result<Command, UsageFault>
 /// `count ELECTION BATCH WORKERS SCANS`.
 fn count_of(alloc: Global, arguments: &[&str]) -> Result<Command, UsageFault>
     requires { All IsArgument (map (λ word. word.now) arguments.now) }
-    ensures { Reads (codes "count" ∷ map (λ word. word.now) arguments.now) result }
+    ensures { Reads (name_word Name.Count ∷ map (λ word. word.now) arguments.now) result }
 {
     if arguments.len() < 4 || arguments.len() > 67 {
         return Err(UsageFault::Usage);
@@ -100,7 +102,7 @@ fn count_of(alloc: Global, arguments: &[&str]) -> Result<Command, UsageFault>
 /// `decide ELECTION SCRIPT`.
 fn decide_of(alloc: Global, arguments: &[&str]) -> Result<Command, UsageFault>
     requires { All IsArgument (map (λ word. word.now) arguments.now) }
-    ensures { Reads (codes "decide" ∷ map (λ word. word.now) arguments.now) result }
+    ensures { Reads (name_word Name.Decide ∷ map (λ word. word.now) arguments.now) result }
 {
     let [election, script] = arguments else {
         return Err(UsageFault::Usage);
@@ -113,7 +115,7 @@ fn decide_of(alloc: Global, arguments: &[&str]) -> Result<Command, UsageFault>
 /// `queue ELECTION`.
 fn queue_of(alloc: Global, arguments: &[&str]) -> Result<Command, UsageFault>
     requires { All IsArgument (map (λ word. word.now) arguments.now) }
-    ensures { Reads (codes "queue" ∷ map (λ word. word.now) arguments.now) result }
+    ensures { Reads (name_word Name.Queue ∷ map (λ word. word.now) arguments.now) result }
 {
     let [election] = arguments else {
         return Err(UsageFault::Usage);
@@ -125,7 +127,7 @@ fn queue_of(alloc: Global, arguments: &[&str]) -> Result<Command, UsageFault>
 /// `export ELECTION MOMENT DEVICE`.
 fn export_of(alloc: Global, arguments: &[&str]) -> Result<Command, UsageFault>
     requires { All IsArgument (map (λ word. word.now) arguments.now) }
-    ensures { Reads (codes "export" ∷ map (λ word. word.now) arguments.now) result }
+    ensures { Reads (name_word Name.Export ∷ map (λ word. word.now) arguments.now) result }
 {
     if arguments.len() != 3 {
         return Err(UsageFault::Usage);
@@ -148,7 +150,7 @@ fn export_of(alloc: Global, arguments: &[&str]) -> Result<Command, UsageFault>
 /// `demo SEED SHEETS`.
 fn demo_of(arguments: &[&str]) -> Result<Command, UsageFault>
     requires { All IsArgument (map (λ word. word.now) arguments.now) }
-    ensures { Reads (codes "demo" ∷ map (λ word. word.now) arguments.now) result }
+    ensures { Reads (name_word Name.Demo ∷ map (λ word. word.now) arguments.now) result }
 {
     let [seed, sheets] = arguments else {
         return Err(UsageFault::Usage);
@@ -168,7 +170,7 @@ fn demo_of(arguments: &[&str]) -> Result<Command, UsageFault>
 /// `center ELECTION MOMENT DEVICE ITEMS`.
 fn center_of(alloc: Global, arguments: &[&str]) -> Result<Command, UsageFault>
     requires { All IsArgument (map (λ word. word.now) arguments.now) }
-    ensures { Reads (codes "center" ∷ map (λ word. word.now) arguments.now) result }
+    ensures { Reads (name_word Name.Center ∷ map (λ word. word.now) arguments.now) result }
 {
     if arguments.len() < 4 || arguments.len() > 19 {
         return Err(UsageFault::Usage);
@@ -190,37 +192,31 @@ fn center_of(alloc: Global, arguments: &[&str]) -> Result<Command, UsageFault>
     })
 }
 
+/// The command of a row of the table, of the words behind its name.
+fn command_named(alloc: Global, name: Name, arguments: &[&str]) -> Result<Command, UsageFault>
+    requires { All IsArgument (map (λ word. word.now) arguments.now) }
+    ensures { Reads (name_word name ∷ map (λ word. word.now) arguments.now) result }
+{
+    match name {
+        Name::Print => print_of(alloc, arguments),
+        Name::Read => read_of(alloc, arguments),
+        Name::Check => check_of(alloc, arguments),
+        Name::Count => count_of(alloc, arguments),
+        Name::Decide => decide_of(alloc, arguments),
+        Name::Queue => queue_of(alloc, arguments),
+        Name::Export => export_of(alloc, arguments),
+        Name::Demo => demo_of(arguments),
+        Name::Center => center_of(alloc, arguments),
+    }
+}
+
 /// The command with a name, of the words behind it.
 pub fn command_of(alloc: Global, name: &str, arguments: &[&str]) -> Result<Command, UsageFault>
     requires { All IsArgument (map (λ word. word.now) arguments.now) }
     ensures { Reads (name.now ∷ map (λ word. word.now) arguments.now) result }
 {
-    if name == "print" {
-        return print_of(alloc, arguments);
+    match name_in(name) {
+        Some(known) => command_named(alloc, known, arguments),
+        None => Err(UsageFault::Usage),
     }
-    if name == "read" {
-        return read_of(alloc, arguments);
-    }
-    if name == "check" {
-        return check_of(alloc, arguments);
-    }
-    if name == "count" {
-        return count_of(alloc, arguments);
-    }
-    if name == "decide" {
-        return decide_of(alloc, arguments);
-    }
-    if name == "queue" {
-        return queue_of(alloc, arguments);
-    }
-    if name == "export" {
-        return export_of(alloc, arguments);
-    }
-    if name == "demo" {
-        return demo_of(arguments);
-    }
-    if name == "center" {
-        return center_of(alloc, arguments);
-    }
-    Err(UsageFault::Usage)
 }
