@@ -7,7 +7,6 @@ pub mod ScanActs
 pub mod InputActs
 pub mod Sets
 pub mod Journals
-pub mod Fitting
 pub mod Held
 pub mod Recorded
 pub mod Standing
