@@ -1,5 +1,5 @@
 pub mod Waits
-pub mod Numbered
+pub mod Told
 pub mod SheetActs
 pub mod ImageActs
 pub mod PieceActs

@@ -1,13 +1,21 @@
-use Rattle.std.proofs.Common.{◌++◌, ◌∷◌, [], ℕ, Ok, Err, ap, subst, ◌∙◌}
+use Rattle.std.proofs.Common.{◌++◌, ◌∷◌, [], ℕ, Ok, Err, sym, ap, subst, ◌∙◌}
 use Rattle.std.proofs.lemmas.Result.{err_from_is_err_and}
 use Rattle.vx_sheet.specs.declared.came.Came.{Came}
 use Rattle.vx_sheet.specs.Lines.{lines_of}
+use Rattle.vx_sheet.specs.Shows.{IsReadAll}
 use Rattle.vx_command.specs.Acts.{Write, work, writing}
 use Rattle.vx_command.specs.Devices.{is_write_fault}
 use Rattle.vx_command.specs.Done.{IsDone, IsWritten}
 use Rattle.vx_command_count.specs.Sheets.{came_if, keep_if}
 use Rattle.vx_command_count.proofs.SheetActs.{kept-then, late-of, none-kept, still-counts}
+use Rattle.vx_command_count.proofs.Told.{told-if}
 use Rattle.vx_command_count.proofs.sheets.count_sheet.Goals as goal
+
+pub tell-requires : goal.tell-requires
+tell-requires g c =
+    let election = c.args.setting.now.election.now in
+    let Told : Came → Type 0 = λ came. IsReadAll election came in
+    subst Told (sym c.in_ok-came.ensures.came) (told-if election c.args.counting.now.journal c.args.made c.requires.fits c.requires.told)
 
 pub returns-in_err-came-clause-done : goal.returns-in_err-came-clause-done
 returns-in_err-came-clause-done g c =
