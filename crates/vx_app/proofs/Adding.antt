@@ -5,11 +5,7 @@ use Rattle.std.proofs.lemmas.Bool.{cond-false}
 use Rattle.std.proofs.lemmas.List.Elements.{All-nil, All-cons, All-append}
 use Rattle.std.proofs.lemmas.Option.{none-some, same_Some, slice_get_within, get_or_from_slice_get}
 use Rattle.vx_base.proofs.Numbers.{below-no}
-use Rattle.vx_base.proofs.Results.{bind_ok}
 use Rattle.vx_plane.specs.Plane.{Page}
-use Rattle.vx_election.specs.declared.fault.ElectionFault.{ElectionFault}
-use Rattle.vx_election.specs.Laws.{DefinedElectionsAreValid}
-use Rattle.vx_election.specs.Reading.{election_of}
 use Rattle.vx_election_model.specs.declared.election.Election.{Election}
 use Rattle.vx_election_model.specs.Valid.{IsValid}
 use Rattle.vx_events.specs.declared.event.Event.{Event}
@@ -19,17 +15,19 @@ use Rattle.vx_words.specs.declared.command.ItemWord.{ItemWord}
 use Rattle.vx_pbm.specs.Images.{ImagesAreWhole, IsWholePage, images_of}
 use Rattle.vx_rules.specs.declared.marks.SheetMarks.{SheetMarks}
 use Rattle.vx_sheet.specs.declared.came.Came.{Came}
-use Rattle.vx_command.specs.Acts.{input_limit, input_of}
-use Rattle.vx_command.specs.Elections.{election_in, election_read}
-use Rattle.vx_command_count.specs.Margin.{FittingSheetsAreRead, FitsSheet, MarkedSheet, key_at, sheet_marked}
+use Rattle.vx_sheet.specs.declared.came.Came.TheVariants.{Beyond}
+use Rattle.vx_sheet.specs.Events.{number_limit}
+use Rattle.vx_sheet.specs.Margin.{FittingSheetsAreRead, FitsSheet, MarkedSheet, sheet_marked}
+use Rattle.vx_command.specs.Laws.{TakenElectionsAreValid}
+use Rattle.vx_command_count.specs.Margin.{key_at}
 use Rattle.vx_command_center.specs.declared.item.Item.{Item}
 use Rattle.vx_command_center.specs.declared.item.Item.TheVariants.{Script, Scan}
 use Rattle.vx_command_center.specs.Items.{events_of}
-use Rattle.vx_command_center.specs.Sheets.{event_if, events_from, number_limit, read_of, sheets_from}
+use Rattle.vx_command_center.specs.Sheets.{event_if, events_from, events_made, read_of, sheets_from}
 use Rattle.vx_app.specs.Adding.{AddsEarlier, AddsLater, AddsSheet, AddsWhatFits, CenterAddsWhatFits}
 
 module _ (batch : List ℕ) where
-  later-if : (place n : ℕ) (sheet : SheetMarks) (beyond : Bool) → place < n → All (AddsLater batch place) (cond beyond [] (Add (record { batch = batch; number = n + 1 }) sheet ∷ []))
+  later-if : (place n : ℕ) (sheet : SheetMarks) (beyond : Bool) → place < n → All (AddsLater batch place) (events_made (cond beyond (Err Beyond) (Ok (Add (record { batch = batch; number = n + 1 }) sheet))))
   later-if place n sheet true more = All-nil (AddsLater batch place)
   later-if place n sheet false more =
       All-cons (AddsLater batch place) (Add (record { batch = batch; number = n + 1 }) sheet) [] (record { later = n; more = more; sheet = sheet; is = refl }) (All-nil (AddsLater batch place))
@@ -42,7 +40,7 @@ module _ (batch : List ℕ) where
       All-append (AddsLater batch place) (event_if batch (n + 1) (Ok sheet)) (events_from batch (n + 1 + 1) reads)
       (later-if place n sheet (nat_lt number_limit (n + 1)) more) (all-later place (n + 1) (omega (arith, more)) reads)
 
-  earlier-if : (place n : ℕ) (sheet : SheetMarks) (beyond : Bool) → n < place → All (AddsEarlier batch place) (cond beyond [] (Add (record { batch = batch; number = n + 1 }) sheet ∷ []))
+  earlier-if : (place n : ℕ) (sheet : SheetMarks) (beyond : Bool) → n < place → All (AddsEarlier batch place) (events_made (cond beyond (Err Beyond) (Ok (Add (record { batch = batch; number = n + 1 }) sheet))))
   earlier-if place n sheet true less = All-nil (AddsEarlier batch place)
   earlier-if place n sheet false less =
       All-cons (AddsEarlier batch place) (Add (record { batch = batch; number = n + 1 }) sheet) [] (record { earlier = n; less = less; sheet = sheet; is = refl }) (All-nil (AddsEarlier batch place))
@@ -57,10 +55,10 @@ module _ (batch : List ℕ) where
 
     -- the sheet of the first two images
     stands-first : (place : ℕ) (sheet : SheetMarks) (first second : Page) (pages : List Page)
-        → read_of election (place + 1) first second ≡ Ok sheet → place + 1 ≤ 999999 → Stands place sheet place (first ∷ second ∷ pages)
+        → read_of election (place + 1) first second ≡ Ok sheet → place + 1 ≤ number_limit → Stands place sheet place (first ∷ second ∷ pages)
     stands-first place sheet first second pages is most =
         let behind : List Event = events_from batch (place + 1 + 1) (sheets_from election (place + 1 + 1) pages) in
-        let event : List Event = Add (key_at batch place) sheet ∷ [] in
+        let event : Event = Add (key_at batch place) sheet in
         record {
           before = [];
           behind = behind;
@@ -68,7 +66,8 @@ module _ (batch : List ℕ) where
           later = all-later place (place + 1) (omega arith) (sheets_from election (place + 1 + 1) pages);
           are =
               ap (λ (events : List Event). events ++ behind)
-              (ap (event_if batch (place + 1)) is ∙ cond-false (nat_lt number_limit (place + 1)) [] event (below-no number_limit (place + 1) most));
+              (ap (event_if batch (place + 1)) is
+              ∙ ap events_made (cond-false (nat_lt number_limit (place + 1)) (Err Beyond) (Ok event) (below-no number_limit (place + 1) most)));
         }
 
     -- behind two images more
@@ -87,7 +86,7 @@ module _ (batch : List ℕ) where
     -- the sheet of two images in their places
     stands-at : (place n k l : ℕ) (sheet : SheetMarks) (first second : Page) (pages : List Page)
         → n ≤ place → k + 2 * n ≡ 2 * place → l ≡ k + 1 → slice_get pages k ≡ Some first → slice_get pages l ≡ Some second
-        → read_of election (place + 1) first second ≡ Ok sheet → place + 1 ≤ 999999 → Stands place sheet n pages
+        → read_of election (place + 1) first second ≡ Ok sheet → place + 1 ≤ number_limit → Stands place sheet n pages
     stands-at place n k l sheet first second [] within here next at behind is most = absurd (none-some first at)
     stands-at place n k zero sheet first second (one ∷ pages) within here next at behind is most = absurd (omega (arith, next))
     stands-at place n k (suc l) sheet first second (one ∷ []) within here next at behind is most = absurd (none-some second behind)
@@ -111,7 +110,7 @@ module _ (whole : ImagesAreWhole) (fitting : FittingSheetsAreRead) (election : E
   -- each sheet of a scan that fits is added
   scan-adds : (batch bytes : List ℕ) (sheets place : ℕ) (first second : Page) (sheet : MarkedSheet)
       → slice_get (images_of bytes).pages (2 * place) ≡ Some first → slice_get (images_of bytes).pages (2 * place + 1) ≡ Some second
-      → FitsSheet election first second sheet → place + 1 ≤ 999999
+      → FitsSheet election first second sheet → place + 1 ≤ number_limit
       → AddsSheet batch place (sheet_marked sheet) (events_of election (Scan batch bytes sheets))
   scan-adds batch bytes sheets place first second sheet one other fits most =
       let images : List Page = (images_of bytes).pages in
@@ -127,18 +126,7 @@ module _ (whole : ImagesAreWhole) (fitting : FittingSheetsAreRead) (election : E
   all-add [] = All-nil (AddsWhatFits election)
   all-add (item ∷ items) = All-cons (AddsWhatFits election) item items (adds item) (all-add items)
 
--- the election that is read is one that bytes define
-defined-read : (defined : Result Election ElectionFault) (election : Election) → election_read defined ≡ Ok election → defined ≡ Ok election
-defined-read (Ok given) election is = let same : given ≡ election = cc in ap Ok same
-defined-read (Err fault) election is = absurd cc
-
-valid-read : DefinedElectionsAreValid → (file : Option (List ℕ)) (election : Election) → election_in file ≡ Ok election → IsValid election
-valid-read valid file election is =
-    let step : (bytes : List ℕ) × (input_of 1 input_limit file ≡ Ok bytes) × (election_read (election_of bytes) ≡ Ok election) =
-    bind_ok (input_of 1 input_limit file) (λ (bytes : List ℕ). election_read (election_of bytes)) election is in
-    valid step.0 election (defined-read (election_of step.0) election step.2)
-
 -- each item of a `center` adds what fits
-pub adds-what-fits : DefinedElectionsAreValid → ImagesAreWhole → FittingSheetsAreRead → (name : List ℕ) (words : List ItemWord) (files : Files) → CenterAddsWhatFits name words files
-adds-what-fits defined whole fitting name words files election items is taken =
-    all-add whole fitting election (valid-read defined (files name) election is) items
+pub adds-what-fits : TakenElectionsAreValid → ImagesAreWhole → FittingSheetsAreRead → (name : List ℕ) (words : List ItemWord) (files : Files) → CenterAddsWhatFits name words files
+adds-what-fits taken_valid whole fitting name words files election items is taken =
+    all-add whole fitting election (taken_valid (files name) election is) items

@@ -1,8 +1,8 @@
 -- A journal stays one over each run for its election.
 use Rattle.std.proofs.Common.{◌≡◌, ℕ, true, false, List, [], ◌∷◌, ◌++◌, Some, Result, Ok, Err, refl, sym, ap, ◌∙◌, subst, append-nil}
-use Rattle.std.specs.Prelude.{IsOk}
 use Rattle.std.specs.List.{flat_map}
 use Rattle.std.proofs.lemmas.Bool.{false≢true}
+use Rattle.vx_base.proofs.Results.{is-ok_from, ok-is}
 use Rattle.vx_io.specs.Outside.{Files}
 use Rattle.vx_election_model.specs.declared.election.Election.{Election}
 use Rattle.vx_events.specs.declared.event.Event.{Event}
@@ -24,13 +24,6 @@ use Rattle.vx_app.specs.Journals.{AreRuns, HoldsMore, IsDoneOf, IsRun, Run, Runs
 use Rattle.vx_app.specs.Runs.{is_run}
 use Rattle.vx_app.proofs.Growing.{longer}
 
-was_read : {A E : Type 0} (r : Result A E) → IsOk r → (x : A) × (r ≡ Ok x)
-was_read (Ok x) h = (x, refl)
-was_read (Err e) h = absurd cc
-
-is_ok : {A E : Type 0} (r : Result A E) (x : A) → r ≡ Ok x → IsOk r
-is_ok {A} {E} r x is = let Good : Result A E → Type 0 = λ some. IsOk some in subst Good (sym is) refl
-
 module _ (election : Election) (records : List (List ℕ)) (events : List Event) (is : replay_of election records ≡ Ok events) where
   -- nothing was appended
   unchanged : (held_now : Held) → held_now ≡ Some records → HoldsMore election events held_now
@@ -46,7 +39,7 @@ module _ (election : Election) (records : List (List ℕ)) (events : List Event)
   appended stays outcome taken taken_now held_now answer each done =
       let more = flat_map records_of done.done ++ done.records in
       let Holds : Held → Type 0 = λ held. HoldsJournal election held in
-      let now = was_read (replay_of election (records ++ more)) (subst Holds done.kept (stays election records outcome taken taken_now held_now answer each done)) in
+      let now = ok-is (replay_of election (records ++ more)) (subst Holds done.kept (stays election records outcome taken taken_now held_now answer each done)) in
       let further = longer election records more events now.0 is now.1 in
       record {
         records = records ++ more;
@@ -74,26 +67,26 @@ module _ (count : CountKeepsJournals) (decide : DecideKeepsJournals) (center : C
   kept-over (Check name scans readings) device files election records events taken taken_now held_now answer sound for_it is held done = unchanged election records events is held_now (held refl)
   kept-over (Count name batch workers scans) device files election records events taken taken_now held_now answer sound for_it is held done =
       appended election records events is stays (count_outcome name batch scans files records) taken taken_now held_now answer
-      (count name batch scans files records election sound.batch_in_range for_it (is_ok (replay_of election records) events is)) done
+      (count name batch scans files records election sound.batch_in_range for_it (is-ok_from (replay_of election records) events is)) done
   kept-over (Decide name script) device files election records events taken taken_now held_now answer sound for_it is held done =
       appended election records events is stays (decide_outcome name script files records) taken taken_now held_now answer
-      (decide name script files records election for_it (is_ok (replay_of election records) events is)) done
+      (decide name script files records election for_it (is-ok_from (replay_of election records) events is)) done
   kept-over (Queue name) device files election records events taken taken_now held_now answer sound for_it is held done = unchanged election records events is held_now (held refl)
   kept-over (Export name moment named) device files election records events taken taken_now held_now answer sound for_it is held done = unchanged election records events is held_now (held refl)
   kept-over (Demo seed sheets) device files election records events taken taken_now held_now answer sound for_it is held done = unchanged election records events is held_now (held refl)
   kept-over (Center name moment named items) device files election records events taken taken_now held_now answer sound for_it is held done =
       appended election records events is stays (center_outcome name moment named items files records done.history) taken taken_now held_now answer
-      (center name moment named items files records done.history election sound.are_items for_it (is_ok (replay_of election records) events is)
+      (center name moment named items files records done.history election sound.are_items for_it (is-ok_from (replay_of election records) events is)
       (λ kept taken_items replays are_taken. done.of_items election kept taken_items for_it replays are_taken)) done.done
 
   -- over one run, and over all
   over-run : (election : Election) (records : List (List ℕ)) (one : Run) → IsJournal election records → IsRun election records one → IsJournal election one.left
   over-run election records one journal it =
-      let before = was_read (replay_of election records) journal in
+      let before = ok-is (replay_of election records) journal in
       let after = kept-over one.command it.spelled.device one.files election records before.0 one.taken one.taken_now (Some one.left) one.answer it.spelled.sound it.for_it before.1 it.held it.done in
       let same : after.records ≡ one.left = let held = after.are_held in cc in
       let Is : List (List ℕ) → Type 0 = λ some. IsJournal election some in
-      subst Is same (is_ok (replay_of election after.records) (before.0 ++ after.more) after.keeps)
+      subst Is same (is-ok_from (replay_of election after.records) (before.0 ++ after.more) after.keeps)
 
   over-runs : (election : Election) (records : List (List ℕ)) (runs : List Run) (left : List (List ℕ)) → IsJournal election records → AreRuns election records runs left → IsJournal election left
   over-runs election records [] left journal are = let Is : List (List ℕ) → Type 0 = λ some. IsJournal election some in subst Is (sym are) journal

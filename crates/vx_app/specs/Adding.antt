@@ -10,7 +10,9 @@ use Rattle.vx_pbm.specs.Images.{images_of}
 use Rattle.vx_rules.specs.declared.marks.SheetMarks.{SheetMarks}
 use Rattle.vx_words.specs.declared.command.ItemWord.{ItemWord}
 use Rattle.vx_command.specs.Elections.{election_in}
-use Rattle.vx_command_count.specs.Margin.{FitsSheet, MarkedSheet, key_at, sheet_marked}
+use Rattle.vx_sheet.specs.Events.{number_limit}
+use Rattle.vx_sheet.specs.Margin.{FitsSheet, MarkedSheet, sheet_marked}
+use Rattle.vx_command_count.specs.Margin.{key_at}
 use Rattle.vx_command_center.specs.declared.item.Item.{Item}
 use Rattle.vx_command_center.specs.declared.item.Item.TheVariants.{Script, Scan}
 use Rattle.vx_command_center.specs.Items.{events_of}
@@ -43,7 +45,7 @@ AddsWhatFits election (Script events) = Unit {0}
 AddsWhatFits election (Scan batch bytes sheets) =
     (place : ℕ) (first second : Page) (sheet : MarkedSheet)
     → slice_get (images_of bytes).pages (2 * place) ≡ Some first → slice_get (images_of bytes).pages (2 * place + 1) ≡ Some second
-    → FitsSheet election first second sheet → place + 1 ≤ 999999
+    → FitsSheet election first second sheet → place + 1 ≤ number_limit
     → AddsSheet batch place (sheet_marked sheet) (events_of election (Scan batch bytes sheets))
 
 -- so of the items of a `center`, where its election can be read and they can be taken

@@ -4,12 +4,13 @@
 ghost use Rattle.vx_app.specs.Adding.{FittingSheetsAreInTheirItems};
 ghost use Rattle.vx_app.specs.Journals.{RunsLeaveJournals};
 
+use vx_command::taken_elections_are_valid;
 use vx_command_center::center_keeps_journals;
-use vx_command_count::{count_keeps_journals, fitting_sheets_are_added};
+use vx_command_count::count_keeps_journals;
 use vx_command_decide::decide_keeps_journals;
-use vx_election::defined_elections_are_valid;
 use vx_journal::journals_stay;
 use vx_pbm::images_are_whole;
+use vx_sheet::fitting_sheets_are_read;
 
 /// Any list of runs for one election that began without a record leaves a journal of that election,
 /// whatever each of them answered: no later command refuses it.
@@ -28,7 +29,7 @@ pub fn runs_leave_journals()
 pub fn fitting_sheets_are_in_their_items()
     ensures { FittingSheetsAreInTheirItems }
 {
-    defined_elections_are_valid();
+    taken_elections_are_valid();
     images_are_whole();
-    fitting_sheets_are_added();
+    fitting_sheets_are_read();
 }

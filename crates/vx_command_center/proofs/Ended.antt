@@ -2,9 +2,6 @@
 use Rattle.std.proofs.Common.{◌≡◌, ◌⊎◌, inl, inr, ℕ, ◌+◌, ◌<◌, ◌≤◌, true, false, List, [], ◌∷◌, length, drop, get_or, Ok, Err, refl, sym, ap, subst, ◌∙◌}
 use Rattle.std.proofs.lemmas.List.{drop_more, drop_all, map-append}
 use Rattle.vx_events.specs.declared.event.Event.{Event}
-use Rattle.vx_refusals.specs.declared.reply.Reply.{Reply}
-use Rattle.vx_refusals.specs.declared.reply.Reply.TheVariants.{Done, Repeated, NoSheet, HeldBy, NotHeld, NotOnSheet, NotAnOption, OverSeats, StillMarginal, NoWriteIn, Full}
-use Rattle.vx_center.specs.Replies.{is_done}
 use Rattle.vx_records.specs.Records.{record_of}
 use Rattle.vx_shared.specs.declared.history.Entry.{Entry}
 use Rattle.vx_shared.specs.Legal.{done_events, done_of}
@@ -16,20 +13,6 @@ use Rattle.vx_command.specs.Done.{Taken, Held, BreaksAt, BreaksOff, IsWhole, IsD
 use Rattle.vx_command.specs.Laws.{ActLaws}
 use Rattle.vx_journal.specs.Steps.{IsRecorded}
 use Rattle.vx_command_center.specs.Outcome.{append_acts, event_line, history_acts}
-
--- a reply that isn't Done is a refusal
-pub is_refusal : (reply : Reply) → (reply ≡ Done → ⊥) → is_done reply ≡ false
-is_refusal Done never = absurd (never refl)
-is_refusal (Repeated place) never = refl
-is_refusal NoSheet never = refl
-is_refusal (HeldBy station) never = refl
-is_refusal NotHeld never = refl
-is_refusal (NotOnSheet contest) never = refl
-is_refusal (NotAnOption option) never = refl
-is_refusal (OverSeats given seats) never = refl
-is_refusal (StillMarginal option) never = refl
-is_refusal (NoWriteIn slot) never = refl
-is_refusal (Full count) never = refl
 
 -- acts that are done up to some place, where they begin with others
 module _ (laws : ActLaws) (acts : List Act) (rest : Outcome) (a b c : Taken) (h k m : Held) where

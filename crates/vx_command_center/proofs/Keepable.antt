@@ -1,8 +1,6 @@
 -- The events of items fit the election, and have records.
 use Rattle.std.proofs.Common.{◌≡◌, ℕ, zero, suc, ◌+◌, ◌/◌, ◌<◌, ◌≤◌, Bool, true, false, cond, List, [], ◌∷◌, ◌++◌, map, Option, None, Some, Result, Ok, Err, refl, subst, arith}
-use Rattle.std.specs.Prelude.{◌&&◌, All, length, nat_le, nat_lt, slice_get, slice_set}
-use Rattle.vx_base.proofs.Booleans.{and-both}
-use Rattle.vx_base.proofs.Numbers.{at_most-yes, below-from_no}
+use Rattle.std.specs.Prelude.{◌-◌, ◌*◌, All, length, nat_lt, slice_get, slice_set}
 use Rattle.vx_base.proofs.Results.{bind_ok}
 use Rattle.vx_base.specs.Results.{◌>>=◌}
 use Rattle.vx_plane.specs.Plane.{Page}
@@ -12,15 +10,12 @@ use Rattle.vx_pbm.specs.Images.{images_of}
 use Rattle.vx_election_model.specs.declared.election.Election.{Election}
 use Rattle.vx_election_model.specs.Valid.{IsValid}
 use Rattle.vx_events.specs.declared.event.Event.{Event}
-use Rattle.vx_events.specs.declared.event.Event.TheVariants.{Add}
-use Rattle.vx_events.specs.declared.key.Key.{Key}
-use Rattle.vx_events.specs.Fits.{Fits, is_batch, is_key, is_sheet}
-use Rattle.vx_records.specs.Held.{IsHeld}
-use Rattle.vx_rules.specs.declared.marks.SheetMarks.{SheetMarks}
+use Rattle.vx_events.specs.Fits.{is_batch}
 use Rattle.vx_script.specs.Laws.{SaidEventsAreHeld}
 use Rattle.vx_script.specs.Script.{event_in, lines_of}
 use Rattle.vx_sheet.specs.declared.came.Came.{Came}
-use Rattle.vx_sheet.specs.Shows.{CanBeAdded, PairedCanBeAdded, PlansShowOptions}
+use Rattle.vx_sheet.specs.Events.{event_of}
+use Rattle.vx_sheet.specs.Shows.{IsKeepable, SheetEventsAreKeepable}
 use Rattle.vx_shared.specs.Interleaving.{Interleaving}
 use Rattle.vx_words.specs.declared.command.ItemWord.{ItemWord}
 use Rattle.vx_words.specs.declared.command.ItemWord.TheVariants as word
@@ -31,15 +26,9 @@ use Rattle.vx_command_center.specs.declared.item.Item.{Item}
 use Rattle.vx_command_center.specs.declared.item.Item.TheVariants.{Script, Scan}
 use Rattle.vx_command_center.specs.Items.{events_of, possible_of}
 use Rattle.vx_command_center.specs.Outcome.{event_limit, events_in_line, events_in_lines, item_in, items_taken, limit_of, name_in, said_by, scan_unless, taken_item, within_limit}
-use Rattle.vx_command_center.specs.Sheets.{event_if, events_from, number_limit, read_of, sheets_from}
-use Rattle.vx_command_center.proofs.Readings.{read_added}
+use Rattle.vx_command_center.specs.Sheets.{event_if, events_from, events_made, read_of, sheets_from}
 
--- an event fits the election, and has a record
-pub record IsKeepable (election : Election) (event : Event) : Type 0 where
-  pub fits : Fits election event
-  pub held : IsHeld event
-
--- so of each event of a list, of lists
+-- each event of a list, of lists, fits the election and has a record
 abbrev pub Each : Election → List Event → Type 0
 Each election [] = Unit {0}
 Each election (event ∷ events) = IsKeepable election event × Each election events
@@ -92,32 +81,19 @@ module _ (election : Election) where
         let same : first.0 ++ second.0 ≡ events = let made = second.2 in cc in
         subst (Each election) same (each_both first.0 second.0 (line_each number line first.0 first.1) (lines_each lines (number + 1) second.0 second.1))
 
-    module _ (paired : PairedCanBeAdded) (valid : IsValid election) (shown : PlansShowOptions election) where
+    module _ (keepable : SheetEventsAreKeepable) (valid : IsValid election) where
       -- the event of a sheet
       module _ (batch : List ℕ) (batch_is : is_batch batch ≡ true) where
-        key_is : (number : ℕ) → 0 < number → number ≤ 999999 → is_key (record { batch = batch; number = number }) ≡ true
-        key_is number some most = and-both (is_batch batch) (nat_le 1 number && nat_le number 999999) batch_is (and-both (nat_le 1 number) (nat_le number 999999) (at_most-yes 1 number some) (at_most-yes number 999999 most))
-
-        sheet_each : (number : ℕ) (sheet : SheetMarks) → 0 < number → CanBeAdded election sheet → Each election (event_if batch number (Ok sheet))
-        sheet_each number sheet some added = by (nat_lt number_limit number) refl
-          where
-            by : (b : Bool) → nat_lt number_limit number ≡ b → Each election (cond b [] (Add (record { batch = batch; number = number }) sheet ∷ []))
-            by true high = tt
-            by false low =
-                let key : Key = record { batch = batch; number = number } in
-                let fine = key_is number some (below-from_no 999999 number low) in
-                (record { fits = and-both (is_key key) (is_sheet election sheet) fine added.fits; held = added.held key fine }, tt)
-
-        read_each : (number : ℕ) (read : Result SheetMarks Came) → 0 < number → ((sheet : SheetMarks) → read ≡ Ok sheet → CanBeAdded election sheet) → Each election (event_if batch number read)
-        read_each number (Err other) some added = tt
-        read_each number (Ok sheet) some added = sheet_each number sheet some (added sheet refl)
+        made_each : (made : Result Event Came) → ((event : Event) → made ≡ Ok event → IsKeepable election event) → Each election (events_made made)
+        made_each (Err came) keeps = tt
+        made_each (Ok event) keeps = (keeps event refl, tt)
 
         sheets_each : (pages : List Page) (number : ℕ) → 0 < number → Each election (events_from batch number (sheets_from election number pages))
         sheets_each [] number some = tt
         sheets_each (single ∷ []) number some = tt
         sheets_each (first ∷ (second ∷ pages)) number some =
             each_both (event_if batch number (read_of election number first second)) (events_from batch (number + 1) (sheets_from election (number + 1) pages))
-            (read_each number (read_of election number first second) some (read_added paired election valid shown number first second))
+            (made_each (event_of batch number (read_of election number first second)) (λ event is. keepable election batch number (2 * number - 1) first second event valid batch_is some is))
             (sheets_each pages (number + 1) (omega arith))
 
       -- the events of an item by its bytes

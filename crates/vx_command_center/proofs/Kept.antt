@@ -1,21 +1,19 @@
 -- A journal stays one while the Done events of a history are appended to it.
 use Rattle.std.proofs.Common.{◌≡◌, ℕ, suc, ◌+◌, Bool, true, false, cond, List, [], ◌∷◌, ◌++◌, map, take, Some, Result, Ok, Err, refl, sym, ap, subst, ◌∙◌, append_assoc, append-nil}
-use Rattle.std.specs.Prelude.{IsOk, All, slice_get}
+use Rattle.std.specs.Prelude.{All, slice_get}
 use Rattle.std.specs.List.{flat_map}
 use Rattle.vx_base.specs.Results.{◌>>=◌}
+use Rattle.vx_base.proofs.Results.{is-ok_from, ok-is}
 use Rattle.vx_io.specs.Outside.{Files}
 use Rattle.vx_election_model.specs.declared.election.Election.{Election}
 use Rattle.vx_election_model.specs.Valid.{IsValid}
-use Rattle.vx_election.specs.Laws.{DefinedElectionsAreValid}
 use Rattle.vx_events.specs.declared.event.Event.{Event}
 use Rattle.vx_layout.specs.declared.plan.CardPlan.{CardPlan}
-use Rattle.vx_layout.specs.Plans.{PlansShowEachOption}
-use Rattle.vx_refusals.specs.declared.reply.Reply.{Reply}
-use Rattle.vx_refusals.specs.declared.reply.Reply.TheVariants.{Done, Repeated, NoSheet, HeldBy, NotHeld, NotOnSheet, NotAnOption, OverSeats, StillMarginal, NoWriteIn, Full}
+use Rattle.vx_center.specs.Laws.{RepliesAreDoneOrRefuse}
 use Rattle.vx_center.specs.Replies.{is_done, reply_of}
 use Rattle.vx_records.specs.Records.{header_of, record_of}
 use Rattle.vx_script.specs.Laws.{SaidEventsAreHeld}
-use Rattle.vx_sheet.specs.Shows.{PairedCanBeAdded, PlansShowOptions}
+use Rattle.vx_sheet.specs.Shows.{SheetEventsAreKeepable}
 use Rattle.vx_shared.specs.declared.history.Entry.{Entry}
 use Rattle.vx_shared.specs.Legal.{IsLegal, done_events, done_of, events_in}
 use Rattle.vx_words.specs.declared.command.ItemWord.{ItemWord}
@@ -23,9 +21,10 @@ use Rattle.vx_words.specs.Items.{IsItem}
 use Rattle.vx_command.specs.declared.halt.Halt.{Halt}
 use Rattle.vx_command.specs.Acts.{Act, Append, Outcome, goes_on, records_of, work}
 use Rattle.vx_command.specs.Elections.{once_planned, plans_in}
+use Rattle.vx_command.specs.Laws.{TakenElectionsAreValid}
 use Rattle.vx_journal.specs.declared.journal.Journal.{Journal}
 use Rattle.vx_journal.specs.Keeping.{has_none, journal_in, journal_read}
-use Rattle.vx_journal.specs.Laws.{HeadersBeginJournals, IsBegun, IsJournal, JournalsGrow, StaysJournal}
+use Rattle.vx_journal.specs.Laws.{BegunAreJournals, HeadersBeginJournals, IsBegun, IsJournal, JournalsGrow, StaysJournal}
 use Rattle.vx_journal.specs.Replay.{replay_of}
 use Rattle.vx_journal.specs.Steps.{once_read}
 use Rattle.vx_command_center.specs.declared.item.Item.{Item}
@@ -34,31 +33,6 @@ use Rattle.vx_command_center.specs.Items.{events_of, lines_of_item, possible_of}
 use Rattle.vx_command_center.specs.Laws.{CenterKeepsJournals, IsOfItems}
 use Rattle.vx_command_center.specs.Outcome.{append_acts, end_acts, history_acts, items_outcome, items_taken, journal_outcome, name_in, taken_item, written_acts}
 use Rattle.vx_command_center.proofs.Keepable.{Each, each_mixed, items_each}
-use Rattle.vx_command_center.proofs.Readings.{valid_read}
-
-pub is_ok_from : {A E : Type 0} (r : Result A E) (x : A) → r ≡ Ok x → IsOk r
-is_ok_from {A} {E} r x is = let Good : Result A E → Type 0 = λ some. IsOk some in subst Good (sym is) refl
-
-pub ok_is : {A E : Type 0} (r : Result A E) → IsOk r → (x : A) × (r ≡ Ok x)
-ok_is (Ok x) ok = (x, refl)
-ok_is (Err e) ok = absurd cc
-
-begun_is : (election : Election) (records : List (List ℕ)) (events : List Event) → IsBegun election records events → IsJournal election records
-begun_is election records events begun = is_ok_from (replay_of election records) events begun.replays
-
--- an answer that keeps its event is Done
-pub done_is : (reply : Reply) → is_done reply ≡ true → reply ≡ Done
-done_is Done is = refl
-done_is (Repeated place) is = absurd cc
-done_is NoSheet is = absurd cc
-done_is (HeldBy station) is = absurd cc
-done_is NotHeld is = absurd cc
-done_is (NotOnSheet contest) is = absurd cc
-done_is (NotAnOption option) is = absurd cc
-done_is (OverSeats given seats) is = absurd cc
-done_is (StillMarginal option) is = absurd cc
-done_is (NoWriteIn slot) is = absurd cc
-done_is (Full count) is = absurd cc
 
 -- a legal history, call after call
 abbrev pub LegalFrom : Election → List Event → List Entry → Type 0
@@ -73,7 +47,7 @@ legal_from election (call ∷ calls) kept legal = (
       (λ place one at. legal (suc place) one at ∙ ap (λ (events : List Event). reply_of election events one.event) (sym (append_assoc kept (done_of call) (done_events (take place calls))))),
 )
 
-module _ (grow : JournalsGrow) (election : Election) where
+module _ (replies : RepliesAreDoneOrRefuse) (begun_is : BegunAreJournals) (grow : JournalsGrow) (election : Election) where
   -- the Done events of calls are appended
   calls_stay : (calls : List Entry) (kept : List Event) (records : List (List ℕ)) (more : List Act) → LegalFrom election kept calls → Each election (events_in calls) → IsBegun election records kept
       → ((now : List (List ℕ)) → IsBegun election now (kept ++ done_events calls) → StaysJournal election now more)
@@ -90,7 +64,7 @@ module _ (grow : JournalsGrow) (election : Election) where
       by true done legal_then go on = (
         begun_is election records kept begun,
         on (kept ++ call.event ∷ []) (records ++ record_of call.event ∷ []) more legal_then each.1
-            (grow election records kept call.event begun each.0.fits each.0.held (sym legal.0 ∙ done_is call.reply done))
+            (grow election records kept call.event begun each.0.fits each.0.held (sym legal.0 ∙ replies.done call.reply done))
             (λ now so. go now (subst (IsBegun election now) (append_assoc kept (call.event ∷ []) (done_events calls)) so)),
       )
       by false other legal_then go on =
@@ -140,29 +114,28 @@ module _ (grow : JournalsGrow) (election : Election) where
       (ap (λ (some : Result Item Halt). some >>= (λ one. items_taken election files (word + 1) (before + possible_of one) words >>= (λ more. Ok (one ∷ more)))) given
       ∙ ap (λ (some : Result (List Item) Halt). some >>= (λ more. Ok (taken ∷ more))) are)))
 
-  module _ (held : SaidEventsAreHeld) (paired : PairedCanBeAdded) (heads : HeadersBeginJournals) (moment device : List ℕ) (words : List ItemWord) (all : All IsItem words) (files : Files) (records : List (List ℕ)) (history : List Entry) (valid : IsValid election) (shown : PlansShowOptions election) (of_items : IsOfItems election records files words history) where
+  module _ (held : SaidEventsAreHeld) (keepable : SheetEventsAreKeepable) (heads : HeadersBeginJournals) (moment device : List ℕ) (words : List ItemWord) (all : All IsItem words) (files : Files) (records : List (List ℕ)) (history : List Entry) (valid : IsValid election) (of_items : IsOfItems election records files words history) where
     read_stays : (kept : List Event) → replay_of election records ≡ Ok kept → StaysJournal election records (once_read election records (journal_outcome election moment device words files history)).acts
     read_stays kept is =
         let journal : Journal = record { center = record { election = election; events = kept }; is_new = has_none records } in
         let read : journal_in election records ≡ Ok journal = ap (journal_read election (has_none records)) is in
-        let now : IsJournal election records = is_ok_from (replay_of election records) kept is in
+        let now : IsJournal election records = is-ok_from (replay_of election records) kept is in
         let Stays : Result Journal Halt → Type 0 = λ given. StaysJournal election records (goes_on given (journal_outcome election moment device words files history)).acts in
         subst Stays (sym read)
         (items_stay words files 4 0 (λ items. work (end_acts election journal moment device items history)) records now
         (λ items given.
         let so : IsHistoryOf election kept items history = of_items kept items is given in
         end_stays heads moment device records journal items history read refl now so.legal
-        (each_mixed election (events_in history) (map (events_of election) items) so.interleaved (items_each election held paired valid shown words files 4 0 items all given))))
+        (each_mixed election (events_in history) (map (events_of election) items) so.interleaved (items_each election held keepable valid words files 4 0 items all given))))
 
     pub plans_stay : (planned : Result (List CardPlan) Halt) → IsJournal election records → StaysJournal election records (goes_on planned (λ plans. once_read election records (journal_outcome election moment device words files history))).acts
     plans_stay (Err cause) now = now
-    plans_stay (Ok plans) now = let read = ok_is (replay_of election records) now in read_stays read.0 read.1
+    plans_stay (Ok plans) now = let read = ok-is (replay_of election records) now in read_stays read.0 read.1
 
 -- `center` keeps a journal
-pub stays : DefinedElectionsAreValid → PlansShowEachOption → SaidEventsAreHeld → PairedCanBeAdded → JournalsGrow → HeadersBeginJournals → CenterKeepsJournals
-stays defined shows held paired grow heads name moment device words files records history election are is journal of_items =
-    let valid = valid_read defined (files name) election is in
-    let shown : PlansShowOptions election = λ card plan planned. let each = shows election card plan valid planned in record { options = each.0; pages = each.1 } in
+pub stays : TakenElectionsAreValid → RepliesAreDoneOrRefuse → BegunAreJournals → SaidEventsAreHeld → SheetEventsAreKeepable → JournalsGrow → HeadersBeginJournals → CenterKeepsJournals
+stays taken_valid replies begun_is held keepable grow heads name moment device words files records history election are is journal of_items =
+    let valid = taken_valid (files name) election is in
     let Stays : Result Election Halt → Type 0 = λ given. StaysJournal election records (goes_on given (λ some. once_planned some (once_read some records (journal_outcome some moment device words files history)))).acts in
     subst Stays (sym is)
-    (plans_stay grow election held paired heads moment device words are.are_items files records history valid shown of_items (plans_in election) journal)
+    (plans_stay replies begun_is grow election held keepable heads moment device words are.are_items files records history valid of_items (plans_in election) journal)

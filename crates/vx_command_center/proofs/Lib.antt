@@ -5,7 +5,6 @@ mod Ended
 mod Images
 mod Keepable
 mod Kept
-mod Readings
 mod Reported
 mod Scripts
 mod Starting

@@ -7,16 +7,15 @@ use Rattle.vx_base.specs.Results.{◌>>=◌}
 use Rattle.vx_io.specs.Outside.{Files, Took}
 use Rattle.vx_election_model.specs.declared.election.Election.{Election}
 use Rattle.vx_election_model.specs.Valid.{IsValid}
-use Rattle.vx_election.specs.Laws.{DefinedElectionsAreValid}
 use Rattle.vx_events.specs.declared.event.Event.{Event}
 use Rattle.vx_layout.specs.declared.plan.CardPlan.{CardPlan}
-use Rattle.vx_layout.specs.Plans.{PlansShowEachOption}
 use Rattle.vx_refusals.specs.declared.journal.JournalStop.{JournalStop}
+use Rattle.vx_center.specs.Laws.{RepliesAreDoneOrRefuse}
 use Rattle.vx_center.specs.Replies.{is_done}
 use Rattle.vx_cvr.specs.Report.{report_of}
 use Rattle.vx_records.specs.Records.{record_of}
 use Rattle.vx_script.specs.Laws.{SaidEventsAreHeld}
-use Rattle.vx_sheet.specs.Shows.{PairedCanBeAdded, PlansShowOptions}
+use Rattle.vx_sheet.specs.Shows.{SheetEventsAreKeepable}
 use Rattle.vx_shared.specs.declared.history.Entry.{Entry}
 use Rattle.vx_shared.specs.Legal.{done_events, events_in}
 use Rattle.vx_words.specs.declared.command.ItemWord.{ItemWord}
@@ -25,6 +24,7 @@ use Rattle.vx_command.specs.declared.halt.Halt.{Halt}
 use Rattle.vx_command.specs.Acts.{Act, Answer, Write, Outcome, goes_on, records_of, text_of, work}
 use Rattle.vx_command.specs.Done.{BreaksOff, Held, IsDone, IsWhole, Taken}
 use Rattle.vx_command.specs.Elections.{election_in, once_planned, plans_in}
+use Rattle.vx_command.specs.Laws.{TakenElectionsAreValid}
 use Rattle.vx_journal.specs.declared.journal.Journal.{Journal}
 use Rattle.vx_journal.specs.Keeping.{begin_acts, has_none, journal_in, journal_read}
 use Rattle.vx_journal.specs.Laws.{HeadersBeginJournals, IsBegun, JournalsGrow}
@@ -36,8 +36,7 @@ use Rattle.vx_command_center.specs.Items.{events_of, lines_of_item, possible_of}
 use Rattle.vx_command_center.specs.Laws.{CenterReportsWhatIsKept, IsOfItems, ReportedWhatIsKept}
 use Rattle.vx_command_center.specs.Outcome.{append_acts, center_outcome, end_acts, history_acts, items_outcome, items_taken, journal_outcome, name_in, report_line, taken_item, written_acts}
 use Rattle.vx_command_center.proofs.Keepable.{Each, each_mixed, items_each}
-use Rattle.vx_command_center.proofs.Kept.{LegalFrom, done_is, legal_from}
-use Rattle.vx_command_center.proofs.Readings.{valid_read}
+use Rattle.vx_command_center.proofs.Kept.{LegalFrom, legal_from}
 
 -- a command ended well that had done these acts
 pub record WentWell (ends : Answer) (acts : List Act) (taken taken_now : Taken) (records : List (List ℕ)) (held_now : Held) : Type 0 where
@@ -64,7 +63,7 @@ went_well outcome taken taken_now records held_now answer it well = by it.ends
         let Broke : Answer → Type 0 = λ one. BreaksOff one it.left it.text it.records in
         absurd (subst Broke well broke)
 
-module _ (grow : JournalsGrow) (election : Election) where
+module _ (replies : RepliesAreDoneOrRefuse) (grow : JournalsGrow) (election : Election) where
   -- the journal behind the Done events of calls
   calls_kept : (calls : List Entry) (kept : List Event) (records : List (List ℕ)) → LegalFrom election kept calls → Each election (events_in calls) → IsBegun election records kept → IsBegun election (records ++ flat_map records_of (append_acts (done_events calls))) (kept ++ done_events calls)
   calls_kept [] kept records legal each begun =
@@ -78,7 +77,7 @@ module _ (grow : JournalsGrow) (election : Election) where
           let more : List (List ℕ) = flat_map records_of (append_acts (done_events calls)) in
           let now : IsBegun election ((records ++ record_of call.event ∷ []) ++ more) ((kept ++ call.event ∷ []) ++ done_events calls) =
           on (kept ++ call.event ∷ []) (records ++ record_of call.event ∷ []) legal_then each.1
-          (grow election records kept call.event begun each.0.fits each.0.held (sym legal.0 ∙ done_is call.reply done)) in
+          (grow election records kept call.event begun each.0.fits each.0.held (sym legal.0 ∙ replies.done call.reply done)) in
           subst (λ (all : List (List ℕ)). IsBegun election all (kept ++ (call.event ∷ done_events calls))) (append_assoc records (record_of call.event ∷ []) more)
           (subst (IsBegun election ((records ++ record_of call.event ∷ []) ++ more)) (append_assoc kept (call.event ∷ []) (done_events calls)) now)
       by false other legal_then on =
@@ -120,7 +119,7 @@ module _ (grow : JournalsGrow) (election : Election) where
             records = ap (λ (some : Result Item Halt). flat_map records_of (goes_on some (next_in words files word before rest)).acts) is ∙ all.records;
           }
 
-module _ (held : SaidEventsAreHeld) (paired : PairedCanBeAdded) (grow : JournalsGrow) (heads : HeadersBeginJournals) (shows : PlansShowEachOption) (defined : DefinedElectionsAreValid) (name moment device : List ℕ) (words : List ItemWord) (all : All IsItem words) (files : Files) (records : List (List ℕ)) (history : List Entry) (taken taken_now : Taken) (held_now : Held) (of_items : (election : Election) → election_in (files name) ≡ Ok election → IsOfItems election records files words history) where
+module _ (replies : RepliesAreDoneOrRefuse) (held : SaidEventsAreHeld) (keepable : SheetEventsAreKeepable) (grow : JournalsGrow) (heads : HeadersBeginJournals) (taken_valid : TakenElectionsAreValid) (name moment device : List ℕ) (words : List ItemWord) (all : All IsItem words) (files : Files) (records : List (List ℕ)) (history : List Entry) (taken taken_now : Taken) (held_now : Held) (of_items : (election : Election) → election_in (files name) ≡ Ok election → IsOfItems election records files words history) where
   module _ (election : Election) (is : election_in (files name) ≡ Ok election) where
     abbrev rest : Journal → List Item → Outcome
     rest journal items = work (end_acts election journal moment device items history)
@@ -158,19 +157,18 @@ module _ (held : SaidEventsAreHeld) (paired : PairedCanBeAdded) (grow : Journals
           flat_map-append records_of (begin_acts journal) (append_acts (done_events history) ++ written)
           ∙ ap (λ (more : List (List ℕ)). flat_map records_of (begin_acts journal) ++ more)
           (flat_map-append records_of (append_acts (done_events history)) written
-          ∙ ap (λ (more : List (List ℕ)). flat_map records_of (append_acts (done_events history)) ++ more) (no_records grow election history 0 (Write text ∷ Write report_line ∷ Write told ∷ []))
+          ∙ ap (λ (more : List (List ℕ)). flat_map records_of (append_acts (done_events history)) ++ more) (no_records replies grow election history 0 (Write text ∷ Write report_line ∷ Write told ∷ []))
           ∙ append-nil (flat_map records_of (append_acts (done_events history))))
 
       reports_so : items_taken election files 4 0 words ≡ Ok items → (acts : List Act) → flat_map text_of acts ≡ flat_map text_of (end_acts election journal moment device items history) → flat_map records_of acts ≡ flat_map records_of (end_acts election journal moment device items history)
           → Took taken taken_now (flat_map text_of acts) → held_now ≡ Some (records ++ flat_map records_of acts) → ReportedWhatIsKept name moment device files taken taken_now held_now
       reports_so given acts texts appended took holds =
           let so : IsHistoryOf election kept items history = of_items election is kept items replays given in
-          let valid : IsValid election = valid_read defined (files name) election is in
-          let shown : PlansShowOptions election = λ card plan planned. let each = shows election card plan valid planned in record { options = each.0; pages = each.1 } in
+          let valid : IsValid election = taken_valid (files name) election is in
           let read : journal_in election records ≡ Ok journal = ap (journal_read election (has_none records)) replays in
-          let each : Each election (events_in history) = each_mixed election (events_in history) (map (events_of election) items) so.interleaved (items_each election held paired valid shown words files 4 0 items all given) in
+          let each : Each election (events_in history) = each_mixed election (events_in history) (map (events_of election) items) so.interleaved (items_each election held keepable valid words files 4 0 items all given) in
           let begun : IsBegun election ((records ++ flat_map records_of (begin_acts journal)) ++ flat_map records_of (append_acts (done_events history))) (kept ++ done_events history) =
-          calls_kept grow election history kept (records ++ flat_map records_of (begin_acts journal)) (legal_from election history kept so.legal.replies) each (heads election records journal read) in
+          calls_kept replies grow election history kept (records ++ flat_map records_of (begin_acts journal)) (legal_from election history kept so.legal.replies) each (heads election records journal read) in
           record {
             election = election;
             is_read = is;
@@ -190,7 +188,7 @@ module _ (held : SaidEventsAreHeld) (paired : PairedCanBeAdded) (grow : Journals
     read_so (Err stopped) replays well = let never = well.ends_well in absurd cc
     read_so (Ok kept) replays well =
         let journal : Journal = record { center = record { election = election; events = kept }; is_new = has_none records } in
-        let it = all_taken grow election words files 4 0 (rest journal) well.ends_well in
+        let it = all_taken replies grow election words files 4 0 (rest journal) well.ends_well in
         reports_so kept replays it.items it.taken (items_outcome election files 4 0 words (rest journal)).acts it.texts it.records well.took well.holds
 
     planned_so : (planned : Result (List CardPlan) Halt) → WentWell (goes_on planned (λ plans. once_read election records (journal_outcome election moment device words files history))).ends (goes_on planned (λ plans. once_read election records (journal_outcome election moment device words files history))).acts taken taken_now records held_now → ReportedWhatIsKept name moment device files taken taken_now held_now
@@ -202,8 +200,8 @@ module _ (held : SaidEventsAreHeld) (paired : PairedCanBeAdded) (grow : Journals
   given_so (Err cause) is well = let never = well.ends_well in absurd cc
   given_so (Ok election) is well = planned_so election is (plans_in election) well
 
-pub reports : DefinedElectionsAreValid → PlansShowEachOption → SaidEventsAreHeld → PairedCanBeAdded → JournalsGrow → HeadersBeginJournals → CenterReportsWhatIsKept
-reports defined shows held paired grow heads name moment device words files records history taken taken_now held_now answer are of_items done well =
+pub reports : TakenElectionsAreValid → RepliesAreDoneOrRefuse → SaidEventsAreHeld → SheetEventsAreKeepable → JournalsGrow → HeadersBeginJournals → CenterReportsWhatIsKept
+reports taken_valid replies held keepable grow heads name moment device words files records history taken taken_now held_now answer are of_items done well =
     let it = went_well (center_outcome name moment device words files records history) taken taken_now records held_now answer done well in
-    given_so held paired grow heads shows defined name moment device words are.are_items files records history taken taken_now held_now of_items (election_in (files name)) refl
+    given_so replies held keepable grow heads taken_valid name moment device words are.are_items files records history taken taken_now held_now of_items (election_in (files name)) refl
     (record { ends_well = it.ends_well; took = it.took; holds = it.holds })

@@ -1,11 +1,9 @@
 -- A scan's sheets, one after another.
 use Rattle.std.proofs.Common.{◌≡◌, ℕ, ◌+◌, ◌*◌, ◌/◌, ◌≤◌, Bool, true, false, cond, List, [], ◌∷◌, ◌++◌, length, Result, Ok, Err, refl, sym, ap, subst, ◌∙◌, arith, append_assoc, length-append}
-use Rattle.std.specs.Prelude.{nat_lt}
 use Rattle.std.proofs.lemmas.List.{append-nil}
 use Rattle.vx_plane.specs.Plane.{Page}
 use Rattle.vx_election_model.specs.declared.election.Election.{Election}
 use Rattle.vx_events.specs.declared.event.Event.{Event}
-use Rattle.vx_events.specs.declared.event.Event.TheVariants.{Add}
 use Rattle.vx_pbm.specs.Images.{Images, with_page}
 use Rattle.vx_rules.specs.declared.marks.SheetMarks.{SheetMarks}
 use Rattle.vx_shared.specs.Calls.{Known}
@@ -13,17 +11,17 @@ use Rattle.vx_shared.specs.Gained.{HasMade, HasMadeFront, MakesAlso}
 use Rattle.vx_shared.specs.Laws.{NothingIsMade}
 use Rattle.vx_sheet.specs.declared.came.Came.{Came}
 use Rattle.vx_sheet.specs.declared.came.Came.TheVariants.{Single}
+use Rattle.vx_sheet.specs.Events.{event_of}
 use Rattle.vx_sheet.specs.Lines.{lines_of}
-use Rattle.vx_command_center.specs.Sheets.{event_if, events_from, events_in, lines_from, lines_in, lines_unless, number_limit, read_of, sheets_from}
+use Rattle.vx_command_center.specs.Sheets.{event_if, events_from, events_in, events_made, lines_from, lines_in, lines_unless, read_of, sheets_from}
 
-few_if : (beyond : Bool) (event : Event) → length (cond beyond [] (event ∷ [])) ≤ 1
-few_if true event = omega arith
-few_if false event = omega arith
+few_made : (made : Result Event Came) → length (events_made made) ≤ 1
+few_made (Err came) = omega arith
+few_made (Ok event) = omega arith
 
 -- at most one event of a sheet
 one_event : (batch : List ℕ) (number : ℕ) (read : Result SheetMarks Came) → length (event_if batch number read) ≤ 1
-one_event batch number (Err other) = omega arith
-one_event batch number (Ok sheet) = few_if (nat_lt number_limit number) (Add (record { batch = batch; number = number }) sheet)
+one_event batch number read = few_made (event_of batch number read)
 
 -- at most one event of each two images
 pub few_events : (election : Election) (batch : List ℕ) (number : ℕ) (pages : List Page)

@@ -1,15 +1,15 @@
 -- The sheets of a scan that is one item: what is read of each, the event that it makes, or its line where it makes
 -- none.
-use Rattle.std.specs.Prelude.{ℕ, ◌+◌, ◌-◌, ◌*◌, nat_lt, if◌then◌else◌, List, [], ◌∷◌, ◌++◌, Result, Ok, Err}
+use Rattle.std.specs.Prelude.{ℕ, ◌+◌, ◌-◌, ◌*◌, List, [], ◌∷◌, ◌++◌, Result, Ok, Err}
 use Rattle.vx_plane.specs.Plane.{Page}
 use Rattle.vx_election_model.specs.declared.election.Election.{Election}
 use Rattle.vx_events.specs.declared.event.Event.{Event}
-use Rattle.vx_events.specs.declared.event.Event.TheVariants.{Add}
 use Rattle.vx_rules.specs.declared.marks.SheetMarks.{SheetMarks}
 use Rattle.vx_scan_model.specs.Reading.{reading_of}
 use Rattle.vx_sheet.specs.declared.came.Came.{Came}
-use Rattle.vx_sheet.specs.declared.came.Came.TheVariants.{Single, Beyond}
+use Rattle.vx_sheet.specs.declared.came.Came.TheVariants.{Single}
 use Rattle.vx_sheet.specs.Came.{sheet_read}
+use Rattle.vx_sheet.specs.Events.{event_of}
 use Rattle.vx_sheet.specs.Lines.{lines_of}
 
 -- what is read of the sheet of two images that has a number: sheet n is the images 2n - 1 and 2n
@@ -25,21 +25,22 @@ sheets_from election number (single ∷ []) = Err Single ∷ []
 sheets_from election number (first ∷ (second ∷ images)) =
     read_of election number first second ∷ sheets_from election (number + 1) images
 
--- the most that a sheet's number may be
-abbrev pub number_limit : ℕ
-number_limit = 999999
+-- the event of a sheet, where it makes one
+abbrev pub events_made : Result Event Came → List Event
+events_made (Err came) = []
+events_made (Ok event) = event ∷ []
 
--- the event of a sheet with a number: an Add where it was read and paired, unless its number is above the most
+-- its lines, where it makes none
+abbrev pub lines_told : Election → List ℕ → ℕ → Result Event Came → List ℕ
+lines_told election batch number (Err came) = lines_of election batch number came
+lines_told election batch number (Ok event) = []
+
+-- the same of the sheet with a number, of whose images this was read
 abbrev pub event_if : List ℕ → ℕ → Result SheetMarks Came → List Event
-event_if batch number (Err other) = []
-event_if batch number (Ok sheet) =
-    if nat_lt number_limit number then [] else Add (record { batch = batch; number = number }) sheet ∷ []
+event_if batch number read = events_made (event_of batch number read)
 
--- its lines, where it makes no event
 abbrev pub lines_unless : Election → List ℕ → ℕ → Result SheetMarks Came → List ℕ
-lines_unless election batch number (Err other) = lines_of election batch number other
-lines_unless election batch number (Ok sheet) =
-    if nat_lt number_limit number then lines_of election batch number Beyond else []
+lines_unless election batch number read = lines_told election batch number (event_of batch number read)
 
 -- the events of sheets in order, the first of which has a number
 abbrev pub events_from : List ℕ → ℕ → List (Result SheetMarks Came) → List Event

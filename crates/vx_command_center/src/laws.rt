@@ -7,24 +7,24 @@ ghost use Rattle.vx_command_center.specs.Laws.{
   CentersMayNotBegin,
 };
 
-use vx_command::acts_in_order;
-use vx_election::defined_elections_are_valid;
-use vx_journal::{headers_begin_journals, journals_grow};
-use vx_layout::plans_show_each_option;
+use vx_center::replies_are_done_or_refuse;
+use vx_command::{acts_in_order, taken_elections_are_valid};
+use vx_journal::{begun_journals_are_journals, headers_begin_journals, journals_grow};
 use vx_script::said_events_are_held;
 use vx_shared::lists_have_histories;
-use vx_sheet::paired_sheets_can_be_added;
+use vx_sheet::sheet_events_are_keepable;
 
 /// A journal stays one behind each record that `center` appends, where the history is one of its items.
 pub fn center_keeps_journals()
     ensures { CenterKeepsJournals }
 {
-    defined_elections_are_valid();
+    taken_elections_are_valid();
+    replies_are_done_or_refuse();
+    begun_journals_are_journals();
     headers_begin_journals();
     journals_grow();
-    plans_show_each_option();
     said_events_are_held();
-    paired_sheets_can_be_added();
+    sheet_events_are_keepable();
 }
 
 /// Where `center` ended well, the last text that it wrote is the report of exactly the events that the journal
@@ -32,12 +32,12 @@ pub fn center_keeps_journals()
 pub fn center_reports_what_is_kept()
     ensures { CenterReportsWhatIsKept }
 {
-    defined_elections_are_valid();
+    taken_elections_are_valid();
+    replies_are_done_or_refuse();
     headers_begin_journals();
     journals_grow();
-    plans_show_each_option();
     said_events_are_held();
-    paired_sheets_can_be_added();
+    sheet_events_are_keepable();
 }
 
 /// Memory may run out before `center` has begun: then none of its acts is done, by some history of its items.

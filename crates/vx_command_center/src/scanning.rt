@@ -1,10 +1,8 @@
 //! The sheets of a scan, by one thread.
-ghost use Rattle.std.specs.Prelude.{◌≡◌, ◌<◌, ◌≤◌, ◌++◌, ◌∷◌, [], ◌/◌, ◌^◌, true, None, IfErr, IfOk, OnErr, OnOk, length, string_bytes};
-ghost use Rattle.vx_events.specs.Fits.{is_batch};
+ghost use Rattle.std.specs.Prelude.{◌≡◌, ◌<◌, ◌≤◌, ◌++◌, ◌/◌, ◌^◌, true, None, IfErr, IfOk, OnErr, OnOk, length, string_bytes};
+ghost use Rattle.vx_events.specs.Fits.{Fits, is_batch};
 ghost use Rattle.vx_pbm.specs.Images.{images_of};
-ghost use Rattle.vx_scan_model.specs.Reading.{reading_of};
-ghost use Rattle.vx_sheet.specs.Came.{sheet_read};
-ghost use Rattle.vx_sheet.specs.Shows.{CanBeAdded, IsReadAll};
+ghost use Rattle.vx_sheet.specs.Shows.{IsReadAll};
 ghost use Rattle.vx_shared.specs.Gained.{HasMade, HasMadeFront, MakesAlso};
 ghost use Rattle.vx_command_center.specs.Setting.{IsSet};
 ghost use Rattle.vx_command_center.specs.Sheets as spec;
@@ -15,56 +13,10 @@ use std::alloc::Global;
 use std::sync::Wait;
 use vx_base::{Bytes, OutOfMemory};
 use vx_count::CounterMemory;
-use vx_events::{Event, Key};
-use vx_json::Text;
+use vx_events::Event;
 use vx_pbm::{Image, PbmReader};
-use vx_rules::SheetMarks;
 use vx_shared::{Desk, Pass, make, passes_gain_their_calls};
 use vx_sheet::{Came, push_lines};
-
-/// The event that adds a sheet.
-fn add_event(
-    alloc: Global,
-    batch: &str,
-    number: u32,
-    sheet: SheetMarks,
-) -> Result<Event, OutOfMemory>
-    ensures { IfOk result (λ event. event ≡ Event.Add (record { batch = batch.now; number = number }) sheet) }
-{
-    let key = Key {
-        batch: Text::from_str(alloc, batch)?,
-        number,
-    };
-    Ok(Event::Add { key, sheet })
-}
-
-/// Calls the center with the event that adds a sheet.
-fn add_sheet<R: Wait, S: Desk>(
-    rt: &R,
-    alloc: Global,
-    shared: &S,
-    pass: Pass,
-    hands: &Hands<'_>,
-    batch: &str,
-    number: u32,
-    sheet: SheetMarks,
-) -> (Pass, Result<(), OutOfMemory>)
-    requires belongs { pass.of ≡ S.id shared.now }
-    requires election { pass.origin.election ≡ hands.now.election.now }
-    requires calls { 0 < pass.calls }
-    requires batch { is_batch batch.now ≡ true }
-    requires some { 0 < number }
-    requires most { number ≤ 999999 }
-    requires added { CanBeAdded hands.now.election.now sheet }
-    ensures made { OnOk result.1 (MakesAlso pass
-        (Event.Add (record { batch = batch.now; number = number }) sheet ∷ []) result.0) }
-    ensures refused { OnErr result.1 (result.0 ≡ pass) }
-{
-    match add_event(alloc, batch, number, sheet) {
-        Ok(event) => make(rt, alloc, shared, pass, event),
-        Err(no_memory) => (pass, Err(no_memory)),
-    }
-}
 
 /// Calls the center with the event of a sheet, or adds its lines where it makes none.
 fn tell_sheet<R: Wait, S: Desk>(
@@ -75,29 +27,21 @@ fn tell_sheet<R: Wait, S: Desk>(
     hands: &Hands<'_>,
     batch: &str,
     number: u64,
-    read: Result<SheetMarks, Came>,
+    sheet: Result<Event, Came>,
     text: &mut String,
 ) -> (Pass, Result<(), OutOfMemory>)
     requires belongs { pass.of ≡ S.id shared.now }
     requires election { pass.origin.election ≡ hands.now.election.now }
-    requires batch { is_batch batch.now ≡ true }
-    requires some { 0 < number }
-    requires calls { length (spec.event_if batch.now number read) ≤ pass.calls }
-    requires added { IfOk read (CanBeAdded hands.now.election.now) }
-    requires told { IfErr read (IsReadAll hands.now.election.now) }
-    ensures made { OnOk result.1 (MakesAlso pass (spec.event_if batch.now number read) result.0) }
+    requires calls { length (spec.events_made sheet) ≤ pass.calls }
+    requires fits { IfOk sheet (Fits hands.now.election.now) }
+    requires told { IfErr sheet (IsReadAll hands.now.election.now) }
+    ensures made { OnOk result.1 (MakesAlso pass (spec.events_made sheet) result.0) }
     ensures told { OnOk result.1 (string_bytes text.new
-        ≡ string_bytes text.old ++ spec.lines_unless hands.now.election.now batch.now number read) }
+        ≡ string_bytes text.old ++ spec.lines_told hands.now.election.now batch.now number sheet) }
     ensures refused { OnErr result.1 (result.0 ≡ pass) }
 {
-    match read {
-        Ok(sheet) => {
-            if number > 999_999 {
-                let told = push_lines(text, hands.election, batch, number, &Came::Beyond);
-                return (pass, told);
-            }
-            add_sheet(rt, alloc, shared, pass, hands, batch, number as u32, sheet)
-        }
+    match sheet {
+        Ok(event) => make(rt, alloc, shared, pass, event),
         Err(came) => {
             let told = push_lines(text, hands.election, batch, number, &came);
             (pass, told)
@@ -105,7 +49,7 @@ fn tell_sheet<R: Wait, S: Desk>(
     }
 }
 
-/// The sheet of two images, the first of which has this number.
+/// The sheet of a batch with a number, of its two images.
 fn do_sheet<R: Wait, S: Desk>(
     rt: &R,
     alloc: Global,
@@ -134,8 +78,8 @@ fn do_sheet<R: Wait, S: Desk>(
         (spec.read_of hands.now.election.now number first.now second.now)) }
     ensures refused { OnErr result.1 (result.0 ≡ pass) }
 {
-    match read_two(alloc, hands, memory, 2 * number - 1, first, second) {
-        Ok(read) => tell_sheet(rt, alloc, shared, pass, hands, batch, number, read, text),
+    match read_two(alloc, hands, memory, batch, number, first, second) {
+        Ok(sheet) => tell_sheet(rt, alloc, shared, pass, hands, batch, number, sheet, text),
         Err(no_memory) => (pass, Err(no_memory)),
     }
 }

@@ -11,9 +11,6 @@ use Rattle.vx_base.proofs.Results.{bind_ok}
 use Rattle.vx_plane.specs.Plane.{Page as Bitmap}
 use Rattle.vx_election_model.specs.declared.election.Election.{Election}
 use Rattle.vx_election_model.specs.Valid.{IsValid}
-use Rattle.vx_election.specs.declared.fault.ElectionFault.{ElectionFault}
-use Rattle.vx_election.specs.Reading.{election_of}
-use Rattle.vx_election.specs.Laws.{DefinedElectionsAreValid}
 use Rattle.vx_io.specs.Outside.{Files}
 use Rattle.vx_layout.specs.declared.plan.CardPlan.{CardPlan}
 use Rattle.vx_pbm.specs.declared.fault.PbmFault.{PbmFault}
@@ -27,12 +24,14 @@ use Rattle.vx_readings.specs.declared.said.SaidPage.TheVariants.{NoReading, Read
 use Rattle.vx_readings.specs.ReadingText.{line_of}
 use Rattle.vx_command.specs.declared.halt.Halt.{Halt}
 use Rattle.vx_command.specs.Acts.{Answer, Outcome, Write, after, goes_on, taking, input_of, input_limit}
-use Rattle.vx_command.specs.Elections.{election_read, election_in, plans_in, once_planned}
+use Rattle.vx_command.specs.Elections.{election_in, plans_in, once_planned}
+use Rattle.vx_command.specs.Images.{unless_faulty_before}
+use Rattle.vx_command.specs.Laws.{TakenElectionsAreValid}
 use Rattle.vx_command.specs.Texts.{Wrote, texts_of, TextsInOrder}
 use Rattle.vx_command_check.specs.Answers.{certified_line, no_reading_line, reading_halt, names_checked, reading_checked, page_answer}
 use Rattle.vx_command_check.specs.Outcome.{counted_unless, pages_outcome, readings_outcome, readings_for, text_outcome, bytes_outcome, scans_outcome, check_outcome}
 use Rattle.vx_check.specs.Accepted.{AcceptedAreCertificates}
-use Rattle.vx_command_check.specs.Margin.{line_and, lines_checked, unless_faulty, images_taken, images_in, said_taken, said_in, CertifiedPagesSayWhatFits}
+use Rattle.vx_command_check.specs.Margin.{line_and, lines_checked, images_taken, images_in, said_taken, said_in, CertifiedPagesSayWhatFits}
 
 -- lines, one after another
 abbrev all_lines : List (List ℕ) → List ℕ
@@ -65,7 +64,7 @@ said-texts election images (Ok text) = pages-texts election 0 images (readings_f
 
 counted-texts : (election : Election) (fault : Option PbmFault) (count : ℕ) (images : List Bitmap) (next : Outcome) (said : List SaidPage)
     → texts_of next ≡ all_lines (lines_checked election 0 images said)
-    → texts_of (goes_on (counted_unless fault count) (λ (held : ℕ). next)) ≡ all_lines (lines_checked election 0 (unless_faulty fault images) said)
+    → texts_of (goes_on (counted_unless fault count) (λ (held : ℕ). next)) ≡ all_lines (lines_checked election 0 (unless_faulty_before fault images) said)
 counted-texts election None count images next said is = is
 counted-texts election (Some fault) count images next said is = refl
 
@@ -154,7 +153,7 @@ checked-accepted election number image said is =
     halt-accepted number (tested election image said.reading) first.1
 
 -- all images are whole
-faulty-whole : (fault : Option PbmFault) (images : List Bitmap) → All IsWholePage images → All IsWholePage (unless_faulty fault images)
+faulty-whole : (fault : Option PbmFault) (images : List Bitmap) → All IsWholePage images → All IsWholePage (unless_faulty_before fault images)
 faulty-whole None images all = all
 faulty-whole (Some fault) images all = All-nil IsWholePage
 
@@ -166,23 +165,12 @@ whole-at : (images : List Bitmap) (place : ℕ) (image : Bitmap) → All IsWhole
 whole-at images place image all at =
     subst IsWholePage (get_or_from_slice_get images place image image at) (all place image (slice_get_within images place image at))
 
--- the election that is read is one that bytes define
-defined-read : (defined : Result Election ElectionFault) (election : Election) → election_read defined ≡ Ok election → defined ≡ Ok election
-defined-read (Ok given) election is = let same : given ≡ election = cc in ap Ok same
-defined-read (Err fault) election is = absurd cc
-
-valid-read : DefinedElectionsAreValid → (file : Option (List ℕ)) (election : Election) → election_in file ≡ Ok election → IsValid election
-valid-read valid file election is =
-    let step : (bytes : List ℕ) × (input_of 1 input_limit file ≡ Ok bytes) × (election_read (election_of bytes) ≡ Ok election) =
-    bind_ok (input_of 1 input_limit file) (λ (bytes : List ℕ). election_read (election_of bytes)) election is in
-    valid step.0 election (defined-read (election_of step.0) election step.2)
-
 -- whatever stands of the acts of `check`, it certifies what fits
-pub certifies : AcceptedAreCertificates → TextsInOrder → DefinedElectionsAreValid → ImagesAreWhole → CertificatesSayWhatFits → CertifiedPagesSayWhatFits
-certifies accepted texts defined whole fitting name scans readings files taken taken_now held held_now answer done election plans is planned =
+pub certifies : AcceptedAreCertificates → TextsInOrder → TakenElectionsAreValid → ImagesAreWhole → CertificatesSayWhatFits → CertifiedPagesSayWhatFits
+certifies accepted texts taken_valid whole fitting name scans readings files taken taken_now held held_now answer done election plans is planned =
     let images : List Bitmap = images_in files scans in
     let said : List SaidPage = said_in election files readings in
-    let valid : IsValid election = valid-read defined (files name) election is in
+    let valid : IsValid election = taken_valid (files name) election is in
     record {
       wrote =
           subst (λ (text : List ℕ). Wrote text taken taken_now answer) (check-texts name scans readings files election plans is planned)

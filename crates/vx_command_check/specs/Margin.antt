@@ -9,7 +9,6 @@ use Rattle.vx_io.specs.Outside.{Files}
 use Rattle.vx_layout.specs.declared.pages.PagePlan.{PagePlan}
 use Rattle.vx_layout.specs.declared.plan.CardPlan.{CardPlan}
 use Rattle.vx_layout.specs.Printed.{PrintedPage}
-use Rattle.vx_pbm.specs.declared.fault.PbmFault.{PbmFault}
 use Rattle.vx_pbm.specs.Images.{images_of}
 use Rattle.vx_scan_model.specs.declared.reading.PageReading.{PageReading}
 use Rattle.vx_scan_model.specs.Certificate.{Certifies}
@@ -22,6 +21,7 @@ use Rattle.vx_command.specs.declared.halt.Halt.{Halt}
 use Rattle.vx_command.specs.Acts.{Answer, input_of, input_limit}
 use Rattle.vx_command.specs.Done.{Taken, Held, IsDone}
 use Rattle.vx_command.specs.Elections.{election_in, plans_in}
+use Rattle.vx_command.specs.Images.{unless_faulty_before}
 use Rattle.vx_command.specs.Texts.{Wrote}
 use Rattle.vx_command_check.specs.Answers.{certified_line, page_answer}
 use Rattle.vx_command_check.specs.Outcome.{readings_for, check_outcome}
@@ -40,13 +40,9 @@ lines_checked election done (image ∷ images) (said ∷ more) =
     line_and (page_answer election (done + 1) image said) (lines_checked election (done + 1) images more)
 
 -- the images of bytes that leave the grammar of bitmaps nowhere
-abbrev pub unless_faulty : Option PbmFault → List Bitmap → List Bitmap
-unless_faulty None images = images
-unless_faulty (Some fault) images = []
-
 abbrev pub images_taken : Result (List ℕ) Halt → List Bitmap
 images_taken (Err cause) = []
-images_taken (Ok bytes) = unless_faulty (images_of bytes).fault (images_of bytes).pages
+images_taken (Ok bytes) = unless_faulty_before (images_of bytes).fault (images_of bytes).pages
 
 -- the images that `check` tests
 abbrev pub images_in : Files → List ℕ → List Bitmap

@@ -3,8 +3,7 @@
 ghost use Rattle.vx_command_check.specs.Margin.{CertifiedPagesSayWhatFits};
 
 use vx_check::accepted_readings_are_certificates;
-use vx_command::texts_in_order;
-use vx_election::defined_elections_are_valid;
+use vx_command::{taken_elections_are_valid, texts_in_order};
 use vx_pbm::images_are_whole;
 use vx_scan_model::certificates_say_what_fits;
 
@@ -15,7 +14,7 @@ pub fn certified_pages_say_what_fits()
 {
     accepted_readings_are_certificates();
     texts_in_order();
-    defined_elections_are_valid();
+    taken_elections_are_valid();
     images_are_whole();
     certificates_say_what_fits();
 }

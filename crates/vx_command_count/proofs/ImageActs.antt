@@ -16,7 +16,7 @@ use Rattle.vx_command_count.specs.declared.counting.Counting.{Counting}
 use Rattle.vx_command_count.specs.Tally.{next_image}
 use Rattle.vx_command_count.specs.Sheets.{sheet_acts, counted_with}
 use Rattle.vx_command_count.specs.Outcome.{with_images}
-use Rattle.vx_command_count.specs.Reads.{IsReadOf}
+use Rattle.vx_sheet.specs.Reads.{IsReadOf}
 
 abbrev pub Read : Type 0
 Read = Result PageReading PageFault

@@ -1,5 +1,5 @@
 pub mod Waits
-pub mod Numbered
+pub mod Told
 pub mod SheetActs
 pub mod ImageActs
 pub mod PieceActs
@@ -7,7 +7,6 @@ pub mod ScanActs
 pub mod InputActs
 pub mod Sets
 pub mod Journals
-pub mod Fitting
 pub mod Held
 pub mod Recorded
 pub mod Standing

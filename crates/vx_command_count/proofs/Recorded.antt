@@ -11,19 +11,21 @@ use Rattle.vx_layout.specs.declared.plan.CardPlan.{CardPlan}
 use Rattle.vx_pbm.specs.declared.fault.PbmFault.{PbmFault}
 use Rattle.vx_pbm.specs.Images.{images_of}
 use Rattle.vx_records.specs.Records.{header_of}
+use Rattle.vx_sheet.specs.Events.{event_of}
 use Rattle.vx_sheet.specs.Lines.{lines_of}
 use Rattle.vx_command.specs.declared.halt.Halt.{Halt}
 use Rattle.vx_command.specs.Acts.{Act, Append, Write, Outcome, goes_on, input_limit, input_of, records_of, taking}
 use Rattle.vx_command.specs.Elections.{election_in, once_planned, plans_in}
+use Rattle.vx_command.specs.Images.{images_and, images_in, unless_faulty, unless_faulty_before}
 use Rattle.vx_journal.specs.declared.journal.Journal.{Journal}
 use Rattle.vx_journal.specs.Keeping.{begin_acts, has_none, journal_in, journal_read}
 use Rattle.vx_journal.specs.Replay.{replay_of}
 use Rattle.vx_journal.specs.Steps.{once_read}
 use Rattle.vx_command_count.specs.declared.counting.Counting.{Counting}
 use Rattle.vx_command_count.specs.Gathering.{waits}
-use Rattle.vx_command_count.specs.Margin.{header_if_none, images_and, images_in, unless_faulty_before}
-use Rattle.vx_command_count.specs.Outcome.{count_outcome, journal_outcome, read_next, scan_outcome, scans_outcome, unless_faulty, with_images}
-use Rattle.vx_command_count.specs.Sheets.{came_of, counted_with, event_of, keep_if}
+use Rattle.vx_command_count.specs.Margin.{header_if_none}
+use Rattle.vx_command_count.specs.Outcome.{count_outcome, journal_outcome, read_next, scan_outcome, scans_outcome, with_images}
+use Rattle.vx_command_count.specs.Sheets.{came_if, counted_with, keep_if}
 use Rattle.vx_command_count.specs.Tally.{next_number, none_counted}
 
 -- the records that the sheets of images append, of two images each
@@ -49,7 +51,7 @@ module _ (election : Election) (batch : List ℕ) where
   images-records (first ∷ (second ∷ images)) counting more rest is =
       let read = read_next election counting first second in
       let kept : List Act = keep_if counting.journal (event_of batch (next_number counting.tally) read) in
-      let told : List Act = Write (lines_of election batch (next_number counting.tally) (came_of counting.journal batch (next_number counting.tally) read)) ∷ [] in
+      let told : List Act = Write (lines_of election batch (next_number counting.tally) (came_if counting.journal (event_of batch (next_number counting.tally) read))) ∷ [] in
       flat_map-append records_of (kept ++ told) (with_images election batch (counted_with batch counting read) images rest).acts
       ∙ ap₂ (λ (a b : List (List ℕ)). a ++ b)
       (flat_map-append records_of kept told ∙ append-nil (flat_map records_of kept))

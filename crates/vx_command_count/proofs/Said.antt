@@ -27,7 +27,8 @@ use Rattle.vx_scan_model.specs.Fits.{FitsUpright, state_of_mark}
 use Rattle.vx_sheet.specs.Sheet.{contest_limit, has_bubble}
 use Rattle.vx_styles.specs.Cards.{contests_from, contests_of_card, has_contest, style_of_card}
 use Rattle.vx_center.specs.Sheets.{marks_on}
-use Rattle.vx_command_count.specs.Margin.{FitsPages, MarkedSheet, MarkedSheetsSayEachMark, SaysEachMark, back_of, contest_marked, front_of, marks_of, sheet_marked, state_in}
+use Rattle.vx_sheet.specs.Margin.{FitsPages, MarkedSheet, back_of, contest_marked, front_of, marks_of, sheet_marked}
+use Rattle.vx_command_count.specs.Margin.{MarkedSheetsSayEachMark, SaysEachMark, state_in}
 
 -- the options of a contest among some options
 abbrev picks : ℕ → List (ℕ × ℕ) → List ℕ

@@ -16,7 +16,8 @@ use Rattle.vx_command.specs.Laws.{ActLaws}
 use Rattle.vx_command_count.specs.declared.counting.Counting.{Counting}
 use Rattle.vx_command_count.specs.declared.gathering.Ended.TheVariants.{NotYet, AtEnd, AtFault}
 use Rattle.vx_command_count.specs.Gathering.{LeavesPiece, waits}
-use Rattle.vx_command_count.specs.Outcome.{scan_outcome, unless_faulty, with_images}
+use Rattle.vx_command.specs.Images.{unless_faulty}
+use Rattle.vx_command_count.specs.Outcome.{scan_outcome, with_images}
 
 -- what comes behind the images of a scan
 abbrev pub then_next : ℕ → Option PbmFault → (Counting → List Page → Outcome) → Counting → List Page → Outcome

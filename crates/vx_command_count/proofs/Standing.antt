@@ -5,22 +5,18 @@ use Rattle.std.specs.List.{flat_map, position_from}
 use Rattle.std.proofs.lemmas.Bool.{cond-true, cond-false}
 use Rattle.std.proofs.lemmas.List.Elements.{All-nil, All-cons, All-append}
 use Rattle.std.proofs.lemmas.Option.{slice_get_within, get_or_from_slice_get}
+use Rattle.vx_base.proofs.Booleans.{and-no}
 use Rattle.vx_base.proofs.Numbers.{below-no, below-yes, equal-no}
-use Rattle.vx_base.proofs.Results.{bind_ok}
 use Rattle.vx_plane.specs.Plane.{Page}
 use Rattle.vx_center.specs.Replies.{add_reply, event_limit, is_done}
 use Rattle.vx_center.specs.Sheets.{added_from, has_key, place_in, same_key}
-use Rattle.vx_election.specs.declared.fault.ElectionFault.{ElectionFault}
-use Rattle.vx_election.specs.Laws.{DefinedElectionsAreValid}
-use Rattle.vx_election.specs.Reading.{election_of}
 use Rattle.vx_election_model.specs.declared.election.Election.{Election}
 use Rattle.vx_election_model.specs.Valid.{IsValid}
 use Rattle.vx_events.specs.declared.event.Event.{Event}
 use Rattle.vx_events.specs.declared.event.Event.TheVariants.{Add, Claim, Release, Decide}
 use Rattle.vx_events.specs.declared.key.Key.{Key}
 use Rattle.vx_io.specs.Outside.{Files}
-use Rattle.vx_pbm.specs.declared.fault.PbmFault.{PbmFault}
-use Rattle.vx_pbm.specs.Images.{ImagesAreWhole, IsWholePage, images_of}
+use Rattle.vx_pbm.specs.Images.{IsWholePage}
 use Rattle.vx_records.specs.Records.{record_of}
 use Rattle.vx_refusals.specs.declared.reply.Reply.{Reply}
 use Rattle.vx_refusals.specs.declared.reply.Reply.TheVariants.{Done}
@@ -29,17 +25,19 @@ use Rattle.vx_scan_model.specs.Reading.{reading_of}
 use Rattle.vx_sheet.specs.declared.came.Came.{Came}
 use Rattle.vx_sheet.specs.declared.came.Came.TheVariants.{Added, Beyond, Full, Repeated, Single, Unpaired, Unread}
 use Rattle.vx_sheet.specs.Came.{sheet_read}
+use Rattle.vx_sheet.specs.Events.{event_of, number_limit}
 use Rattle.vx_sheet.specs.Lines.{lines_of}
-use Rattle.vx_command.specs.declared.halt.Halt.{Halt}
-use Rattle.vx_command.specs.Acts.{Act, Append, Write, input_limit, input_of, records_of}
-use Rattle.vx_command.specs.Elections.{election_in, election_read}
+use Rattle.vx_sheet.specs.Margin.{FittingSheetsAreRead, sheet_marked}
+use Rattle.vx_command.specs.Acts.{Act, Append, Write, records_of}
+use Rattle.vx_command.specs.Images.{ScannedImagesAreWhole, images_in}
+use Rattle.vx_command.specs.Laws.{TakenElectionsAreValid}
 use Rattle.vx_journal.specs.declared.journal.Journal.{Journal}
 use Rattle.vx_journal.specs.Keeping.{reply_in}
 use Rattle.vx_command_count.specs.declared.counting.Counting.{Counting}
 use Rattle.vx_command_count.specs.declared.tally.Tally.{Tally}
-use Rattle.vx_command_count.specs.Margin.{BeginsWith, FittingSheetsAreAdded, FittingSheetsAreKept, FittingSheetsAreRead, IsOfEarlier, KeepsFront, header_if_none, images_and, images_in, key_at, sheet_marked, unless_faulty_before}
+use Rattle.vx_command_count.specs.Margin.{BeginsWith, FittingSheetsAreAdded, FittingSheetsAreKept, IsOfEarlier, KeepsFront, header_if_none, key_at}
 use Rattle.vx_command_count.specs.Outcome.{count_outcome, read_next}
-use Rattle.vx_command_count.specs.Sheets.{added_by, came_by, came_if, came_of, counted_with, event_of, journal_if, keep_if, sheet_acts}
+use Rattle.vx_command_count.specs.Sheets.{came_by, came_if, counted_with, journal_if, keep_if, sheet_acts}
 use Rattle.vx_command_count.specs.Tally.{next_image, next_number, tally_with}
 use Rattle.vx_command_count.proofs.Held.{kept-records}
 use Rattle.vx_command_count.proofs.Recorded.{begun, count-records, sheet_records}
@@ -50,14 +48,14 @@ key-of batch number = record { batch = batch; number = number }
 
 -- a sheet with a new key and a number that may be is added where there is room
 record IsAddedTo (journal : Journal) (batch : List ℕ) (number : ℕ) (sheet : SheetMarks) : Type 0 where
-  acts : keep_if journal (added_by batch number sheet) ≡ Append (record_of (Add (key-of batch number) sheet)) ∷ []
-  came : came_if journal (added_by batch number sheet) ≡ Added sheet
+  acts : keep_if journal (event_of batch number (Ok sheet)) ≡ Append (record_of (Add (key-of batch number) sheet)) ∷ []
+  came : came_if journal (event_of batch number (Ok sheet)) ≡ Added sheet
 
-added-to : (journal : Journal) (batch : List ℕ) (number : ℕ) (sheet : SheetMarks) → number ≤ 999999
+added-to : (journal : Journal) (batch : List ℕ) (number : ℕ) (sheet : SheetMarks) → number ≤ number_limit
     → place_in journal.center.events (key-of batch number) ≡ None → length journal.center.events < event_limit → IsAddedTo journal batch number sheet
 added-to journal batch number sheet most new room =
     let event : Event = Add (key-of batch number) sheet in
-    let is : added_by batch number sheet ≡ Some event = cond-false (nat_lt 999999 number) None (Some event) (below-no 999999 number most) in
+    let is : event_of batch number (Ok sheet) ≡ Ok event = cond-false (nat_lt number_limit number) (Err Beyond) (Ok event) (below-no number_limit number most) in
     let done : reply_in journal event ≡ Done =
     cond-true (nat_lt (length journal.center.events) event_limit) (add_reply (place_in journal.center.events (key-of batch number))) _ (below-yes (length journal.center.events) event_limit room)
     ∙ ap add_reply new in
@@ -76,10 +74,6 @@ sheets-added read election batch counting first second sheet valid first-whole s
     ∙ ap₂ (λ (acts : List Act) (came : Came). acts ++ Write (lines_of election batch number came) ∷ []) is.acts is.came
 
 -- a key stays new behind another key's sheet
-and-no : (a b : Bool) → b ≡ false → (a && b) ≡ false
-and-no true b fails = fails
-and-no false b fails = refl
-
 other-key : (batch : List ℕ) (one other : ℕ) → one < other → same_key (key-of batch other) (key-of batch one) ≡ false
 other-key batch one other less = and-no (bytes_eq batch batch) (other == one) (equal-no other one (λ e. absurd (omega (arith, e, less))))
 
@@ -128,15 +122,15 @@ module _ (batch : List ℕ) (number : ℕ) where
 
   by-number : (journal : Journal) (lower : ℕ) (sheet : SheetMarks) (beyond : Bool) → lower < number → place_in journal.center.events (key-of batch number) ≡ None
       → Goes journal.center.events
-      (journal_if journal (cond beyond None (Some (Add (key-of batch lower) sheet)))).center.events
-      (flat_map records_of (keep_if journal (cond beyond None (Some (Add (key-of batch lower) sheet))))) lower (key-of batch number)
+      (journal_if journal (cond beyond (Err Beyond) (Ok (Add (key-of batch lower) sheet)))).center.events
+      (flat_map records_of (keep_if journal (cond beyond (Err Beyond) (Ok (Add (key-of batch lower) sheet))))) lower (key-of batch number)
   by-number journal lower sheet true less new = record { grown = omega arith; few = omega arith; is = All-nil (IsNumbered batch lower); new = new }
   by-number journal lower sheet false less new = by-reply journal lower sheet (is_done (reply_in journal (Add (key-of batch lower) sheet))) less new
 
   goes : (journal : Journal) (lower : ℕ) (read : Result SheetMarks Came) → lower < number → place_in journal.center.events (key-of batch number) ≡ None
       → Goes journal.center.events (journal_if journal (event_of batch lower read)).center.events
       (flat_map records_of (keep_if journal (event_of batch lower read))) lower (key-of batch number)
-  goes journal lower (Ok sheet) less new = by-number journal lower sheet (nat_lt 999999 lower) less new
+  goes journal lower (Ok sheet) less new = by-number journal lower sheet (nat_lt number_limit lower) less new
   goes journal lower (Err came) less new = record { grown = omega arith; few = omega arith; is = All-nil (IsNumbered batch lower); new = new }
 
 -- each sheet has the next number
@@ -183,7 +177,7 @@ stands-behind batch lower number kept now added place body records some less goe
       stands = λ room. it.stands (omega (arith, size, room, goes.grown));
     }
 
-module _ (election : Election) (batch : List ℕ) (first second : Page) (sheet : SheetMarks) (number : ℕ) (most : number ≤ 999999)
+module _ (election : Election) (batch : List ℕ) (first second : Page) (sheet : SheetMarks) (number : ℕ) (most : number ≤ number_limit)
     (read : (image : ℕ) → sheet_read election image (reading_of election first) (reading_of election second) ≡ Ok sheet) where
   -- the sheet comes first
   first-stands : (counting : Counting) (images : List Page) → next_number counting.tally ≡ number → place_in counting.journal.center.events (key-of batch number) ≡ None
@@ -227,7 +221,7 @@ module _ (election : Election) (batch : List ℕ) (first second : Page) (sheet :
       let went = goes batch number counting.journal (next_number counting.tally) next (omega (arith, is)) new in
       let two : 2 * suc place ≡ suc (suc (2 * place)) = omega arith in
       let three : 2 * suc place + 1 ≡ suc (suc (2 * place + 1)) = omega arith in
-      let count = numbered counting.tally (came_of counting.journal batch (next_number counting.tally) next) in
+      let count = numbered counting.tally (came_if counting.journal (event_of batch (next_number counting.tally) next)) in
       stands-behind batch (next_number counting.tally) number counting.journal.center.events now.journal.center.events
       (flat_map records_of (keep_if counting.journal (event_of batch (next_number counting.tally) next))) place
       (record_of (Add (key-of batch number) sheet)) (sheet_records election batch now images) (omega arith) (omega (arith, is)) went
@@ -246,44 +240,13 @@ earlier-of batch place body it =
       is = it.is ∙ ap (λ (n : ℕ). record_of (Add (key-of batch n) it.sheet)) number;
     }
 
--- all images are whole
-unless-whole : (fault : Option PbmFault) (more : List Page) → All IsWholePage more → All IsWholePage (unless_faulty_before fault more)
-unless-whole None more all = all
-unless-whole (Some fault) more all = All-nil IsWholePage
-
-and-whole : ImagesAreWhole → (given : Result (List ℕ) Halt) (more : List Page) → All IsWholePage more → All IsWholePage (images_and given more)
-and-whole whole (Err cause) more all = All-nil IsWholePage
-and-whole whole (Ok bytes) more all =
-    All-append IsWholePage (images_of bytes).pages (unless_faulty_before (images_of bytes).fault more) (whole bytes) (unless-whole (images_of bytes).fault more all)
-
-in-whole : ImagesAreWhole → (files : Files) (word : ℕ) (names : List (List ℕ)) → All IsWholePage (images_in files word names)
-in-whole whole files word [] = All-nil IsWholePage
-in-whole whole files word (name ∷ names) =
-    and-whole whole (input_of word input_limit (files name)) (images_in files (word + 1) names) (in-whole whole files (word + 1) names)
-
-whole-at : (images : List Page) (place : ℕ) (image : Page) → All IsWholePage images → slice_get images place ≡ Some image → IsWholePage image
-whole-at images place image all at =
-    subst IsWholePage (get_or_from_slice_get images place image image at) (all place image (slice_get_within images place image at))
-
--- the election that is read is one that bytes define
-defined-read : (defined : Result Election ElectionFault) (election : Election) → election_read defined ≡ Ok election → defined ≡ Ok election
-defined-read (Ok given) election is = let same : given ≡ election = cc in ap Ok same
-defined-read (Err fault) election is = absurd cc
-
-valid-read : DefinedElectionsAreValid → (file : Option (List ℕ)) (election : Election) → election_in file ≡ Ok election → IsValid election
-valid-read valid file election is =
-    let step : (bytes : List ℕ) × (input_of 1 input_limit file ≡ Ok bytes) × (election_read (election_of bytes) ≡ Ok election) =
-    bind_ok (input_of 1 input_limit file) (λ (bytes : List ℕ). election_read (election_of bytes)) election is in
-    valid step.0 election (defined-read (election_of step.0) election step.2)
-
 -- whatever stands of the acts of `count`, it keeps what fits
-pub keeps : DefinedElectionsAreValid → ImagesAreWhole → FittingSheetsAreRead → FittingSheetsAreKept
-keeps defined whole fitting name batch scans files records taken taken_now held held_now answer done election plans events is planned replayed place first second sheet one other fits most new =
+pub keeps : TakenElectionsAreValid → ScannedImagesAreWhole → FittingSheetsAreRead → FittingSheetsAreKept
+keeps taken_valid scanned fitting name batch scans files records taken taken_now held held_now answer done election plans events is planned replayed place first second sheet one other fits most new =
     let images : List Page = images_in files 4 scans in
-    let valid : IsValid election = valid-read defined (files name) election is in
-    let all : All IsWholePage images = in-whole whole files 4 scans in
-    let first-whole : IsWholePage first = whole-at images (2 * place) first all one in
-    let second-whole : IsWholePage second = whole-at images (2 * place + 1) second all other in
+    let valid : IsValid election = taken_valid (files name) election is in
+    let first-whole : IsWholePage first = scanned files 4 scans (2 * place) first one in
+    let second-whole : IsWholePage second = scanned files 4 scans (2 * place + 1) second other in
     let it : Stands batch (place + 1) events place (record_of (Add (key_at batch place) (sheet_marked sheet))) (sheet_records election batch (begun election records events) images) =
     sheet-stands election batch first second (sheet_marked sheet) (place + 1) (omega (arith, most))
     (λ image. fitting election image first second sheet valid first-whole.whole second-whole.whole fits)

@@ -1,10 +1,8 @@
 -- What `count` keeps of scans that fit printed pages: where the two images of a sheet fit the front and the back of a
 -- card, its record stands among those that are appended, with the marks of both pages.
-use Rattle.std.specs.Prelude.{All, ◌≡◌, ◌⊎◌, ◌<◌, ◌≤◌, ℕ, ◌+◌, ◌*◌, ◌%◌, ◌==◌, ◌||◌, if◌then◌else◌, List, [], ◌∷◌, ◌++◌, length, map, slice_get, Bool, false, Option, Some, None, Result, Ok, Err}
-use Rattle.std.specs.List.{flat_map, range_with_len}
+use Rattle.std.specs.Prelude.{All, ◌≡◌, ◌<◌, ◌≤◌, ℕ, ◌+◌, ◌*◌, if◌then◌else◌, List, [], ◌∷◌, ◌++◌, length, slice_get, Bool, false, Option, Some, None, Ok}
 use Rattle.vx_plane.specs.Plane.{Page}
 use Rattle.vx_count.specs.Turned.{IsWhole}
-use Rattle.vx_grid.specs.declared.kind.Kind.{Kind}
 use Rattle.vx_grid.specs.declared.state.State.{State}
 use Rattle.vx_center.specs.Replies.{event_limit}
 use Rattle.vx_center.specs.Sheets.{marks_on, place_in}
@@ -17,22 +15,18 @@ use Rattle.vx_io.specs.Outside.{Files}
 use Rattle.vx_layout.specs.declared.bubbles.Bubble.{Bubble}
 use Rattle.vx_layout.specs.declared.pages.PagePlan.{PagePlan}
 use Rattle.vx_layout.specs.declared.plan.CardPlan.{CardPlan}
-use Rattle.vx_layout.specs.Printed.{PrintedPage}
-use Rattle.vx_pbm.specs.declared.fault.PbmFault.{PbmFault}
-use Rattle.vx_pbm.specs.Images.{images_of}
 use Rattle.vx_records.specs.Records.{header_of, record_of}
 use Rattle.vx_rules.specs.declared.marks.ContestMarks.{ContestMarks}
 use Rattle.vx_rules.specs.declared.marks.SheetMarks.{SheetMarks}
-use Rattle.vx_scan_model.specs.Fits.{Fits, state_of_mark}
-use Rattle.vx_scan_model.specs.Reading.{reading_of}
+use Rattle.vx_scan_model.specs.Fits.{state_of_mark}
 use Rattle.vx_sheet.specs.declared.came.Came.TheVariants.{Added}
-use Rattle.vx_sheet.specs.Came.{sheet_read}
+use Rattle.vx_sheet.specs.Events.{number_limit}
 use Rattle.vx_sheet.specs.Lines.{lines_of}
-use Rattle.vx_sheet.specs.Sheet.{contest_limit, has_bubble}
-use Rattle.vx_command.specs.declared.halt.Halt.{Halt}
-use Rattle.vx_command.specs.Acts.{Append, Write, Answer, input_limit, input_of}
+use Rattle.vx_sheet.specs.Margin.{FitsSheet, MarkedSheet, sheet_marked}
+use Rattle.vx_command.specs.Acts.{Append, Write, Answer}
 use Rattle.vx_command.specs.Done.{Taken, Held, Keeps, IsDone}
 use Rattle.vx_command.specs.Elections.{election_in, plans_in}
+use Rattle.vx_command.specs.Images.{images_in}
 use Rattle.vx_command.specs.Texts.{broke_off}
 use Rattle.vx_journal.specs.Keeping.{has_none}
 use Rattle.vx_journal.specs.Replay.{replay_of}
@@ -40,68 +34,6 @@ use Rattle.vx_command_count.specs.declared.counting.Counting.{Counting}
 use Rattle.vx_command_count.specs.Tally.{next_number}
 use Rattle.vx_command_count.specs.Sheets.{sheet_acts}
 use Rattle.vx_command_count.specs.Outcome.{count_outcome, read_next}
-
--- A sheet that was printed and marked: the front of a card and its back, of one kind, both of test ballots or neither,
--- with the plan of each of the two pages, and for each of its bubbles whether it is marked.
-pub record MarkedSheet : Type 0 where
-  pub card : ℕ
-  pub front : ℕ
-  pub kind : Kind
-  pub test : Bool
-  pub front_plan : PagePlan
-  pub front_marks : List Bool
-  pub back_plan : PagePlan
-  pub back_marks : List Bool
-
--- its two pages, whose numbers follow each other
-abbrev pub front_of : MarkedSheet → PrintedPage
-front_of sheet = record { card = sheet.card; page = sheet.front; kind = sheet.kind; test = sheet.test }
-
-abbrev pub back_of : MarkedSheet → PrintedPage
-back_of sheet = record { card = sheet.card; page = sheet.front + 1; kind = sheet.kind; test = sheet.test }
-
--- which bubbles of a contest on a page are marked, in the order of its options
-abbrev pub marks_of : ℕ → List Bubble → List Bool → List Bool
-marks_of contest [] marks = []
-marks_of contest (bubble ∷ bubbles) [] = []
-marks_of contest (bubble ∷ bubbles) (mark ∷ marks) =
-    (if bubble.contest == contest then mark ∷ [] else []) ++ marks_of contest bubbles marks
-
--- a contest of the sheet: each option Marked where its bubble is, else Clear
-abbrev pub contest_marked : MarkedSheet → ℕ → ContestMarks
-contest_marked sheet contest = record {
-  contest = contest;
-  states =
-      map state_of_mark
-      (marks_of contest sheet.front_plan.bubbles sheet.front_marks ++ marks_of contest sheet.back_plan.bubbles sheet.back_marks);
-}
-
--- the same, if it has a bubble on either page
-abbrev pub contest_if_on : MarkedSheet → ℕ → List ContestMarks
-contest_if_on sheet contest =
-    if has_bubble contest sheet.front_plan.bubbles || has_bubble contest sheet.back_plan.bubbles
-    then contest_marked sheet contest ∷ [] else []
-
--- what the sheet has to be counted as: its card, its front, its kind, and the contests with a bubble on either page
-abbrev pub sheet_marked : MarkedSheet → SheetMarks
-sheet_marked sheet = record {
-  card = sheet.card;
-  front = sheet.front;
-  kind = sheet.kind;
-  test = sheet.test;
-  contests = flat_map (contest_if_on sheet) (range_with_len 0 contest_limit);
-}
-
--- one image fits the front of a sheet, and another its back
-abbrev pub FitsPages : Election → Page → Page → MarkedSheet → Type 0
-FitsPages election front back sheet =
-    Fits election front (front_of sheet) sheet.front_plan sheet.front_marks
-    × Fits election back (back_of sheet) sheet.back_plan sheet.back_marks
-
--- two images fit the facing pages of a sheet, in either order
-pub record FitsSheet (election : Election) (first second : Page) (sheet : MarkedSheet) : Type 0 where
-  pub odd : sheet.front % 2 ≡ 1
-  pub either : FitsPages election first second sheet ⊎ FitsPages election second first sheet
 
 -- what a sheet has of an option of a contest, if it has the contest
 abbrev pub state_in : Option ContestMarks → ℕ → Option State
@@ -122,42 +54,18 @@ MarkedSheetsSayEachMark =
     → SaysEachMark (sheet_marked sheet) sheet.front_plan sheet.front_marks
     × SaysEachMark (sheet_marked sheet) sheet.back_plan sheet.back_marks
 
--- two images that fit a sheet are read and paired as that sheet, with those marks
-abbrev pub FittingSheetsAreRead : Type 0
-FittingSheetsAreRead =
-    (election : Election) (image : ℕ) (first second : Page) (sheet : MarkedSheet)
-    → IsValid election → IsWhole first → IsWhole second → FitsSheet election first second sheet
-    → sheet_read election image (reading_of election first) (reading_of election second) ≡ Ok (sheet_marked sheet)
-
--- where its key is new, its number at most 999,999 and the machine not full, its record is appended, and then it is told
--- as added
+-- of two images that fit a sheet, where its key is new, its number at most 999,999 and the machine not full, its record
+-- is appended, and then it is told as added
 abbrev pub FittingSheetsAreAdded : Type 0
 FittingSheetsAreAdded =
     (election : Election) (batch : List ℕ) (counting : Counting) (first second : Page) (sheet : MarkedSheet)
     → IsValid election → IsWhole first → IsWhole second → FitsSheet election first second sheet
-    → next_number counting.tally ≤ 999999
+    → next_number counting.tally ≤ number_limit
     → place_in counting.journal.center.events (record { batch = batch; number = next_number counting.tally }) ≡ None
     → length counting.journal.center.events < event_limit
     → sheet_acts election batch counting (read_next election counting first second)
     ≡ Append (record_of (Add (record { batch = batch; number = next_number counting.tally }) (sheet_marked sheet)))
     ∷ Write (lines_of election batch (next_number counting.tally) (Added (sheet_marked sheet))) ∷ []
-
--- pages that are read, unless a fault comes before them
-abbrev pub unless_faulty_before : Option PbmFault → List Page → List Page
-unless_faulty_before None pages = pages
-unless_faulty_before (Some fault) pages = []
-
--- the images of an input that was taken, and then more of them; none where it wasn't
-abbrev pub images_and : Result (List ℕ) Halt → List Page → List Page
-images_and (Err cause) more = []
-images_and (Ok bytes) more = (images_of bytes).pages ++ unless_faulty_before (images_of bytes).fault more
-
--- all images of the scans that the words from one on name, in order: up to the first scan that isn't there, is too long
--- or leaves the grammar of bitmaps
-abbrev pub images_in : Files → ℕ → List (List ℕ) → List Page
-images_in files word [] = []
-images_in files word (name ∷ names) =
-    images_and (input_of word input_limit (files name)) (images_in files (word + 1) names)
 
 -- a keeper has records of a list more, from its front on: all of them, unless the command broke off
 pub record KeepsFront (list : List (List ℕ)) (held held_now : Held) (answer : Answer) : Type 0 where
@@ -205,7 +113,7 @@ abbrev pub KeepsWhatFits : Election → List ℕ → List Page → List (List �
 KeepsWhatFits election batch images records events held held_now answer =
     (place : ℕ) (first second : Page) (sheet : MarkedSheet)
     → slice_get images (2 * place) ≡ Some first → slice_get images (2 * place + 1) ≡ Some second
-    → FitsSheet election first second sheet → place + 1 ≤ 999999 → place_in events (key_at batch place) ≡ None
+    → FitsSheet election first second sheet → place + 1 ≤ number_limit → place_in events (key_at batch place) ≡ None
     → KeepsSheet election batch records events place (record_of (Add (key_at batch place) (sheet_marked sheet))) held held_now answer
 
 -- so `count` keeps the sheets of scans, where the election under a name can be read, its cards can be planned, and the

@@ -1,10 +1,9 @@
 -- What `count` does: it takes its election, reads the journal, and then takes scan after scan, each of which it reads
 -- image after image; two images are a sheet, also where the second is the first of the next scan.
-use Rattle.std.specs.Prelude.{ℕ, ◌+◌, ◌++◌, ◌∷◌, [], List, Option, Some, None, Result}
+use Rattle.std.specs.Prelude.{ℕ, ◌+◌, ◌++◌, ◌∷◌, [], List, Result}
 use Rattle.vx_plane.specs.Plane.{Page}
 use Rattle.vx_election_model.specs.declared.election.Election.{Election}
 use Rattle.vx_io.specs.Outside.{Files}
-use Rattle.vx_pbm.specs.declared.fault.PbmFault.{PbmFault}
 use Rattle.vx_pbm.specs.Images.{Images, images_of}
 use Rattle.vx_rules.specs.declared.marks.SheetMarks.{SheetMarks}
 use Rattle.vx_scan_model.specs.Reading.{reading_of}
@@ -12,9 +11,9 @@ use Rattle.vx_sheet.specs.declared.came.Came.{Came}
 use Rattle.vx_sheet.specs.declared.came.Came.TheVariants.{Single}
 use Rattle.vx_sheet.specs.Came.{sheet_read}
 use Rattle.vx_sheet.specs.Lines.{lines_of, counted_line}
-use Rattle.vx_command.specs.declared.halt.Halt.TheVariants.{Pbm}
-use Rattle.vx_command.specs.Acts.{Act, Write, Outcome, work, halted, after, once_taken, input_limit}
+use Rattle.vx_command.specs.Acts.{Act, Write, Outcome, work, after, once_taken, input_limit}
 use Rattle.vx_command.specs.Elections.{once_election, once_planned}
+use Rattle.vx_command.specs.Images.{unless_faulty}
 use Rattle.vx_journal.specs.declared.journal.Journal.{Journal}
 use Rattle.vx_journal.specs.Keeping.{begin_acts}
 use Rattle.vx_journal.specs.Steps.{once_read}
@@ -35,11 +34,6 @@ with_images election batch counting (single ∷ []) rest = rest counting (single
 with_images election batch counting (first ∷ (second ∷ images)) rest =
     after (sheet_acts election batch counting (read_next election counting first second))
     (with_images election batch (counted_with batch counting (read_next election counting first second)) images rest)
-
--- what comes after the images of a scan, unless a fault ended them
-abbrev pub unless_faulty : ℕ → Option PbmFault → Outcome → Outcome
-unless_faulty word None next = next
-unless_faulty word (Some fault) next = halted (Pbm word fault)
 
 -- the images of the scan of a word, behind one that waits, and then what comes next
 abbrev pub scan_outcome : Election → List ℕ → ℕ → Counting → List Page → Images → (Counting → List Page → Outcome) → Outcome

@@ -1,5 +1,5 @@
 -- How many sheets were counted, and what they came to.
-use Rattle.std.specs.Prelude.{ℕ, ◌+◌, ◌*◌}
+use Rattle.std.specs.Prelude.{ℕ, ◌+◌, ◌-◌, ◌*◌}
 use Rattle.vx_sheet.specs.declared.came.Came.{Came}
 use Rattle.vx_sheet.specs.declared.came.Came.TheVariants.{Added, Repeated}
 use Rattle.vx_command_count.specs.declared.tally.Tally.{Tally}
@@ -18,7 +18,7 @@ next_number tally = sheets_in tally + 1
 
 -- the number of its first image: sheet n is the images 2n - 1 and 2n
 abbrev pub next_image : Tally → ℕ
-next_image tally = 2 * sheets_in tally + 1
+next_image tally = 2 * next_number tally - 1
 
 -- with one sheet more: added, repeated, or one of all the others
 abbrev pub tally_with : Tally → Came → Tally

@@ -5,36 +5,34 @@ ghost use Rattle.vx_command_count.specs.Laws.{CountKeepsJournals};
 ghost use Rattle.vx_command_count.specs.Margin.{
   FittingSheetsAreAdded,
   FittingSheetsAreKept,
-  FittingSheetsAreRead,
   MarkedSheetsSayEachMark,
 };
 
-use vx_election::defined_elections_are_valid;
-use vx_journal::{headers_begin_journals, journals_grow};
+use vx_center::replies_are_done_or_refuse;
+use vx_command::{scanned_images_are_whole, taken_elections_are_valid};
+use vx_journal::{begun_journals_are_journals, headers_begin_journals, journals_grow};
 use vx_layout::{plans_are_numbered, plans_show_each_option, plans_stand_on_the_grid};
-use vx_pbm::images_are_whole;
-use vx_scan_model::fitting_scans_are_read;
-use vx_sheet::paired_sheets_can_be_added;
+use vx_sheet::{fitting_sheets_are_read, sheet_events_are_keepable};
 
 /// A journal stays one behind each record that `count` appends.
 pub fn count_keeps_journals()
     ensures { CountKeepsJournals }
 {
-    defined_elections_are_valid();
+    taken_elections_are_valid();
+    replies_are_done_or_refuse();
+    begun_journals_are_journals();
     headers_begin_journals();
     journals_grow();
-    plans_show_each_option();
-    paired_sheets_can_be_added();
+    sheet_events_are_keepable();
 }
 
-/// Two images that fit the facing pages of a sheet, in either order, are read and paired as that sheet, with
-/// their marks. Where its key is new, its number at most 999,999 and the machine not full, its record is
-/// appended, and then its lines are written.
+/// Two images that fit the facing pages of a sheet, in either order, are counted as that sheet: where its
+/// key is new, its number at most 999,999 and the machine not full, its record is appended, and then its
+/// lines are written.
 pub fn fitting_sheets_are_added()
-    ensures read { FittingSheetsAreRead }
-    ensures added { FittingSheetsAreAdded }
+    ensures { FittingSheetsAreAdded }
 {
-    fitting_scans_are_read();
+    fitting_sheets_are_read();
 }
 
 /// However far the acts of `count` are done, the record of each such sheet stands in its place among those
@@ -42,9 +40,9 @@ pub fn fitting_sheets_are_added()
 pub fn fitting_sheets_are_kept()
     ensures { FittingSheetsAreKept }
 {
-    defined_elections_are_valid();
-    images_are_whole();
-    fitting_sheets_are_added();
+    taken_elections_are_valid();
+    scanned_images_are_whole();
+    fitting_sheets_are_read();
 }
 
 /// What a sheet that two images fit is counted as says of each bubble of both pages, at its contest and its

@@ -2,7 +2,7 @@ ghost use Rattle.std.specs.Prelude.{◌≡◌, ◌<◌, ◌+◌, ◌*◌, ◌%�
 ghost use Rattle.std.specs.List.{AllZip};
 ghost use Rattle.vx_plane.specs.Plane.{Page};
 ghost use Rattle.vx_command_count.specs.Devices.{TouchesBoth};
-ghost use Rattle.vx_command_count.specs.Reads.{IsReadOf};
+ghost use Rattle.vx_sheet.specs.Reads.{IsReadOf};
 ghost use Rattle.vx_command_count.specs.Setting.{IsSet};
 ghost use Rattle.vx_command_count.specs.Steps.{CountsTo};
 ghost use Rattle.vx_command_count.specs.Tally.{sheets_in};

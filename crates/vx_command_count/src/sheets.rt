@@ -1,4 +1,4 @@
-ghost use Rattle.std.specs.Prelude.{◌≡◌, ◌<◌, ◌≤◌, ◌+◌, ◌^◌, Some, IfErr, IfOk, OnOk, false};
+ghost use Rattle.std.specs.Prelude.{◌≡◌, ◌<◌, ◌+◌, ◌^◌, IfErr, IfOk, OnOk, false};
 ghost use Rattle.vx_events.specs.Fits.{Fits};
 ghost use Rattle.vx_journal.specs.Keeping.{keep_acts, reply_in, journal_with};
 ghost use Rattle.vx_command.specs.Acts.{work, writing};
@@ -7,24 +7,21 @@ ghost use Rattle.vx_command.specs.Done.{IsDone, IsWritten};
 ghost use Rattle.vx_journal.specs.Steps.{IsRecorded, TouchesKeeper, answer_of};
 ghost use Rattle.vx_sheet.specs.Lines.{lines_of};
 ghost use Rattle.vx_sheet.specs.Came.{sheet_read};
-ghost use Rattle.vx_sheet.specs.Shows.{CanBeAdded, IsOfPage, IsReadAll};
+ghost use Rattle.vx_sheet.specs.Shows.{IsOfPage, IsReadAll};
 ghost use Rattle.vx_command_count.specs.Devices.{TouchesBoth};
 ghost use Rattle.vx_command_count.specs.Setting.{IsSet};
 ghost use Rattle.vx_command_count.specs.Sheets as spec;
-ghost use Rattle.vx_command_count.specs.Tally.{next_image as next_image_of, sheets_in};
+ghost use Rattle.vx_command_count.specs.Tally.{next_image, sheets_in};
 
 use crate::counting::Counting;
 use crate::setting::Setting;
-use crate::tally::{next_image, next_number, tally_with};
+use crate::tally::{next_number, tally_with};
 use std::alloc::Global;
-use vx_base::OutOfMemory;
 use vx_command::{Halt, acts_in_order, write_text};
-use vx_events::{Event, Key, Reply};
+use vx_events::{Event, Reply};
 use vx_io::{Keeper, Sink};
 use vx_journal::{Journal, keep_event};
-use vx_json::Text;
-use vx_rules::SheetMarks;
-use vx_sheet::{Came, PageRead, push_lines, read_sheet};
+use vx_sheet::{Came, PageRead, push_lines, read_event};
 
 /// What the sheet of an Add that is done comes to.
 fn came_done(event: Event) -> Came
@@ -65,103 +62,24 @@ fn keep_sheet<K: Keeper>(
     Ok(came_by(event, reply))
 }
 
-/// The event that adds a sheet.
-fn add_event(
-    alloc: Global,
-    batch: &str,
-    number: u32,
-    sheet: SheetMarks,
-) -> Result<Event, OutOfMemory>
-    ensures { IfOk result (λ event. event ≡ Event.Add (record { batch = batch.now; number = number }) sheet) }
-{
-    let key = Key {
-        batch: Text::from_str(alloc, batch)?,
-        number,
-    };
-    Ok(Event::Add { key, sheet })
-}
-
-/// Adds the sheet with a number that may be, and answers what it came to.
-fn add_numbered<K: Keeper>(
-    alloc: Global,
-    setting: &Setting<'_>,
-    number: u32,
-    journal: &mut Journal<'_>,
-    keeper: &mut K,
-    sheet: SheetMarks,
-) -> Result<Came, Halt>
-    requires set { IsSet setting.now }
-    requires election { journal.old.center.election ≡ setting.now.election.now }
-    requires some { 0 < number }
-    requires most { number ≤ 999999 }
-    requires added { CanBeAdded setting.now.election.now sheet }
-    ensures came { IfOk result (λ came. came ≡ spec.came_if journal.old
-        (Some (Event.Add (record { batch = setting.now.batch.now; number = number }) sheet))) }
-    ensures next { OnOk result (journal.new ≡ spec.journal_if journal.old
-        (Some (Event.Add (record { batch = setting.now.batch.now; number = number }) sheet))) }
-    ensures done { IsRecorded (spec.keep_if journal.old
-        (Some (Event.Add (record { batch = setting.now.batch.now; number = number }) sheet)))
-        (K.held keeper.old) (K.held keeper.new) (answer_of result) }
-    ensures keeper { TouchesKeeper (K.faults keeper.old) (K.faults keeper.new) result }
-{
-    acts_in_order();
-    let event = add_event(alloc, setting.batch, number, sheet)?;
-    keep_sheet(alloc, journal, keeper, event)
-}
-
-/// Adds the sheet with a number to the journal, unless its number is above 999,999, and answers what it
-/// came to.
-fn add_sheet<K: Keeper>(
-    alloc: Global,
-    setting: &Setting<'_>,
-    number: u64,
-    journal: &mut Journal<'_>,
-    keeper: &mut K,
-    sheet: SheetMarks,
-) -> Result<Came, Halt>
-    requires set { IsSet setting.now }
-    requires election { journal.old.center.election ≡ setting.now.election.now }
-    requires some { 0 < number }
-    requires added { CanBeAdded setting.now.election.now sheet }
-    ensures came { IfOk result (λ came.
-        came ≡ spec.came_if journal.old (spec.added_by setting.now.batch.now number sheet)) }
-    ensures next { OnOk result
-        (journal.new ≡ spec.journal_if journal.old (spec.added_by setting.now.batch.now number sheet)) }
-    ensures done { IsRecorded (spec.keep_if journal.old (spec.added_by setting.now.batch.now number sheet))
-        (K.held keeper.old) (K.held keeper.new) (answer_of result) }
-    ensures keeper { TouchesKeeper (K.faults keeper.old) (K.faults keeper.new) result }
-{
-    acts_in_order();
-    if number > 999_999 {
-        return Ok(Came::Beyond);
-    }
-    add_numbered(alloc, setting, number as u32, journal, keeper, sheet)
-}
-
-/// Settles the sheet with a number, of whose images this was read: adds it to the journal where it reads
-/// and pairs, and answers what it came to.
+/// Settles a sheet by the event that it makes, or what it comes to in its place: the event is kept, and
+/// answers what the sheet came to.
 fn settle<K: Keeper>(
     alloc: Global,
-    setting: &Setting<'_>,
-    number: u64,
     journal: &mut Journal<'_>,
     keeper: &mut K,
-    read: Result<SheetMarks, Came>,
+    made: Result<Event, Came>,
 ) -> Result<Came, Halt>
-    requires set { IsSet setting.now }
-    requires election { journal.old.center.election ≡ setting.now.election.now }
-    requires some { 0 < number }
-    requires added { IfOk read (CanBeAdded setting.now.election.now) }
-    ensures came { IfOk result (λ came. came ≡ spec.came_of journal.old setting.now.batch.now number read) }
-    ensures next { OnOk result
-        (journal.new ≡ spec.journal_if journal.old (spec.event_of setting.now.batch.now number read)) }
-    ensures done { IsRecorded (spec.keep_if journal.old (spec.event_of setting.now.batch.now number read))
+    requires { IfOk made (Fits journal.old.center.election) }
+    ensures came { IfOk result (λ came. came ≡ spec.came_if journal.old made) }
+    ensures next { OnOk result (journal.new ≡ spec.journal_if journal.old made) }
+    ensures done { IsRecorded (spec.keep_if journal.old made)
         (K.held keeper.old) (K.held keeper.new) (answer_of result) }
     ensures keeper { TouchesKeeper (K.faults keeper.old) (K.faults keeper.new) result }
 {
     acts_in_order();
-    match read {
-        Ok(sheet) => add_sheet(alloc, setting, number, journal, keeper, sheet),
+    match made {
+        Ok(event) => keep_sheet(alloc, journal, keeper, event),
         Err(came) => Ok(came),
     }
 }
@@ -186,24 +104,23 @@ pub(crate) fn tell<S: Sink>(
     write_text(out, text.as_bytes())
 }
 
-/// Counts the next sheet, of whose images this was read: its record is appended where it is added, and
-/// its lines are written then.
+/// Counts the next sheet by the event that it makes, or what it comes to in its place: its record is
+/// appended where the event is kept, and its lines are written then.
 fn count_sheet<S: Sink, K: Keeper>(
     alloc: Global,
     setting: &Setting<'_>,
     counting: &mut Counting<'_>,
-    read: Result<SheetMarks, Came>,
+    made: Result<Event, Came>,
     keeper: &mut K,
     out: &mut S,
 ) -> Result<(), Halt>
-    requires set { IsSet setting.now }
     requires election { counting.old.journal.center.election ≡ setting.now.election.now }
     requires few { sheets_in counting.old.tally < 2 ^ 62 }
-    requires added { IfOk read (CanBeAdded setting.now.election.now) }
-    requires told { IfErr read (IsReadAll setting.now.election.now) }
-    ensures done { IsDone (work (spec.sheet_acts setting.now.election.now setting.now.batch.now counting.old read))
+    requires fits { IfOk made (Fits setting.now.election.now) }
+    requires told { IfErr made (IsReadAll setting.now.election.now) }
+    ensures done { IsDone (work (spec.made_acts setting.now.election.now setting.now.batch.now counting.old made))
         (S.taken out.old) (S.taken out.new) (K.held keeper.old) (K.held keeper.new) result }
-    ensures next { OnOk result (counting.new ≡ spec.counted_with setting.now.batch.now counting.old read) }
+    ensures next { OnOk result (counting.new ≡ spec.counted_so counting.old made) }
     ensures election { OnOk result (counting.new.journal.center.election ≡ setting.now.election.now) }
     ensures more { OnOk result (sheets_in counting.new.tally ≡ sheets_in counting.old.tally + 1) }
     ensures devices { TouchesBoth (S.faults out.old) (S.faults out.new)
@@ -213,7 +130,7 @@ fn count_sheet<S: Sink, K: Keeper>(
     let tally = counting.tally;
     let number = next_number(tally);
     let journal = &mut counting.journal;
-    let came = settle(alloc, setting, number, journal, keeper, read)?;
+    let came = settle(alloc, journal, keeper, made)?;
     tell(alloc, setting, number, &came, out)?;
     counting.tally = tally_with(tally, &came);
     Ok(())
@@ -235,18 +152,18 @@ pub(crate) fn count_pair<S: Sink, K: Keeper>(
     requires first { IfOk first.now (IsOfPage setting.now.election.now) }
     requires second { IfOk second.now (IsOfPage setting.now.election.now) }
     ensures done { IsDone (work (spec.sheet_acts setting.now.election.now setting.now.batch.now counting.old
-        (sheet_read setting.now.election.now (next_image_of counting.old.tally) first.now second.now)))
+        (sheet_read setting.now.election.now (next_image counting.old.tally) first.now second.now)))
         (S.taken out.old) (S.taken out.new) (K.held keeper.old) (K.held keeper.new) result }
     ensures next { OnOk result (counting.new ≡ spec.counted_with setting.now.batch.now counting.old
-        (sheet_read setting.now.election.now (next_image_of counting.old.tally) first.now second.now)) }
+        (sheet_read setting.now.election.now (next_image counting.old.tally) first.now second.now)) }
     ensures election { OnOk result (counting.new.journal.center.election ≡ setting.now.election.now) }
     ensures more { OnOk result (sheets_in counting.new.tally ≡ sheets_in counting.old.tally + 1) }
     ensures devices { TouchesBoth (S.faults out.old) (S.faults out.new)
         (K.faults keeper.old) (K.faults keeper.new) result }
 {
     acts_in_order();
-    let image = next_image(counting.tally);
+    let number = next_number(counting.tally);
     let (election, plans) = (setting.election, setting.plans);
-    let read = read_sheet(alloc, election, plans, image, first, second)?;
-    count_sheet(alloc, setting, counting, read, keeper, out)
+    let made = read_event(alloc, election, plans, setting.batch, number, first, second)?;
+    count_sheet(alloc, setting, counting, made, keeper, out)
 }

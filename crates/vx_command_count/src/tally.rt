@@ -29,14 +29,6 @@ pub(crate) fn next_number(tally: Tally) -> u64
     tally.added + tally.repeated + tally.unread + 1
 }
 
-/// The number of its first image, from 1 over all scans.
-pub(crate) fn next_image(tally: Tally) -> u64
-    requires { sheets_in tally < 2 ^ 62 }
-    ensures { result ≡ spec.next_image tally }
-{
-    2 * (tally.added + tally.repeated + tally.unread) + 1
-}
-
 /// The tally with one sheet more.
 pub(crate) fn tally_with(tally: Tally, came: &Came) -> Tally
     requires { sheets_in tally < 2 ^ 62 }

@@ -5,7 +5,7 @@ use Rattle.vx_election_model.specs.declared.election.Election.{Election}
 use Rattle.vx_events.specs.declared.event.Event.{Event}
 use Rattle.vx_refusals.specs.declared.decision.DecisionFault.TheVariants.{Refused}
 use Rattle.vx_refusals.specs.declared.reply.Reply.{Reply}
-use Rattle.vx_refusals.specs.declared.reply.Reply.TheVariants.{Done, Repeated, NoSheet, HeldBy, NotHeld, NotOnSheet, NotAnOption, OverSeats, StillMarginal, NoWriteIn, Full}
+use Rattle.vx_refusals.specs.declared.reply.Reply.TheVariants.{Done}
 use Rattle.vx_center.specs.Replies.{is_done, next_of}
 use Rattle.vx_records.specs.Records.{record_of}
 use Rattle.vx_command.specs.declared.halt.Halt.{Halt}
@@ -20,20 +20,6 @@ use Rattle.vx_journal.specs.Steps.{IsRecorded}
 use Rattle.vx_script.specs.Script.{event_in, lines_of}
 use Rattle.vx_command_decide.specs.Lines.{Accepts, Decides, TakesLine, event_outcome}
 use Rattle.vx_command_decide.specs.Outcome.{accepted, done_line, line_acts, lines_outcome, said}
-
--- a reply that isn't Done is a refusal
-pub is_refusal : (reply : Reply) → (reply ≡ Done → ⊥) → is_done reply ≡ false
-is_refusal Done never = absurd (never refl)
-is_refusal (Repeated place) never = refl
-is_refusal NoSheet never = refl
-is_refusal (HeldBy station) never = refl
-is_refusal NotHeld never = refl
-is_refusal (NotOnSheet contest) never = refl
-is_refusal (NotAnOption option) never = refl
-is_refusal (OverSeats given seats) never = refl
-is_refusal (StillMarginal option) never = refl
-is_refusal (NoWriteIn slot) never = refl
-is_refusal (Full count) never = refl
 
 -- a break-off is no answer of a command that has written nothing
 broken_late : (cause : Halt) (left : List Act) (text : List ℕ) (records : List (List ℕ)) → BreaksAt cause left text records → writes_nothing {A = Unit {0}} false (Err cause) ≡ false

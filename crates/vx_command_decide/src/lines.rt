@@ -11,6 +11,7 @@ ghost use Rattle.vx_script.specs.Script.{lines_of};
 
 use std::alloc::Global;
 use vx_base::OutOfMemory;
+use vx_center::replies_are_done_or_refuse;
 use vx_command::{Halt, acts_in_order, write_text};
 use vx_election_model::Election;
 use vx_events::Event;
@@ -58,6 +59,7 @@ fn accept<S: Sink, K: Keeper>(
     ensures late { writes_nothing false result ≡ false }
 {
     acts_in_order();
+    replies_are_done_or_refuse();
     match keep_event(alloc, journal, keeper, event)? {
         Reply::Done => write_done(alloc, out, number),
         refusal => Err(Halt::Decision(number, DecisionFault::Refused(refusal))),

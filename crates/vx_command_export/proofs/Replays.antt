@@ -2,10 +2,9 @@
 use Rattle.std.proofs.Common.{◌≡◌, ℕ, ◌+◌, ◌<◌, ◌≤◌, zero, suc, ◌⊎◌, inl, inr, Bool, true, false, cond, List, [], ◌∷◌, ◌++◌, length, take, Result, Ok, Err, refl, sym, ap, ◌∙◌, subst, arith}
 use Rattle.std.specs.Prelude.{Some, bytes_eq, slice_get}
 use Rattle.std.proofs.lemmas.List.{take-append-le}
-use Rattle.std.proofs.lemmas.Option.{same_Some}
 use Rattle.vx_base.specs.Results.{◌>>=◌}
 use Rattle.vx_base.proofs.Booleans.{chosen-if}
-use Rattle.vx_base.proofs.Lists.{take-front}
+use Rattle.vx_base.proofs.Lists.{at-push, take-front}
 use Rattle.vx_base.proofs.Results.{bind_ok}
 use Rattle.vx_election_model.specs.declared.election.Election.{Election}
 use Rattle.vx_events.specs.declared.event.Event.{Event}
@@ -19,17 +18,6 @@ use Rattle.vx_center.specs.Replies.{is_done, reply_of}
 use Rattle.vx_records.specs.Reading.{digest_in, event_in}
 use Rattle.vx_records.specs.Records.{header_of}
 use Rattle.vx_journal.specs.Replay.{begun_with, kept_with, read_with, replay_from, replay_of, stopped_at, unless_bad}
-
--- one element more
-at-push : {X : Type 0} (xs : List X) (y : X) (i : ℕ) (x : X) → slice_get (xs ++ y ∷ []) i ≡ Some x → ((i < length xs) × (slice_get xs i ≡ Some x)) ⊎ ((i ≡ length xs) × (y ≡ x))
-at-push [] y zero x h = inr (refl, same_Some y x h)
-at-push [] y (suc i) x h = absurd cc
-at-push (z ∷ xs) y zero x h = inl (omega arith, h)
-at-push (z ∷ xs) y (suc i) x h = by (at-push xs y i x h)
-  where
-    by : ((i < length xs) × (slice_get xs i ≡ Some x)) ⊎ ((i ≡ length xs) × (y ≡ x)) → ((suc i < suc (length xs)) × (slice_get xs i ≡ Some x)) ⊎ ((suc i ≡ suc (length xs)) × (y ≡ x))
-    by (inl front) = inl (omega (arith, front.0), front.1)
-    by (inr last) = inr (omega (arith, last.0), last.1)
 
 module _ (election : Election) where
   none-kept : IsHistory election []

@@ -1,9 +1,9 @@
 -- The events that were walked over.
-use Rattle.std.proofs.Common.{◌≡◌, ◌<◌, ◌≤◌, ◌+◌, ℕ, zero, suc, List, [], ◌∷◌, length, take, drop, get_or, Option, Some, false, ◌++◌, refl, sym, ap, subst, ◌∙◌, drop-cons, add-one, arith}
+use Rattle.std.proofs.Common.{◌≡◌, ◌<◌, ◌≤◌, ◌+◌, ℕ, zero, suc, List, [], ◌∷◌, length, take, drop, Option, Some, false, ◌++◌, refl, ap, subst, ◌∙◌, add-one, arith}
 use Rattle.std.specs.Prelude.{slice_get}
 use Rattle.std.specs.List.{flat_map}
 use Rattle.std.proofs.lemmas.List.{drop_all}
-use Rattle.std.proofs.lemmas.Option.{slice_get_within, get_or_from_slice_get}
+use Rattle.vx_base.proofs.Lists.{left-from}
 use Rattle.vx_election_model.specs.declared.election.Election.{Election}
 use Rattle.vx_rules.specs.declared.marks.SheetMarks.{SheetMarks}
 use Rattle.vx_events.specs.declared.event.Event.{Event}
@@ -14,13 +14,6 @@ use Rattle.vx_center.specs.Sheets.{Added, added_by, added_from, sheets_in}
 use Rattle.vx_command_queue.specs.Queue.{queue_lines, sheet_lines}
 use Rattle.vx_command_queue.specs.Walk.{GotLines, IsNextFrom, IsSheetAt, IsUpTo}
 use Rattle.vx_command_queue.proofs.Lined.{lines_are, lines_more}
-
--- what is left from a place on begins with what stands there
-pub left_from : {X : Type 0} (xs : List X) (i : ℕ) (x : X) → slice_get xs i ≡ Some x → drop i xs ≡ x ∷ drop (i + 1) xs
-left_from {X} xs i x is =
-    drop-cons xs i x (slice_get_within xs i x is)
-    ∙ ap (λ (y : X). y ∷ drop (suc i) xs) (get_or_from_slice_get xs i x x is)
-    ∙ ap (λ (n : ℕ). x ∷ drop n xs) (sym (add-one i))
 
 nothing_left : {X : Type 0} (i : ℕ) (x : X) (rest : List X) → drop i [] ≡ x ∷ rest → ⊥
 nothing_left zero x rest is = cc
@@ -44,7 +37,7 @@ module _ (election : Election) (kept : List Event) (index place : ℕ) (text : L
   none_more event there none = record {
     below = omega (arith, up_to.below);
     left =
-        up_to.left ∙ ap (added_from index) (left_from kept index event there)
+        up_to.left ∙ ap (added_from index) (left-from kept index event there)
         ∙ ap (λ (some : List Added). some ++ added_from (index + 1) (drop (index + 1) kept)) (adds_none index event none);
     lines = up_to.lines;
     next_is = up_to.next_is;
@@ -52,7 +45,7 @@ module _ (election : Election) (kept : List Event) (index place : ℕ) (text : L
 
   module _ (key : Key) (sheet : SheetMarks) (there : slice_get kept index ≡ Some (Add key sheet)) where
     begins : drop place (sheets_in kept) ≡ record { at = index; key = key; sheet = sheet } ∷ added_from (index + 1) (drop (index + 1) kept)
-    begins = up_to.left ∙ ap (added_from index) (left_from kept index (Add key sheet) there)
+    begins = up_to.left ∙ ap (added_from index) (left-from kept index (Add key sheet) there)
 
     added_there : slice_get (sheets_in kept) place ≡ Some (record { at = index; key = key; sheet = sheet })
     added_there = (stands_there (sheets_in kept) place (record { at = index; key = key; sheet = sheet }) (added_from (index + 1) (drop (index + 1) kept)) begins).0

@@ -1,37 +1,34 @@
 -- Images that fit printed pages, and their blocks among the texts of all images.
 use Rattle.std.proofs.Common.{◌≡◌, ◌+◌, ◌<◌, ◌⊎◌, inl, inr, ℕ, Bool, List, [], ◌∷◌, ◌++◌, length, take, drop, codes, Option, Some, None, Result, Ok, Err, arith, refl, sym, ap, ap₂, subst, ◌∙◌, append_assoc}
-use Rattle.std.specs.Prelude.{All, slice_get}
+use Rattle.std.specs.Prelude.{slice_get}
 use Rattle.std.specs.List.{flat_map}
 use Rattle.std.proofs.lemmas.Grind.{flat_map-append}
 use Rattle.std.proofs.lemmas.List.{take-append-drop, drop_more, length-take-le}
-use Rattle.std.proofs.lemmas.List.Elements.{All-nil, All-append}
 use Rattle.std.proofs.lemmas.Option.{slice_get_within, get_or_from_slice_get}
-use Rattle.vx_base.proofs.Results.{bind_ok}
 use Rattle.vx_plane.specs.Plane.{Page}
 use Rattle.vx_grid.specs.declared.state.State.{State}
 use Rattle.vx_code.specs.declared.code.PageCode.{PageCode}
 use Rattle.vx_election_model.specs.declared.election.Election.{Election}
 use Rattle.vx_election_model.specs.Valid.{IsValid}
-use Rattle.vx_election.specs.declared.fault.ElectionFault.{ElectionFault}
-use Rattle.vx_election.specs.Reading.{election_of}
-use Rattle.vx_election.specs.Laws.{DefinedElectionsAreValid}
 use Rattle.vx_io.specs.Outside.{Files}
 use Rattle.vx_layout.specs.declared.pages.PagePlan.{PagePlan}
 use Rattle.vx_layout.specs.declared.plan.CardPlan.{CardPlan}
 use Rattle.vx_layout.specs.Printed.{PrintedPage, IsPlanned, code_of}
 use Rattle.vx_pbm.specs.declared.fault.PbmFault.{PbmFault}
-use Rattle.vx_pbm.specs.Images.{Images, images_of, IsWholePage, ImagesAreWhole}
+use Rattle.vx_pbm.specs.Images.{Images, images_of, IsWholePage}
 use Rattle.vx_scan_model.specs.declared.reading.PageReading.{PageReading}
 use Rattle.vx_scan_model.specs.declared.fault.PageFault.{PageFault}
 use Rattle.vx_scan_model.specs.Named.{named_plan, CodesNamePrintedPages}
 use Rattle.vx_scan_model.specs.Fits.{FitsUpright, IsReadAs, FittingScansAreRead}
 use Rattle.vx_command.specs.declared.halt.Halt.{Halt}
 use Rattle.vx_command.specs.Acts.{Outcome, text_of, goes_on, taking, input_of, input_limit}
-use Rattle.vx_command.specs.Elections.{election_read, election_in, plans_in, once_planned}
+use Rattle.vx_command.specs.Elections.{election_in, plans_in, once_planned}
+use Rattle.vx_command.specs.Images.{ScannedImagesAreWhole, images_and, images_in, unless_faulty, unless_faulty_before}
+use Rattle.vx_command.specs.Laws.{TakenElectionsAreValid}
 use Rattle.vx_command.specs.Texts.{Wrote, texts_of, TextsInOrder}
 use Rattle.vx_readings.specs.ReadingText.{line_of, page_line, border_line, bubble_lines, block_text, bubbles_on, reading_text, image_text}
-use Rattle.vx_command_read.specs.Outcome.{image_acts, unless_faulty, scan_outcome, scans_outcome, read_outcome}
-use Rattle.vx_command_read.specs.Margin.{IsBlockOf, unless_faulty_before, images_and, images_in, texts_of_images, texts_round, FittingScansAreTold}
+use Rattle.vx_command_read.specs.Outcome.{image_acts, scan_outcome, scans_outcome, read_outcome}
+use Rattle.vx_command_read.specs.Margin.{IsBlockOf, texts_of_images, texts_round, FittingScansAreTold}
 
 -- the texts of images, and then those of more
 texts-append : (election : Election) (number : ℕ) (first more : List Page)
@@ -110,36 +107,6 @@ parted election images place image at =
     ∙ ap (λ (n : ℕ). texts_of_images election 1 (take place images) ++ texts_of_images election n (image ∷ drop (place + 1) images)) count
     ∙ ap (λ (n : ℕ). texts_of_images election 1 (take place images) ++ (image_text election (place + 1) image ++ texts_of_images election n (drop (place + 1) images))) next
 
--- all images are whole
-unless-whole : (fault : Option PbmFault) (more : List Page) → All IsWholePage more → All IsWholePage (unless_faulty_before fault more)
-unless-whole None more all = all
-unless-whole (Some fault) more all = All-nil IsWholePage
-
-and-whole : ImagesAreWhole → (given : Result (List ℕ) Halt) (more : List Page) → All IsWholePage more → All IsWholePage (images_and given more)
-and-whole whole (Err cause) more all = All-nil IsWholePage
-and-whole whole (Ok bytes) more all =
-    All-append IsWholePage (images_of bytes).pages (unless_faulty_before (images_of bytes).fault more) (whole bytes) (unless-whole (images_of bytes).fault more all)
-
-in-whole : ImagesAreWhole → (files : Files) (word : ℕ) (names : List (List ℕ)) → All IsWholePage (images_in files word names)
-in-whole whole files word [] = All-nil IsWholePage
-in-whole whole files word (name ∷ names) =
-    and-whole whole (input_of word input_limit (files name)) (images_in files (word + 1) names) (in-whole whole files (word + 1) names)
-
-whole-at : (images : List Page) (place : ℕ) (image : Page) → All IsWholePage images → slice_get images place ≡ Some image → IsWholePage image
-whole-at images place image all at =
-    subst IsWholePage (get_or_from_slice_get images place image image at) (all place image (slice_get_within images place image at))
-
--- the election that is read is one that bytes define
-defined-read : (defined : Result Election ElectionFault) (election : Election) → election_read defined ≡ Ok election → defined ≡ Ok election
-defined-read (Ok given) election is = let same : given ≡ election = cc in ap Ok same
-defined-read (Err fault) election is = absurd cc
-
-valid-read : DefinedElectionsAreValid → (file : Option (List ℕ)) (election : Election) → election_in file ≡ Ok election → IsValid election
-valid-read valid file election is =
-    let step : (bytes : List ℕ) × (input_of 1 input_limit file ≡ Ok bytes) × (election_read (election_of bytes) ≡ Ok election) =
-    bind_ok (input_of 1 input_limit file) (λ (bytes : List ℕ). election_read (election_of bytes)) election is in
-    valid step.0 election (defined-read (election_of step.0) election step.2)
-
 planned-of : (election : Election) (a b : Page) (printed : PrintedPage) (plan : PagePlan) (marks : List Bool)
     → FitsUpright election a printed plan marks ⊎ FitsUpright election b printed plan marks → IsPlanned election printed plan
 planned-of election a b printed plan marks (inl fits) = fits.planned
@@ -167,11 +134,11 @@ block-read election number image printed plan marks named read =
     }
 
 -- whatever stands of the acts of `read`, it tells what fits
-pub tells : TextsInOrder → DefinedElectionsAreValid → ImagesAreWhole → CodesNamePrintedPages → FittingScansAreRead → FittingScansAreTold
-tells texts defined whole names fitting name scans files taken taken_now held held_now answer done election plans is planned place image printed plan marks at fits =
+pub tells : TextsInOrder → TakenElectionsAreValid → ScannedImagesAreWhole → CodesNamePrintedPages → FittingScansAreRead → FittingScansAreTold
+tells texts taken_valid scanned names fitting name scans files taken taken_now held held_now answer done election plans is planned place image printed plan marks at fits =
     let images : List Page = images_in files 2 scans in
-    let valid : IsValid election = valid-read defined (files name) election is in
-    let whole_image : IsWholePage image = whole-at images place image (in-whole whole files 2 scans) at in
+    let valid : IsValid election = taken_valid (files name) election is in
+    let whole_image : IsWholePage image = scanned files 2 scans place image at in
     let named : named_plan election (code_of election printed) ≡ Ok plan = names.named election printed plan (planned-of election _ _ printed plan marks fits) in
     let WroteSo : List ℕ → Type 0 = λ text. Wrote text taken taken_now answer in
     record {

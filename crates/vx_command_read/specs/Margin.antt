@@ -1,6 +1,6 @@
 -- What `read` tells of scans that fit printed pages: in the place of each of them among the texts of all images stands
 -- the block of its page, with its marks.
-use Rattle.std.specs.Prelude.{◌≡◌, ℕ, ◌+◌, List, [], ◌∷◌, ◌++◌, map, codes, take, drop, slice_get, Bool, Option, Some, None, Result, Ok, Err}
+use Rattle.std.specs.Prelude.{◌≡◌, ℕ, ◌+◌, List, [], ◌∷◌, ◌++◌, map, codes, take, drop, slice_get, Bool, Some, Ok}
 use Rattle.vx_plane.specs.Plane.{Page}
 use Rattle.vx_grid.specs.declared.places.Point.{Point}
 use Rattle.vx_election_model.specs.declared.election.Election.{Election}
@@ -8,13 +8,11 @@ use Rattle.vx_io.specs.Outside.{Files}
 use Rattle.vx_layout.specs.declared.pages.PagePlan.{PagePlan}
 use Rattle.vx_layout.specs.declared.plan.CardPlan.{CardPlan}
 use Rattle.vx_layout.specs.Printed.{PrintedPage, code_of}
-use Rattle.vx_pbm.specs.declared.fault.PbmFault.{PbmFault}
-use Rattle.vx_pbm.specs.Images.{images_of}
 use Rattle.vx_scan_model.specs.Fits.{Fits, state_of_mark}
-use Rattle.vx_command.specs.declared.halt.Halt.{Halt}
-use Rattle.vx_command.specs.Acts.{Answer, input_of, input_limit}
+use Rattle.vx_command.specs.Acts.{Answer}
 use Rattle.vx_command.specs.Done.{Taken, Held, IsDone}
 use Rattle.vx_command.specs.Elections.{election_in, plans_in}
+use Rattle.vx_command.specs.Images.{images_in}
 use Rattle.vx_command.specs.Texts.{Wrote}
 use Rattle.vx_readings.specs.ReadingText.{line_of, page_line, border_line, bubble_lines, image_text}
 use Rattle.vx_command_read.specs.Outcome.{read_outcome}
@@ -31,23 +29,6 @@ pub record IsBlockOf (election : Election) (number : ℕ) (printed : PrintedPage
       text
       ≡ page_line number (code_of election printed) turned ++ border_line border
       ++ bubble_lines plan.bubbles scores (map state_of_mark marks) ++ line_of (codes "end" ∷ [])
-
--- pages that are read, unless a fault comes before them
-abbrev pub unless_faulty_before : Option PbmFault → List Page → List Page
-unless_faulty_before None pages = pages
-unless_faulty_before (Some fault) pages = []
-
--- the images of an input that was taken, and then more of them; none where it wasn't
-abbrev pub images_and : Result (List ℕ) Halt → List Page → List Page
-images_and (Err cause) more = []
-images_and (Ok bytes) more = (images_of bytes).pages ++ unless_faulty_before (images_of bytes).fault more
-
--- all images of the scans that the words from one on name, in order: up to the first scan that isn't there, is too long
--- or leaves the grammar of bitmaps
-abbrev pub images_in : Files → ℕ → List (List ℕ) → List Page
-images_in files word [] = []
-images_in files word (name ∷ names) =
-    images_and (input_of word input_limit (files name)) (images_in files (word + 1) names)
 
 -- what is written of images, one after another, the first of which has a number
 abbrev pub texts_of_images : Election → ℕ → List Page → List ℕ

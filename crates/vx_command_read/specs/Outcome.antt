@@ -1,13 +1,12 @@
 -- What `read` does: it takes its election, and then scan after scan, each of which it reads image after image.
-use Rattle.std.specs.Prelude.{ℕ, ◌+◌, ◌∷◌, [], List, length, Option, Some, None}
+use Rattle.std.specs.Prelude.{ℕ, ◌+◌, ◌∷◌, [], List, length}
 use Rattle.vx_plane.specs.Plane.{Page}
 use Rattle.vx_election_model.specs.declared.election.Election.{Election}
 use Rattle.vx_io.specs.Outside.{Files}
-use Rattle.vx_pbm.specs.declared.fault.PbmFault.{PbmFault}
 use Rattle.vx_pbm.specs.Images.{Images, images_of}
-use Rattle.vx_command.specs.declared.halt.Halt.TheVariants.{Pbm}
-use Rattle.vx_command.specs.Acts.{Act, Write, Outcome, finished, halted, after, once_taken, input_limit}
+use Rattle.vx_command.specs.Acts.{Act, Write, Outcome, finished, after, once_taken, input_limit}
 use Rattle.vx_command.specs.Elections.{once_election, once_planned}
+use Rattle.vx_command.specs.Images.{unless_faulty}
 use Rattle.vx_readings.specs.ReadingText.{image_text}
 
 -- the texts of images are written, the first of which has a number
@@ -15,11 +14,6 @@ abbrev pub image_acts : Election → ℕ → List Page → List Act
 image_acts election number [] = []
 image_acts election number (page ∷ pages) =
     Write (image_text election number page) ∷ image_acts election (number + 1) pages
-
--- what comes after the images of a scan, unless a fault ended them
-abbrev pub unless_faulty : ℕ → Option PbmFault → Outcome → Outcome
-unless_faulty word None next = next
-unless_faulty word (Some fault) next = halted (Pbm word fault)
 
 -- the images of the scan of a word, the first of which has a number, and then what comes next
 abbrev pub scan_outcome : Election → ℕ → ℕ → Images → Outcome → Outcome

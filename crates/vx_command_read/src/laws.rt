@@ -2,9 +2,7 @@
 
 ghost use Rattle.vx_command_read.specs.Margin.{FittingScansAreTold};
 
-use vx_command::texts_in_order;
-use vx_election::defined_elections_are_valid;
-use vx_pbm::images_are_whole;
+use vx_command::{scanned_images_are_whole, taken_elections_are_valid, texts_in_order};
 use vx_scan_model::{codes_name_printed_pages, fitting_scans_are_read};
 
 /// However far the acts of `read` are done, what it wrote tells each image that fits a printed page with
@@ -13,8 +11,8 @@ pub fn fitting_scans_are_told()
     ensures { FittingScansAreTold }
 {
     texts_in_order();
-    defined_elections_are_valid();
-    images_are_whole();
+    taken_elections_are_valid();
+    scanned_images_are_whole();
     codes_name_printed_pages();
     fitting_scans_are_read();
 }

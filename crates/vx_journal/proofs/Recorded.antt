@@ -1,10 +1,7 @@
 -- Steps that have no act of the sink, as far as they are done.
-use Rattle.std.proofs.Common.{◌≡◌, ◌⊎◌, inl, inr, ℕ, false, List, [], ◌∷◌, ◌++◌, Some, None, Ok, Err, refl, sym, ap, subst}
+use Rattle.std.proofs.Common.{◌≡◌, ◌⊎◌, inl, inr, ℕ, List, [], ◌∷◌, ◌++◌, Some, None, Ok, Err, refl, sym, ap, subst}
 use Rattle.std.proofs.lemmas.List.{append-nil}
 use Rattle.vx_io.specs.Outside.{Took, Appends, MayAppend}
-use Rattle.vx_refusals.specs.declared.reply.Reply.{Reply}
-use Rattle.vx_refusals.specs.declared.reply.Reply.TheVariants.{Done, Repeated, NoSheet, HeldBy, NotHeld, NotOnSheet, NotAnOption, OverSeats, StillMarginal, NoWriteIn, Full}
-use Rattle.vx_center.specs.Replies.{is_done}
 use Rattle.vx_command.specs.declared.halt.Halt.{Halt}
 use Rattle.vx_command.specs.declared.halt.Halt.TheVariants.{KeeperFault, NoMemory}
 use Rattle.vx_command.specs.Acts.{Act, Answer, ReadJournal, Append, Outcome, work}
@@ -92,17 +89,3 @@ pub no_memory_to_append : (acts : List Act) (held held_now : Held) → held_now 
 no_memory_to_append acts held held_now same taken =
     let Done : Held → Type 0 = λ now. IsDone (work acts) taken taken held now (Err NoMemory) in
     subst Done (sym same) (broke_before acts taken held NoMemory (refl, refl))
-
--- a reply that isn't Done is a refusal
-pub is_refusal : (reply : Reply) → (reply ≡ Done → ⊥) → is_done reply ≡ false
-is_refusal Done never = absurd (never refl)
-is_refusal (Repeated place) never = refl
-is_refusal NoSheet never = refl
-is_refusal (HeldBy station) never = refl
-is_refusal NotHeld never = refl
-is_refusal (NotOnSheet contest) never = refl
-is_refusal (NotAnOption option) never = refl
-is_refusal (OverSeats given seats) never = refl
-is_refusal (StillMarginal option) never = refl
-is_refusal (NoWriteIn slot) never = refl
-is_refusal (Full count) never = refl

@@ -1,7 +1,7 @@
 -- Records that are read one after another.
-use Rattle.std.proofs.Common.{◌≡◌, ℕ, ◌+◌, List, ◌∷◌, drop, Option, Some, Result, Ok, Err, refl, sym, ap, subst, ◌∙◌, drop-cons, add-one, get_or, suc}
+use Rattle.std.proofs.Common.{◌≡◌, ℕ, ◌+◌, List, ◌∷◌, drop, Option, Some, Result, Ok, Err, refl, sym, ap, subst, ◌∙◌}
 use Rattle.std.specs.Prelude.{slice_get}
-use Rattle.std.proofs.lemmas.Option.{slice_get_within, get_or_from_slice_get}
+use Rattle.vx_base.proofs.Lists.{left-from}
 use Rattle.vx_base.specs.Results.{◌>>=◌}
 use Rattle.vx_election_model.specs.declared.election.Election.{Election}
 use Rattle.vx_events.specs.declared.event.Event.{Event}
@@ -12,16 +12,9 @@ use Rattle.vx_journal.specs.declared.fault.ReplayFault.TheVariants.{Stopped, Fai
 use Rattle.vx_journal.specs.Replay.{read_with, stopped_at, replay_from}
 use Rattle.vx_journal.specs.Replaying.{ReadsAll, ReadsOne}
 
--- what is left from a place on begins with what stands there
-left_from : {X : Type 0} (xs : List X) (i : ℕ) (x : X) → slice_get xs i ≡ Some x → drop i xs ≡ x ∷ drop (i + 1) xs
-left_from {X} xs i x is =
-    drop-cons xs i x (slice_get_within xs i x is)
-    ∙ ap (λ (y : X). y ∷ drop (suc i) xs) (get_or_from_slice_get xs i x x is)
-    ∙ ap (λ (n : ℕ). x ∷ drop n xs) (sym (add-one i))
-
 module _ (election : Election) (index : ℕ) (kept : List Event) (records : List (List ℕ)) (body : List ℕ) where
   next_read : slice_get records index ≡ Some body → replay_from election index kept (drop index records) ≡ (stopped_at index (read_with election kept body) >>= (λ now. replay_from election (index + 1) now (drop (index + 1) records)))
-  next_read is = ap (replay_from election index kept) (left_from records index body is)
+  next_read is = ap (replay_from election index kept) (left-from records index body is)
 
   -- what stands at the index, where the keeper tells
   pub told_at : (told : Option (List (List ℕ))) → told ≡ Some records → IsRecordAt told index body → slice_get records index ≡ Some body

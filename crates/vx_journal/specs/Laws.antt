@@ -27,6 +27,12 @@ pub record IsBegun (election : Election) (records : List (List ℕ)) (events : L
   pub are : records ≡ first ∷ further
   pub replays : replay_of election records ≡ Ok events
 
+-- a journal that was begun is one
+abbrev pub BegunAreJournals : Type 0
+BegunAreJournals =
+    (election : Election) (records : List (List ℕ)) (events : List Event)
+    → IsBegun election records events → IsJournal election records
+
 -- the header begins a journal where no record is there; one with records was begun before
 abbrev pub HeadersBeginJournals : Type 0
 HeadersBeginJournals =

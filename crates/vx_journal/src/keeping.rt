@@ -7,6 +7,7 @@ ghost use Rattle.vx_journal.specs.Steps.{IsRecorded, TouchesKeeper, answer_of};
 
 use crate::journal::Journal;
 use std::alloc::Global;
+use vx_center::replies_are_done_or_refuse;
 use vx_command::Halt;
 use vx_election_model::Election;
 use vx_events::Event;
@@ -71,6 +72,7 @@ pub fn keep_event<K: Keeper>(
         (K.held keeper.old) (K.held keeper.new) (answer_of result) }
     ensures keeper { TouchesKeeper (K.faults keeper.old) (K.faults keeper.new) result }
 {
+    replies_are_done_or_refuse();
     match journal.center.apply(alloc, event)? {
         Reply::Done => {
             append_event(alloc, keeper, event)?;

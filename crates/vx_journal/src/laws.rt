@@ -1,9 +1,20 @@
 //! Laws of journals. These functions do nothing; their contracts are the laws.
 
-ghost use Rattle.vx_journal.specs.Laws.{HeadersBeginJournals, JournalsGrow, JournalsStay, ReadLaws};
+ghost use Rattle.vx_journal.specs.Laws.{
+  BegunAreJournals,
+  HeadersBeginJournals,
+  JournalsGrow,
+  JournalsStay,
+  ReadLaws,
+};
 
 use vx_command::acts_in_order;
 use vx_records::records_are_read;
+
+/// A journal that was begun is a journal.
+pub fn begun_journals_are_journals()
+    ensures { BegunAreJournals }
+{}
 
 /// The header begins a journal where no record is there.
 pub fn headers_begin_journals()

@@ -19,6 +19,9 @@ mod replaying;
 pub use fault::ReplayFault;
 pub use journal::Journal;
 pub use keeping::{append_event, begin_journal, keep_event};
-pub use laws::{headers_begin_journals, journals_grow, journals_in_order, journals_stay};
+pub use laws::{
+    begun_journals_are_journals, headers_begin_journals, journals_grow, journals_in_order,
+    journals_stay,
+};
 pub use reading::read_journal;
 pub use replaying::replay;

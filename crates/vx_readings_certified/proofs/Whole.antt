@@ -2,13 +2,8 @@
 use Rattle.std.proofs.Common.{◌≡◌, ◌+◌, ◌^◌, ◌<◌, ◌≤◌, ℕ, Bool, true, false, cond, nat_lt, List, [], ◌∷◌, length, arith, refl, ap, subst, ◌∙◌}
 use Rattle.std.specs.Prelude.{Option, Some, None, Result, Ok, Err}
 use Rattle.std.proofs.lemmas.Bool.Decides.{nat_tests}
-use Rattle.vx_base.specs.Results.{◌>>=◌}
 use Rattle.vx_plane.specs.Plane.{Page}
 use Rattle.vx_election_model.specs.declared.election.Election.{Election}
-use Rattle.vx_election_model.specs.Valid.{IsValid}
-use Rattle.vx_election.specs.declared.fault.ElectionFault.{ElectionFault}
-use Rattle.vx_election.specs.Laws.{DefinedElectionsAreValid}
-use Rattle.vx_election.specs.Reading.{election_of}
 use Rattle.vx_io.specs.Outside.{Files}
 use Rattle.vx_pbm.specs.declared.fault.PbmFault.{PbmFault}
 use Rattle.vx_pbm.specs.Images.{images_of}
@@ -18,11 +13,13 @@ use Rattle.vx_readings.specs.Readings.{readings_left, readings_of}
 use Rattle.vx_command.specs.declared.halt.Halt.{Halt}
 use Rattle.vx_command.specs.declared.halt.Halt.TheVariants.{TooLong}
 use Rattle.vx_command.specs.Acts.{Take, Outcome, finished, work, after, goes_on, input_of, taking, input_limit}
-use Rattle.vx_command.specs.Elections.{election_read, election_in, once_planned, plans_in}
+use Rattle.vx_command.specs.Elections.{election_in, once_planned, plans_in}
+use Rattle.vx_command.specs.Images.{unless_faulty}
+use Rattle.vx_command.specs.Laws.{TakenElectionsAreValid}
 use Rattle.vx_command.specs.Texts.{texts_of}
 use Rattle.vx_command_read.specs.Margin.{texts_of_images}
 use Rattle.vx_command_read.specs.Outcome as reading
-use Rattle.vx_command_read.specs.Outcome.{image_acts, unless_faulty, scan_outcome, read_outcome}
+use Rattle.vx_command_read.specs.Outcome.{image_acts, scan_outcome, read_outcome}
 use Rattle.vx_command_check.specs.Outcome as checking
 use Rattle.vx_command_check.specs.Outcome.{images_counted, readings_outcome, readings_for, check_outcome}
 use Rattle.vx_readings_certified.specs.Certified.{line_acts, accepting, written, HoldWritten, AcceptsWritten}
@@ -43,21 +40,6 @@ no-fault : (word : ℕ) (fault : Option PbmFault) → (unless_faulty word fault 
 no-fault word None h = refl
 no-fault word (Some fault) h = absurd cc
 
--- an election that was taken is valid
-election-valid : DefinedElectionsAreValid → (file : Option (List ℕ)) (election : Election) → election_in file ≡ Ok election → IsValid election
-election-valid law file election h = by_input (input_of 1 input_limit file) h
-  where
-    same : (a b : Election) → ◌≡◌ {A = Result Election Halt} (Ok a) (Ok b) → a ≡ b
-    same a b e = cc
-
-    by_read : (bytes : List ℕ) (read : Result Election ElectionFault) → election_of bytes ≡ read → election_read read ≡ Ok election → IsValid election
-    by_read bytes (Ok found) is e = subst IsValid (same found election e) (law bytes found is)
-    by_read bytes (Err fault) is e = absurd cc
-
-    by_input : (input : Result (List ℕ) Halt) → (input >>= (λ bytes. election_read (election_of bytes))) ≡ Ok election → IsValid election
-    by_input (Ok bytes) e = by_read bytes (election_of bytes) refl e
-    by_input (Err cause) e = absurd cc
-
 -- an input that was taken is what is held, and one that is held and no longer than it may be is taken
 input-held : (word : ℕ) (file : Option (List ℕ)) (bytes : List ℕ) → input_of word input_limit file ≡ Ok bytes → file ≡ Some bytes
 input-held word None bytes h = absurd cc
@@ -75,7 +57,7 @@ held-input word bytes short =
     let test : nat_lt input_limit (length bytes) ≡ false = grind (arith, nat_tests, short) in
     rw test refl
 
-module _ (laws : AreWritten) (valid_law : DefinedElectionsAreValid) (name scans readings : List ℕ) (files later : Files) (held : HoldWritten name scans readings files later) where
+module _ (laws : AreWritten) (valid_law : TakenElectionsAreValid) (name scans readings : List ℕ) (files later : Files) (held : HoldWritten name scans readings files later) where
   -- with what was taken
   module _ (election : Election) (plans : List CardPlan) (bytes : List ℕ) (election_is : election_in (files name) ≡ Ok election)
       (plans_are : plans_in election ≡ Ok plans) (bytes_are : input_of 2 input_limit (files scans) ≡ Ok bytes)
@@ -107,7 +89,7 @@ module _ (laws : AreWritten) (valid_law : DefinedElectionsAreValid) (name scans 
     all-accepted : readings_outcome election 0 images (readings_for election (texts_of_images election 1 images)) ≡ work (line_acts election 1 images)
     unfolding readings_of readings_left
     all-accepted =
-        images-accepted laws election (election-valid valid_law (files name) election election_is) images 0 1
+        images-accepted laws election (valid_law (files name) election election_is) images 0 1
         (length (lines_of (texts_of_images election 1 images)) + 1) (omega (arith, images-lines election 1 images)) few
 
     accepts : check_outcome name scans readings later ≡ accepting election images

@@ -4,7 +4,7 @@ ghost use Rattle.vx_readings_certified.specs.Accepted.{CertificatesAreAccepted};
 ghost use Rattle.vx_readings_certified.specs.Certified.{WrittenReadingsAreCertified};
 ghost use Rattle.vx_readings_certified.specs.Sayable.{ReadingsAreSayable, FaultsAreOneLine};
 
-use vx_election::defined_elections_are_valid;
+use vx_command::taken_elections_are_valid;
 use vx_layout::{planned_pages_can_be_printed, plans_stand_on_the_grid};
 use vx_readings::written_readings_are_read_back;
 use vx_scan_model::{
@@ -49,5 +49,5 @@ pub fn written_readings_are_certified()
     certificates_are_accepted();
     readings_are_sayable();
     faults_are_one_line();
-    defined_elections_are_valid();
+    taken_elections_are_valid();
 }

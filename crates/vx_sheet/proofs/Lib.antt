@@ -7,3 +7,5 @@ pub mod Short
 pub mod Planned
 pub mod Kept
 pub mod Within
+mod Fitting
+pub mod Keepable

@@ -3,6 +3,9 @@ pub mod Faults
 pub mod FaultTexts
 pub mod Laws
 pub mod Came
+pub mod Events
 pub mod Lines
 pub mod Shows
+pub mod Reads
+pub mod Margin
 pub mod Spans

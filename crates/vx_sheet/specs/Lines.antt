@@ -13,6 +13,7 @@ use Rattle.vx_rules.specs.declared.marks.ContestMarks.{ContestMarks}
 use Rattle.vx_rules.specs.declared.marks.SheetMarks.{SheetMarks}
 use Rattle.vx_rules.specs.Reasons.{is_blank_sheet, reason_word, reasons_of}
 use Rattle.vx_scan_model.specs.FaultTexts as page
+use Rattle.vx_sheet.specs.Events.{number_limit}
 use Rattle.vx_sheet.specs.FaultTexts as sheet
 use Rattle.vx_sheet.specs.declared.came.Came.{Came}
 use Rattle.vx_sheet.specs.declared.came.Came.TheVariants.{Added, Repeated, Unread, Unpaired, Single, Full, Beyond}
@@ -63,7 +64,7 @@ came_words (Unread image fault) = codes "unread" ∷ decimal image ∷ page.faul
 came_words (Unpaired fault) = codes "unpaired" ∷ sheet.fault_text fault ∷ []
 came_words Single = codes "single" ∷ []
 came_words (Full count) = codes "full" ∷ decimal count ∷ []
-came_words Beyond = codes "beyond" ∷ decimal 999999 ∷ []
+came_words Beyond = codes "beyond" ∷ decimal number_limit ∷ []
 
 -- `sheet B N` and what it came to
 abbrev pub sheet_line : List ℕ → ℕ → Came → List ℕ

@@ -17,6 +17,6 @@ pub enum Came {
     Single,
     /// So many events are kept, and no more may be.
     Full(u32),
-    /// Its number is above 999,999.
+    /// Its number is above the most that it may be, 999,999.
     Beyond,
 }

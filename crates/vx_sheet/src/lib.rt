@@ -6,11 +6,14 @@
 //! first. That the sheet of readings of planned pages fits the election is a law.
 //!
 //! What two images of a count come to before the journal is asked is `sheet_read` of `specs/Came.antt`;
-//! `read_sheet` answers that, and that a sheet can be kept in a journal. The lines of a sheet are
-//! `lines_of` of `specs/Lines.antt`, and `push_lines` writes exactly those.
+//! `read_sheet` answers that, and that a sheet can be kept in a journal. Which event it makes, if it makes
+//! one, is `event_of` of `specs/Events.antt`, which `read_event` answers. The lines of a sheet are `lines_of`
+//! of `specs/Lines.antt`, and `push_lines` writes exactly those. That two images within the margin are read
+//! as the sheet that was printed and marked is a law, its statement `specs/Margin.antt`.
 #![tactic(auto)]
 
 mod came;
+mod events;
 mod fault;
 mod laws;
 mod lines;
@@ -19,8 +22,11 @@ mod pairing;
 mod reading;
 
 pub use came::Came;
+pub use events::{NUMBER_LIMIT, read_event};
 pub use fault::SheetFault;
-pub use laws::{either_page_may_come_first, paired_sheets_can_be_added, sheets_fit};
+pub use laws::{
+    either_page_may_come_first, fitting_sheets_are_read, sheet_events_are_keepable, sheets_fit,
+};
 pub use lines::{push_counted, push_lines};
 pub use pairing::pair;
-pub use reading::{PageRead, read_sheet};
+pub use reading::{PageRead, read_image, read_sheet};

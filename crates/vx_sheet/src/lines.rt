@@ -7,6 +7,7 @@ ghost use Rattle.vx_sheet.specs.Lines as lines;
 ghost use Rattle.vx_sheet.specs.Shows.{IsReadAll};
 
 use crate::came::Came;
+use crate::events::NUMBER_LIMIT;
 use vx_base::OutOfMemory;
 use vx_election_model::{Contest, Election, Reason, ReasonSet};
 use vx_rules::{ContestMarks, SheetMarks, is_blank, reason_word, reasons};
@@ -162,7 +163,7 @@ fn push_came(text: &mut String, came: &Came) -> Result<(), OutOfMemory>
         Came::Single => text.push_str(" single\n"),
         Came::Full(count) => write!(text, " full {count}\n"),
         Came::Beyond => {
-            let most = 999_999u32;
+            let most = NUMBER_LIMIT;
             write!(text, " beyond {most}\n")
         }
     }

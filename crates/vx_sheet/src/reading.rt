@@ -3,6 +3,7 @@ ghost use Rattle.vx_election_model.specs.Valid.{IsValid};
 ghost use Rattle.vx_layout.specs.Plan.{plan_of};
 ghost use Rattle.vx_layout.specs.Plans.{ArePlansOf};
 ghost use Rattle.vx_sheet.specs.Came.{sheet_read};
+ghost use Rattle.vx_sheet.specs.Reads.{IsReadOf};
 ghost use Rattle.vx_sheet.specs.Shows.{CanBeAdded, IsOfPage, IsReadAll, PlansShowOptions};
 
 use crate::came::Came;
@@ -11,13 +12,35 @@ use crate::laws::sheets_fit;
 use crate::pairing::pair;
 use std::alloc::Global;
 use vx_base::OutOfMemory;
+use vx_bits::BitView;
+use vx_count::CounterMemory;
 use vx_election_model::Election;
 use vx_layout::{CardPlan, CardPlans};
+use vx_page::read_planned;
 use vx_rules::SheetMarks;
 use vx_scan_model::{PageFault, PageReading, named_pages_stand_on_the_grid};
 
 /// What an image is read as, or its first fault.
 pub type PageRead = Result<PageReading, PageFault>;
+
+/// What an image is read as, or its first fault, in the memory of an earlier counter.
+pub fn read_image(
+    alloc: Global,
+    memory: &mut CounterMemory,
+    election: &Election,
+    plans: &CardPlans,
+    image: &BitView<'_>,
+) -> Result<PageRead, OutOfMemory>
+    requires election { IsValid election.now }
+    requires plans { ArePlansOf election.now plans.now }
+    ensures { IfOk result (IsReadOf election.now image.now) }
+{
+    match read_planned(alloc, memory, election, plans, image) {
+        Ok((reading, _plan)) => Ok(Ok(reading)),
+        Err(PageFault::OutOfMemory) => Err(OutOfMemory),
+        Err(fault) => Ok(Err(fault)),
+    }
+}
 
 /// The plan of a card that is planned.
 fn card_plan<'p>(election: &Election, plans: &'p CardPlans, card: u32) -> &'p CardPlan

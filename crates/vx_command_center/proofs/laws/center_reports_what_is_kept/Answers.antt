@@ -3,5 +3,5 @@ use Rattle.vx_command_center.proofs.laws.center_reports_what_is_kept.Goals as go
 
 pub returns : goal.returns
 returns c =
-    reports c.defined_elections_are_valid.ensures c.plans_show_each_option.ensures c.said_events_are_held.ensures c.paired_sheets_can_be_added.ensures c.journals_grow.ensures
-    c.headers_begin_journals.ensures
+    reports c.taken_elections_are_valid.ensures c.replies_are_done_or_refuse.ensures c.said_events_are_held.ensures c.sheet_events_are_keepable.ensures
+    c.journals_grow.ensures c.headers_begin_journals.ensures

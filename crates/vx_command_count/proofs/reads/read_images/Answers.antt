@@ -2,7 +2,7 @@ use Rattle.std.proofs.Common.{subst}
 use Rattle.std.specs.List.{AllZip}
 use Rattle.std.proofs.lemmas.Result.{IfOk-weaker}
 use Rattle.vx_plane.specs.Plane.{Page}
-use Rattle.vx_command_count.specs.Reads.{IsReadOf}
+use Rattle.vx_sheet.specs.Reads.{IsReadOf}
 use Rattle.vx_base.proofs.Lists.{zip_weaker}
 use Rattle.vx_command_count.proofs.reads.read_images.Goals as goal
 

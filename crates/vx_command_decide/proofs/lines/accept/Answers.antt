@@ -3,7 +3,7 @@ use Rattle.std.proofs.lemmas.Result.{err_from_is_err_and}
 use Rattle.vx_center.specs.Replies.{is_done}
 use Rattle.vx_journal.specs.declared.journal.Journal.{Journal}
 use Rattle.vx_journal.specs.Keeping.{reply_in}
-use Rattle.vx_command_decide.proofs.Accepted.{is_refusal, is_refused, not_kept, recorded_late, then_written}
+use Rattle.vx_command_decide.proofs.Accepted.{is_refused, not_kept, recorded_late, then_written}
 use Rattle.vx_command_decide.proofs.lines.accept.Goals as goal
 
 pub returns-in_err-refusal-clause-done : goal.returns-in_err-refusal-clause-done
@@ -24,7 +24,7 @@ returns-in-Done-clause-done g c =
 
 pub returns-in_default : goal.returns-in_default
 returns-in_default g c =
-    let refused : is_done (reply_in c.args.journal.now c.args.event.now) ≡ false = ap is_done (sym c.in_ok-refusal.ensures.reply) ∙ is_refusal c.in_ok-refusal.refusal c.in_default.not-Done in
+    let refused : is_done (reply_in c.args.journal.now c.args.event.now) ≡ false = ap is_done (sym c.in_ok-refusal.ensures.reply) ∙ c.replies_are_done_or_refuse.ensures.refused c.in_ok-refusal.refusal c.in_default.not-Done in
     record {
       done = λ next. rw c.in_ok-refusal.ensures.reply (is_refused c.acts_in_order.ensures c.args.journal.now c.args.number c.args.event.now _ _ _ refused c.in_ok-refusal.ensures.done next);
       election = tt;

@@ -5,7 +5,7 @@ use Rattle.vx_center.specs.Kept.{Kept}
 use Rattle.vx_center.specs.Replies.{is_done}
 use Rattle.vx_journal.specs.declared.journal.Journal.{Journal}
 use Rattle.vx_journal.specs.Keeping.{reply_in}
-use Rattle.vx_journal.proofs.Recorded.{no_memory_to_append, nothing_to_do, is_refusal}
+use Rattle.vx_journal.proofs.Recorded.{no_memory_to_append, nothing_to_do}
 use Rattle.vx_journal.proofs.keeping.keep_event.Goals as goal
 
 pub returns-in_err-refusal-clause-done : goal.returns-in_err-refusal-clause-done
@@ -15,7 +15,7 @@ returns-in_err-refusal-clause-done g c =
 
 pub returns-in_default : goal.returns-in_default
 returns-in_default g c =
-    let refused : is_done (reply_in c.args.journal.now c.args.event.now) ≡ false = ap is_done (sym c.in_ok-refusal.ensures.reply) ∙ is_refusal c.in_ok-refusal.refusal c.in_default.not-Done in
+    let refused : is_done (reply_in c.args.journal.now c.args.event.now) ≡ false = ap is_done (sym c.in_ok-refusal.ensures.reply) ∙ c.replies_are_done_or_refuse.ensures.refused c.in_ok-refusal.refusal c.in_default.not-Done in
     record {
       reply = c.in_ok-refusal.ensures.reply;
       next = ap (λ (center : Kept). let journal : Journal = record { center = center; is_new = c.args.journal.now.is_new } in journal) c.in_ok-refusal.ensures.next;

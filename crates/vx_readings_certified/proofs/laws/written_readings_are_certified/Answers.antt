@@ -11,4 +11,4 @@ returns c name scans readings files later well held =
       sayable = c.readings_are_sayable.ensures;
       one_line = c.faults_are_one_line.ensures;
     } in
-    written-accepted laws c.defined_elections_are_valid.ensures name scans readings files later held well
+    written-accepted laws c.taken_elections_are_valid.ensures name scans readings files later held well

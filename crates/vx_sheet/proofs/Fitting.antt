@@ -29,7 +29,7 @@ use Rattle.vx_scan_model.specs.Named.{page_numbered}
 use Rattle.vx_scan_model.specs.Reading.{reading_of}
 use Rattle.vx_sheet.specs.Came.{if_paired, plan_there, sheet_read}
 use Rattle.vx_sheet.specs.Sheet.{alike_sheet, are_alike, are_facing, bubbles_of, bubbles_on, contest_limit, either_sheet, facing_sheet, has_bubble, is_back_of, same_kind, sheet_of, sheet_with, states_on}
-use Rattle.vx_command_count.specs.Margin.{MarkedSheet, front_of, back_of, marks_of, contest_if_on, sheet_marked, FitsPages, FittingSheetsAreRead}
+use Rattle.vx_sheet.specs.Margin.{MarkedSheet, front_of, back_of, marks_of, contest_if_on, sheet_marked, FitsPages, FittingSheetsAreRead}
 
 -- what the bubbles of a contest are read as, by their marks
 states-marked : (contest : ℕ) (bubbles : List Bubble) (marks : List Bool) → states_on contest bubbles (map state_of_mark marks) ≡ map state_of_mark (marks_of contest bubbles marks)
