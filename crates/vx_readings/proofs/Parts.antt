@@ -3,11 +3,8 @@ use Rattle.std.proofs.Common.{◌≡◌, ◌<◌, ◌≤◌, ◌+◌, ℕ, zero,
 use Rattle.std.proofs.Math.Nat.{eq-or-lt_of_le}
 use Rattle.std.specs.Prelude.{◌==◌, MatchBool}
 use Rattle.vx_base.proofs.Numbers.{equal-yes, equal-from_yes}
+use Rattle.vx_base.proofs.Booleans.{is-false}
 use Rattle.vx_readings.specs.Parts.{begun_with, parts_of, lines_of}
-
-is_false : (b : Bool) → (b ≡ true → ⊥) → b ≡ false
-is_false true never = absurd (never refl)
-is_false false never = refl
 
 -- the byte stands at none of the first places of a text
 abbrev pub StandsNowhere : ℕ → List ℕ → ℕ → Type 0
@@ -27,7 +24,7 @@ pub parts_of-none : (at : ℕ) (text : List ℕ) → StandsNowhere at text (leng
 unfolding parts_of
 parts_of-none at [] none = refl
 parts_of-none at (byte ∷ text) none =
-    let here : (byte == at) ≡ false = is_false (byte == at) (none 0 (omega arith)) in
+    let here : (byte == at) ≡ false = is-false (byte == at) (none 0 (omega arith)) in
     let rest : parts_of at text ≡ text ∷ [] = parts_of-none at text (λ k small is. none (suc k) (omega arith) is) in
     rw here (ap (begun_with byte) rest)
 
@@ -38,7 +35,7 @@ unfolding parts_of
 parts_of-first at place [] small none here = absurd (omega arith)
 parts_of-first at zero (byte ∷ text) small none here = rw here refl
 parts_of-first at (suc place) (byte ∷ text) small none here =
-    let first : (byte == at) ≡ false = is_false (byte == at) (none 0 (omega arith)) in
+    let first : (byte == at) ≡ false = is-false (byte == at) (none 0 (omega arith)) in
     let rest : parts_of at text ≡ take place text ∷ parts_of at (drop (suc place) text) =
     parts_of-first at place text (omega arith) (λ k less is. none (suc k) (omega arith) is) here in
     rw first (ap (begun_with byte) rest)
@@ -48,10 +45,10 @@ pub lines_of-none : (text : List ℕ) → 0 < length text → StandsNowhere 10 t
 unfolding lines_of
 lines_of-none [] some none = absurd (omega arith)
 lines_of-none (byte ∷ []) some none =
-    let here : (byte == 10) ≡ false = is_false (byte == 10) (none 0 (omega arith)) in
+    let here : (byte == 10) ≡ false = is-false (byte == 10) (none 0 (omega arith)) in
     rw here refl
 lines_of-none (byte ∷ next ∷ text) some none =
-    let here : (byte == 10) ≡ false = is_false (byte == 10) (none 0 (omega arith)) in
+    let here : (byte == 10) ≡ false = is-false (byte == 10) (none 0 (omega arith)) in
     let rest : lines_of (next ∷ text) ≡ (next ∷ text) ∷ [] = lines_of-none (next ∷ text) (omega arith) (λ k small is. none (suc k) (omega arith) is) in
     rw here (ap (begun_with byte) rest)
 
@@ -61,7 +58,7 @@ unfolding lines_of
 lines_of-first place [] small none here = absurd (omega arith)
 lines_of-first zero (byte ∷ text) small none here = rw here refl
 lines_of-first (suc place) (byte ∷ text) small none here =
-    let first : (byte == 10) ≡ false = is_false (byte == 10) (none 0 (omega arith)) in
+    let first : (byte == 10) ≡ false = is-false (byte == 10) (none 0 (omega arith)) in
     let rest : lines_of text ≡ take place text ∷ lines_of (drop (suc place) text) =
     lines_of-first place text (omega arith) (λ k less is. none (suc k) (omega arith) is) here in
     rw first (ap (begun_with byte) rest)

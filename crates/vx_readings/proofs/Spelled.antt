@@ -6,11 +6,8 @@ use Rattle.std.specs.Str.{bytes_eq}
 use Rattle.std.proofs.lemmas.Fmt.{decimal_injective}
 use Rattle.std.proofs.lemmas.Slice.Eq.{bytes_eq-Decides}
 use Rattle.vx_base.proofs.Numbers.{equal-yes, equal-no}
+use Rattle.vx_base.proofs.Booleans.{is-false}
 use Rattle.vx_readings.specs.Numbers.{number_below, number_in, negative_of, positive_of, signed_in}
-
-is_false : (b : Bool) → (b ≡ true → ⊥) → b ≡ false
-is_false true never = absurd (never refl)
-is_false false never = refl
 
 found-step : (most n : ℕ) (word : List ℕ) (rest : Option ℕ) (b : Bool) → most < 2 ^ 32 → n < suc most → word ≡ decimal n
     → b ≡ bytes_eq (decimal most) word → (n < most → rest ≡ Some n) → cond b (Some most) rest ≡ Some n
@@ -35,7 +32,7 @@ unfolding number_below
 number_below-none zero word never = refl
 number_below-none (suc most) word never =
     let here : bytes_eq (decimal most) word ≡ false =
-    is_false (bytes_eq (decimal most) word) (λ is. never most (omega arith) (sym ((bytes_eq-Decides (decimal most) word).0 is))) in
+    is-false (bytes_eq (decimal most) word) (λ is. never most (omega arith) (sym ((bytes_eq-Decides (decimal most) word).0 is))) in
     rw here (number_below-none most word (λ n less is. never n (omega arith) is))
 
 -- the number of 32 bits that a word spells

@@ -1,4 +1,0 @@
-pub mod Drawing
-pub mod Pages
-pub mod Demos
-pub mod Said

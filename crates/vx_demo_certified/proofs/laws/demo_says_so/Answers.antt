@@ -1,5 +1,0 @@
-use Rattle.vx_demo_certified.proofs.Said.{says-so}
-use Rattle.vx_demo_certified.proofs.laws.demo_says_so.Goals as goal
-
-pub returns : goal.returns
-returns c = says-so c.demo_pages_are_true.ensures c.texts_in_order.ensures
