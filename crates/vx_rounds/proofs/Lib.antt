@@ -1,0 +1,9 @@
+pub mod Choices
+pub mod Counted
+pub mod Counts
+pub mod Least
+pub mod Moved
+pub mod Piled
+pub mod Rounded
+pub mod Short
+pub mod Started

@@ -1,0 +1,3 @@
+pub mod Rankings
+pub mod Rounds
+pub mod Piles
