@@ -1,10 +1,9 @@
 -- The least count, and the last candidate that has it.
-use Rattle.std.proofs.Common.{◌≡◌, ◌≢◌, ◌⊎◌, inl, inr, ◌*◌, ℕ, zero, suc, ◌+◌, ◌<◌, ◌≤◌, ◌==◌, Bool, true, false, cond, List, [], ◌∷◌, ◌++◌, length, take, map, get_or, refl, ap, sym, ◌∙◌, subst, arith}
+use Rattle.std.proofs.Common.{◌≡◌, ◌⊎◌, inl, inr, ℕ, ◌<◌, ◌≤◌, ◌==◌, Bool, true, false, cond, List, [], ◌∷◌, length, take, get_or, refl, ap, sym, ◌∙◌, subst, arith}
 use mathlib.Core.List.{reverse, reverse-cons}
 use Rattle.std.specs.Prelude.{◌||◌, find, nat_le, Option, Some, None, All, Any, option_map, is_some}
-use Rattle.std.specs.List.{list_all}
 use Rattle.std.proofs.lemmas.List.{take_all}
-use Rattle.std.proofs.lemmas.List.Elements.{All-push, All-nil, All-head, All-tail, All-get_or}
+use Rattle.std.proofs.lemmas.List.Elements.{All-push, All-nil, All-head, All-tail}
 use Rattle.std.proofs.lemmas.List.Sums.{list_all-from_AllPass, AllPass-from_list_all}
 use Rattle.vx_base.proofs.Booleans.{same-bool}
 use Rattle.vx_base.proofs.Numbers.{equal-yes, equal-from_yes, at_most-yes, at_most-from_yes}

@@ -1,6 +1,6 @@
 -- A candidate goes out, and the ballots of its pile are laid again.
-use Rattle.std.proofs.Common.{◌≡◌, ◌≢◌, ◌⊎◌, inl, inr, ℕ, zero, suc, ◌+◌, ◌<◌, ◌≤◌, ◌==◌, Bool, true, false, cond, not, List, [], ◌∷◌, length, take, map, set, get_or, refl, ap, ap₂, sym, ◌∙◌, subst, arith, rules, get_or-set_other, get_or-set_same, length-set}
-use Rattle.std.specs.Prelude.{◌&&◌, find, slice_get, slice_index_or, Option, Some, None, All, count_by, is_none}
+use Rattle.std.proofs.Common.{◌≡◌, ◌≢◌, ◌⊎◌, inl, inr, ℕ, ◌+◌, ◌<◌, ◌==◌, Bool, true, false, cond, not, List, [], ◌∷◌, length, take, map, set, get_or, refl, ap, ap₂, sym, ◌∙◌, subst, arith, get_or-set_other, get_or-set_same, length-set}
+use Rattle.std.specs.Prelude.{◌&&◌, find, slice_index_or, Option, Some, None, All, count_by, is_none}
 use Rattle.std.specs.Option.{option_map_or}
 use Rattle.std.proofs.lemmas.Option.{slice_get_within}
 use Rattle.std.proofs.lemmas.List.Elements.{All-weaker}

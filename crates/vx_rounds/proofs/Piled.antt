@@ -1,9 +1,9 @@
 -- Ballots that come onto piles.
-use Rattle.std.proofs.Common.{◌≡◌, ◌≢◌, ◌⊎◌, inl, inr, ℕ, zero, suc, ◌+◌, ◌-◌, ◌<◌, ◌≤◌, ◌==◌, Bool, true, false, cond, List, [], ◌∷◌, ◌++◌, length, take, drop, map, set, get_or, refl, ap, sym, ◌∙◌, subst, arith, rules, get_or-set_other, get_or-set_same, add_assoc}
-use Rattle.std.specs.Prelude.{◌&&◌, find, slice_get, slice_index_or, Option, Some, None, All, count_by, sum_by, is_none}
+use Rattle.std.proofs.Common.{◌≡◌, ◌≢◌, ◌⊎◌, inl, inr, ℕ, zero, suc, ◌+◌, ◌-◌, ◌<◌, ◌≤◌, ◌==◌, Bool, true, false, cond, List, [], ◌∷◌, ◌++◌, length, take, map, set, get_or, refl, ap, sym, ◌∙◌, subst, arith, get_or-set_other, get_or-set_same}
+use Rattle.std.specs.Prelude.{◌&&◌, slice_index_or, Option, Some, All, count_by, is_none}
 use Rattle.std.specs.Option.{option_map_or}
 use Rattle.std.proofs.lemmas.Option.{same_Some, slice_get-get_or}
-use Rattle.std.proofs.lemmas.List.Sums.{sum_by_push, sum_by-append, sum_by-set, sum_by_more, sum_by-take-le}
+use Rattle.std.proofs.lemmas.List.Sums.{sum_by_push, sum_by-append, sum_by_more, sum_by-take-le}
 use Rattle.std.proofs.lemmas.List.Elements.{All-push}
 use Rattle.std.proofs.lemmas.List.{take_more}
 use Rattle.vx_base.proofs.Lists.{map-push}
@@ -14,7 +14,7 @@ use Rattle.vx_rounds.specs.declared.piles.PiledBallot.{PiledBallot}
 use Rattle.vx_rounds.specs.declared.piles.Piles.{Piles}
 use Rattle.vx_rounds.specs.Rankings.{ranking_at, most_steps}
 use Rattle.vx_rounds.specs.Rounds.{choice_of, is_for, is_exhausted}
-use Rattle.vx_rounds.specs.Piles.{pile_at, stands_in, count_on, left_on, left_in, IsPassed, LiesFor, LiesForNone, IsChosen, HasPiles, Laid}
+use Rattle.vx_rounds.specs.Piles.{pile_at, stands_in, count_on, left_on, LiesFor, IsChosen, Laid}
 
 -- a candidate that stands has a number
 pub standing-within : (bits : List Bool) (c : ℕ) → slice_index_or bits c false ≡ true → c < length bits

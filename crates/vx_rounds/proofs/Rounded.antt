@@ -1,5 +1,5 @@
 -- The rounds, one after another.
-use Rattle.std.proofs.Common.{◌≡◌, ◌+◌, ◌<◌, ◌≤◌, ℕ, zero, suc, ◌==◌, cond, Bool, true, false, List, [], ◌∷◌, ◌++◌, refl, ap, ap₂, sym, ◌∙◌, subst, arith, rules, append_assoc, append-nil, replicate}
+use Rattle.std.proofs.Common.{◌≡◌, ℕ, suc, ◌==◌, cond, Bool, true, false, List, [], ◌∷◌, ◌++◌, ap, ap₂, sym, ◌∙◌, append_assoc, append-nil, replicate}
 use mathlib.Core.List.{reverse}
 use Rattle.std.specs.Prelude.{◌||◌, Option, Some, None, All, find, filter, count_by, is_some, option_map}
 use Rattle.std.specs.List.{range_with_len}

@@ -1,13 +1,12 @@
 -- A ranking that names each candidate at most once is no longer than there are candidates.
-use Rattle.std.proofs.Common.{◌≡◌, ◌+◌, ◌^◌, ◌<◌, ◌≤◌, ◌==◌, ℕ, zero, suc, Bool, true, false, cond, List, [], ◌∷◌, length, refl, ap, sym, ◌∙◌, arith}
+use Rattle.std.proofs.Common.{◌≡◌, ◌+◌, ◌^◌, ◌<◌, ◌≤◌, ◌==◌, ℕ, zero, suc, Bool, true, cond, List, [], ◌∷◌, length, refl, ap, arith}
 use Rattle.std.specs.Prelude.{All, count_by, nat_lt}
 use Rattle.std.proofs.lemmas.Bool.Decides.{nat_tests}
 use Rattle.std.proofs.lemmas.List.Elements.{All-head, All-tail, All-weaker}
 use Rattle.std.proofs.lemmas.List.Sums.{sum_by-cons}
 use Rattle.vx_base.proofs.Numbers.{below-yes, below-no}
-use Rattle.vx_rounds.specs.Rankings.{IsRanking}
-use Rattle.vx_rounds.specs.Piles.{AreShort}
-use Rattle.vx_rounds.proofs.Counts.{sum_by-split, count_by-all}
+use Rattle.vx_rounds.specs.Rankings.{IsRanking, AreShort}
+use Rattle.vx_rounds.proofs.Counts.{sum_by-split}
 
 -- what all of these pass is counted whole
 count_each : (p : ℕ → Bool) (xs : List ℕ) → All (λ (x : ℕ). p x ≡ true) xs → count_by p xs ≡ length xs

@@ -1,5 +1,5 @@
 -- The first round's piles: all candidates stand.
-use Rattle.std.proofs.Common.{◌≡◌, ◌+◌, ◌*◌, ◌^◌, ◌<◌, ◌≤◌, ℕ, zero, suc, Bool, true, false, List, [], length, get_or, replicate, refl, ap, sym, ◌∙◌, subst, arith, rules}
+use Rattle.std.proofs.Common.{◌≡◌, ◌^◌, ◌<◌, ℕ, zero, suc, Bool, true, false, List, [], length, get_or, replicate, refl, ap, sym, ◌∙◌, subst, arith}
 use Rattle.std.specs.Prelude.{◌&&◌, All, count_by, sum_by, nat_lt, slice_index_or}
 use Rattle.std.proofs.lemmas.Bool.Decides.{nat_tests}
 use Rattle.std.proofs.lemmas.List.Elements.{All-nil}
@@ -7,7 +7,6 @@ use Rattle.std.proofs.lemmas.List.Folds.{sum_by-replicate}
 use Rattle.vx_base.proofs.Numbers.{below-yes, below-no}
 use Rattle.vx_rounds.specs.declared.piles.PiledBallot.{PiledBallot}
 use Rattle.vx_rounds.specs.declared.piles.Piles.{Piles}
-use Rattle.vx_rounds.specs.Rankings.{ranking_at}
 use Rattle.vx_rounds.specs.Rounds.{is_for, is_exhausted}
 use Rattle.vx_rounds.specs.Piles.{pile_at, stands_in, count_on, left_on, left_in, LiesFor, HasPiles, Laid, ArePiled}
 use Rattle.vx_rounds.proofs.Piled.{same-stands}

@@ -46,10 +46,6 @@ pub record LiesForNone (rankings : List (List ℕ)) (stands : ℕ → Bool) (pil
   pub passed : IsPassed rankings stands piled.ballot (piled.place + 1)
   pub within : piled.place < length (ranking_at rankings piled.ballot)
 
--- each ranking has fewer places than numbers of 32 bits
-abbrev pub AreShort : List (List ℕ) → Type 0
-AreShort rankings = All (λ ranking. length ranking < 2 ^ 32) rankings
-
 -- there is a pile for each candidate
 pub record HasPiles (piles : Piles) : Type 0 where
   pub as_many : length piles.piles.items ≡ length piles.standing.items

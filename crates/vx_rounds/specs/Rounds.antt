@@ -1,5 +1,5 @@
 -- The rounds of a count of ranked ballots. Every round counts all ballots anew.
-use Rattle.std.specs.Prelude.{◌*◌, ◌==◌, ◌&&◌, ◌||◌, ℕ, zero, suc, Bool, true, false, not, if◌then◌else◌, List, [], ◌∷◌, map, filter, find, reverse, count_by, sum_by, nat_lt, nat_le, Option, Some, None, is_some, is_none, option_map}
+use Rattle.std.specs.Prelude.{◌*◌, ◌==◌, ◌&&◌, ◌||◌, ℕ, zero, suc, Bool, false, not, if◌then◌else◌, List, [], ◌∷◌, map, filter, find, reverse, count_by, sum_by, nat_lt, nat_le, Option, Some, None, is_some, is_none, option_map}
 use Rattle.std.specs.List.{list_all, range_with_len}
 use Rattle.std.specs.Option.{option_map_or}
 use Rattle.vx_rounds.specs.declared.outcome.Round.{Round}

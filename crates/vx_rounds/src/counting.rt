@@ -1,6 +1,6 @@
 ghost use Rattle.std.specs.Prelude.{◌≡◌, ◌+◌, ◌^◌, ◌<◌, ◌≤◌, length, map, filter, All, IfOk};
 ghost use Rattle.std.specs.List.{range_with_len};
-ghost use Rattle.vx_rounds.specs.Rankings.{IsRanking, most_steps};
+ghost use Rattle.vx_rounds.specs.Rankings.{AreShort, most_steps};
 ghost use Rattle.vx_rounds.specs.Rounds.{round_of, winner_of, rounds_of};
 ghost use Rattle.vx_rounds.specs.Piles.{pile_at, stands_in, HasPiles, ArePiled};
 
@@ -62,8 +62,9 @@ fn count_round(
     })
 }
 
-/// The rounds of a count of these ballots among so many candidates. Each ballot is asked at most
-/// for every place of its ranking and once past its end. Its only refusal is want of memory.
+/// The rounds of a count of these ballots among so many candidates, by numbers from 0. Each ballot
+/// is asked at most for every place of its ranking and once past its end. Rankings that name each
+/// candidate at most once are short (`rankings_are_short`). The only refusal is want of memory.
 pub fn count_rounds<L: Ledger>(
     alloc: Global,
     candidates: u32,
@@ -71,7 +72,7 @@ pub fn count_rounds<L: Ledger>(
     steps: &mut Steps<L>,
 ) -> Result<Rounds, OutOfMemory>
     requires some { 0 < candidates }
-    requires rankings { All (IsRanking candidates) ballots.now }
+    requires short { AreShort ballots.now }
     ensures rounds { IfOk result (λ rounds. rounds ≡ rounds_of candidates ballots.now) }
     ensures steps { steps.new ≤ steps.old + most_steps ballots.now }
 {

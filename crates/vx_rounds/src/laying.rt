@@ -1,7 +1,7 @@
 ghost use Rattle.std.specs.Prelude.{◌≡◌, ◌+◌, ◌^◌, ◌<◌, ◌≤◌, ◌∷◌, [], true, replicate, length, map, All, IfOk, OnOk};
-ghost use Rattle.vx_rounds.specs.Rankings.{ranking_at, most_steps};
+ghost use Rattle.vx_rounds.specs.Rankings.{ranking_at, most_steps, AreShort};
 ghost use Rattle.vx_rounds.specs.Rounds.{without};
-ghost use Rattle.vx_rounds.specs.Piles.{stands_in, left_on, left_in, IsPassed, LiesForNone, AreShort, HasPiles, Laid, ArePiled};
+ghost use Rattle.vx_rounds.specs.Piles.{stands_in, left_on, left_in, IsPassed, LiesForNone, HasPiles, Laid, ArePiled};
 
 use crate::ballots::Ballots;
 use crate::choosing::choose;

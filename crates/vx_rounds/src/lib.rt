@@ -14,6 +14,7 @@ mod ballots;
 mod choosing;
 mod counting;
 mod deciding;
+mod laws;
 mod laying;
 mod outcome;
 mod piles;
@@ -21,5 +22,6 @@ mod steps;
 
 pub use ballots::{Ballots, Ranking, Rankings};
 pub use counting::count_rounds;
+pub use laws::rankings_are_short;
 pub use outcome::{Counts, Round, RoundList, Rounds};
 pub use steps::Steps;

@@ -1,4 +1,4 @@
-use Rattle.std.proofs.Common.{◌≡◌, ap, sym, ◌∙◌, arith}
+use Rattle.std.proofs.Common.{ap, ◌∙◌}
 use Rattle.vx_rounds.specs.Rounds.{out_of}
 use Rattle.vx_rounds.proofs.Counted.{few-counts, small-counts, round-is}
 use Rattle.vx_rounds.proofs.counting.count_round.Goals as goal

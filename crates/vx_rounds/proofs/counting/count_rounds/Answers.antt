@@ -1,13 +1,12 @@
-use Rattle.std.proofs.Common.{◌≡◌, ◌+◌, ◌-◌, ◌≤◌, ℕ, suc, ap, sym, ◌∙◌, subst, arith}
+use Rattle.std.proofs.Common.{◌≡◌, ◌+◌, ◌-◌, ℕ, suc, ap, sym, ◌∙◌, subst, arith}
 use Rattle.vx_rounds.specs.declared.outcome.Round.{Round}
-use Rattle.vx_rounds.specs.Rounds.{out_of, winner_of, rounds_of}
+use Rattle.vx_rounds.specs.Rounds.{rounds_of}
 use Rattle.vx_rounds.specs.Piles.{stands_in, ArePiled}
 use Rattle.vx_rounds.proofs.Rounded.{rounds-first, ended, went-on, all-done, out-stands}
-use Rattle.vx_rounds.proofs.Short.{are-short}
 use Rattle.vx_rounds.proofs.counting.count_rounds.Goals as goal
 
 pub of-requires : goal.of-requires
-of-requires g c = are-short c.args.candidates c.args.ballots.now c.ranges.candidates.fits c.requires.rankings
+of-requires g c = c.requires.short
 
 pub loop-round-init : goal.loop-round-init
 loop-round-init g c = record {
@@ -29,7 +28,7 @@ take_out-requires-clause-stands g c =
     (sym (ap (λ (r : Round). r.out) c.in_ok-counted.ensures.round) ∙ c.in-Some.is)
 
 pub take_out-requires-clause-short : goal.take_out-requires-clause-short
-take_out-requires-clause-short g c = are-short c.args.candidates c.args.ballots.now c.ranges.candidates.fits c.requires.rankings
+take_out-requires-clause-short g c = c.requires.short
 
 pub take_out-requires-clause-piled : goal.take_out-requires-clause-piled
 take_out-requires-clause-piled g c =

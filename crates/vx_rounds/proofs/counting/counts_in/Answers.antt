@@ -1,4 +1,4 @@
-use Rattle.std.proofs.Common.{◌≡◌, ◌<◌, ◌∙◌, length, arith}
+use Rattle.std.proofs.Common.{◌<◌, ◌∙◌, length, arith}
 use Rattle.vx_rounds.proofs.Counted.{counted-yes, counted-no}
 use Rattle.vx_rounds.proofs.counting.counts_in.Goals as goal
 use Rattle.vx_rounds.proofs.counting.counts_in.Goals.{then-index+in_ok-push, else-index}

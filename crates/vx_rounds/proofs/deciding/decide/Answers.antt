@@ -1,7 +1,7 @@
-use Rattle.std.proofs.Common.{◌≡◌, ◌*◌, ℕ, ap, sym, ◌∙◌, arith}
+use Rattle.std.proofs.Common.{◌*◌, ℕ, ap, sym, ◌∙◌}
 use Rattle.std.specs.Prelude.{find, nat_lt, option_map, is_some, Option}
 use Rattle.vx_base.proofs.Numbers.{equal-no}
-use Rattle.vx_rounds.specs.Rounds.{total_of, winner_of}
+use Rattle.vx_rounds.specs.Rounds.{total_of}
 use Rattle.vx_rounds.proofs.Least.{last-is, some-counts, out-last}
 use Rattle.vx_rounds.proofs.deciding.decide.Goals as goal
 

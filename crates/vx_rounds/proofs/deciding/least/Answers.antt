@@ -1,4 +1,3 @@
-use Rattle.std.proofs.Common.{arith}
 use Rattle.vx_rounds.proofs.Least.{met-at}
 use Rattle.vx_rounds.proofs.deciding.least.Goals as goal
 

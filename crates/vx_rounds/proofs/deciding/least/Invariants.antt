@@ -1,4 +1,4 @@
-use Rattle.std.proofs.Common.{◌≡◌, ◌≤◌, ◌<◌, ◌⊎◌, take, ℕ, List}
+use Rattle.std.proofs.Common.{◌≡◌, ◌≤◌, ◌⊎◌, take, ℕ, List}
 use Rattle.std.specs.Prelude.{All, Any}
 use Rattle.vx_rounds.proofs.deciding.least.Given as goal
 

@@ -1,10 +1,9 @@
 use Rattle.std.proofs.Common.{◌≡◌, ◌<◌, ℕ, Bool, List, [], ◌∷◌, ◌++◌, set, false, length, slice_index_or, ap, sym, subst, ◌∙◌, arith, refl}
 use Rattle.std.specs.Prelude.{Some}
-use Rattle.vx_rounds.specs.declared.choosing.Choice.{Choice}
 use Rattle.vx_rounds.specs.declared.piles.PiledBallot.{PiledBallot}
 use Rattle.vx_rounds.specs.Rankings.{ranking_at}
 use Rattle.vx_rounds.specs.Rounds.{choice_of}
-use Rattle.vx_rounds.specs.Piles.{stands_in, IsChosen}
+use Rattle.vx_rounds.specs.Piles.{IsChosen}
 use Rattle.vx_rounds.proofs.Choices.{found-stands}
 use Rattle.vx_rounds.proofs.Piled.{standing-within, other-default, laid-pushed}
 use Rattle.vx_rounds.proofs.piles.Piles.lay.Goals as goal

@@ -1,4 +1,4 @@
-use Rattle.std.proofs.Common.{◌≡◌, ◌+◌, ◌<◌, ◌≤◌, ℕ, List, length, take, map, arith, subst}
+use Rattle.std.proofs.Common.{◌+◌, ◌<◌, List, length, map, arith, subst}
 use Rattle.std.proofs.lemmas.List.{take_all}
 use Rattle.vx_rounds.specs.declared.piles.PiledBallot.{PiledBallot}
 use Rattle.vx_rounds.specs.Rankings.{ranking_at}

@@ -1,5 +1,4 @@
-use Rattle.std.proofs.Common.{◌≡◌, length, ap, ◌∙◌, arith}
-use Rattle.vx_rounds.proofs.Started.{started, none-left}
+use Rattle.vx_rounds.proofs.Started.{started}
 use Rattle.vx_rounds.proofs.piles.Piles.of.Goals as goal
 
 pub returns-clause-piled : goal.returns-clause-piled

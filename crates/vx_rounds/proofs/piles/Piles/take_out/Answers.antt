@@ -1,4 +1,4 @@
-use Rattle.std.proofs.Common.{◌≡◌, ◌+◌, ◌<◌, ℕ, Bool, true, false, List, [], get_or, set, length, map, ap, sym, subst, ◌∙◌, arith, refl}
+use Rattle.std.proofs.Common.{◌≡◌, ◌<◌, ℕ, Bool, true, false, List, [], get_or, set, length, map, ap, subst, ◌∙◌, arith, refl}
 use Rattle.std.proofs.lemmas.List.Sums.{count_by-le-length}
 use Rattle.vx_rounds.specs.declared.piles.PiledBallot.{PiledBallot}
 use Rattle.vx_rounds.specs.declared.piles.Piles.{Piles}
