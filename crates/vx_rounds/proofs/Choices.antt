@@ -10,14 +10,16 @@ skipped true x rest h none = absurd cc
 skipped false x rest h none = none
 
 -- one place more that names no one who stands
-pub passed-suc : (stands : ℕ → Bool) (r : List ℕ) (place c : ℕ) → find stands (take place r) ≡ None → slice_get r place ≡ Some c → stands c ≡ false → find stands (take (suc place) r) ≡ None
+pub passed-suc : (stands : ℕ → Bool) (r : List ℕ) (place c : ℕ) → find stands (take place r) ≡ None → slice_get r place ≡ Some c → stands c ≡ false →
+    find stands (take (suc place) r) ≡ None
 passed-suc stands [] place c none at out = absurd cc
 passed-suc stands (x ∷ xs) zero c none at out = skipped (stands x) x None (ap stands (same_Some x c at) ∙ out) refl
 passed-suc stands (x ∷ xs) (suc n) c none at out =
     let h = chosen-none (stands x) x (find stands (take n xs)) none in
     skipped (stands x) x (find stands (take (suc n) xs)) h.0 (passed-suc stands xs n c h.1 at out)
 
-pub passed-more : (stands : ℕ → Bool) (r : List ℕ) (place c : ℕ) → find stands (take place r) ≡ None → slice_get r place ≡ Some c → stands c ≡ false → find stands (take (place + 1) r) ≡ None
+pub passed-more : (stands : ℕ → Bool) (r : List ℕ) (place c : ℕ) → find stands (take place r) ≡ None → slice_get r place ≡ Some c → stands c ≡ false →
+    find stands (take (place + 1) r) ≡ None
 passed-more stands r place c none at out = rw add-one (passed-suc stands r place c none at out)
 
 -- what is chosen, or what is behind it
@@ -30,7 +32,8 @@ chosen true x rest h = refl
 chosen false x rest h = absurd cc
 
 -- the first place that names one who stands
-pub found-at : (stands : ℕ → Bool) (r : List ℕ) (place c : ℕ) → find stands (take place r) ≡ None → slice_get r place ≡ Some c → stands c ≡ true → find stands r ≡ Some c
+pub found-at : (stands : ℕ → Bool) (r : List ℕ) (place c : ℕ) → find stands (take place r) ≡ None → slice_get r place ≡ Some c → stands c ≡ true →
+    find stands r ≡ Some c
 found-at stands [] place c none at is = absurd cc
 found-at stands (x ∷ xs) zero c none at is =
     let same = same_Some x c at in
@@ -54,7 +57,8 @@ found-none stands (x ∷ xs) (suc n) none at =
     skipped (stands x) x (find stands xs) h.0 (found-none stands xs n h.1 at)
 
 -- what is found stands
-found_or : (stands : ℕ → Bool) (x c : ℕ) (rest : Option ℕ) (b : Bool) → stands x ≡ b → (rest ≡ Some c → stands c ≡ true) → cond b (Some x) rest ≡ Some c → stands c ≡ true
+found_or : (stands : ℕ → Bool) (x c : ℕ) (rest : Option ℕ) (b : Bool) → stands x ≡ b → (rest ≡ Some c → stands c ≡ true) → cond b (Some x) rest ≡ Some c →
+    stands c ≡ true
 found_or stands x c rest true e later h = ap stands (sym (same_Some x c h)) ∙ e
 found_or stands x c rest false e later h = later h
 

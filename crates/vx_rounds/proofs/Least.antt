@@ -24,10 +24,12 @@ find-same {X = X} p q (x ∷ xs) each =
 
 -- one is met where one was met on the way, or where the most is the least
 pub met-at : (counts : List (ℕ × ℕ)) (most least i : ℕ) → length counts ≤ i → All (λ count. least ≤ count.1) (take i counts) →
-    (least ≡ most) ⊎ Any (λ count. count.1 ≡ least) (take i counts) → All (λ count. count.1 ≤ most) counts → 0 < length counts → Any (λ count. count.1 ≡ least) counts
+    (least ≡ most) ⊎ Any (λ count. count.1 ≡ least) (take i counts) → All (λ count. count.1 ≤ most) counts → 0 < length counts →
+    Any (λ count. count.1 ≡ least) counts
 met-at counts most least i past less (inr any) high some_ = subst (λ (cs : List (ℕ × ℕ)). Any (λ count. count.1 ≡ least) cs) (take_all i counts past) any
 met-at counts most least i past less (inl e) high some_ =
-    let low : All (λ (count : ℕ × ℕ). least ≤ count.1) counts = subst (λ (cs : List (ℕ × ℕ)). All (λ (count : ℕ × ℕ). least ≤ count.1) cs) (take_all i counts past) less in
+    let low : All (λ (count : ℕ × ℕ). least ≤ count.1) counts =
+    subst (λ (cs : List (ℕ × ℕ)). All (λ (count : ℕ × ℕ). least ≤ count.1) cs) (take_all i counts past) less in
     let a = low 0 (0, 0) some_ in
     let b = high 0 (0, 0) some_ in
     first counts least some_ (omega (arith, a, b, e))

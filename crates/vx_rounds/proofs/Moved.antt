@@ -26,20 +26,24 @@ choice_step false w x out rest rest' e which (inr h) = inr (ap (λ (v : Bool). c
 pub choice-without : (stands : ℕ → Bool) (out : ℕ) (r : List ℕ) → (choice_of stands r ≡ Some out) ⊎ (choice_of (without stands out) r ≡ choice_of stands r)
 choice-without stands out [] = inr refl
 choice-without stands out (x ∷ xs) =
-    choice_step (stands x) (without stands out x) x out (choice_of stands xs) (choice_of (without stands out) xs) refl (same_or x out) (choice-without stands out xs)
+    choice_step (stands x) (without stands out x) x out (choice_of stands xs) (choice_of (without stands out) xs) refl (same_or x out)
+    (choice-without stands out xs)
 
-still_none : (stands : ℕ → Bool) (out : ℕ) (r : List ℕ) → (choice_of stands r ≡ Some out) ⊎ (choice_of (without stands out) r ≡ choice_of stands r) → find stands r ≡ None → find (without stands out) r ≡ None
+still_none : (stands : ℕ → Bool) (out : ℕ) (r : List ℕ) → (choice_of stands r ≡ Some out) ⊎ (choice_of (without stands out) r ≡ choice_of stands r) →
+    find stands r ≡ None → find (without stands out) r ≡ None
 still_none stands out r (inl h) none = absurd cc
 still_none stands out r (inr h) none = h ∙ none
 
 -- who isn't named among more isn't named among fewer
-pub passed-still : (rankings : List (List ℕ)) (stands : ℕ → Bool) (out ballot place : ℕ) → IsPassed rankings stands ballot place → IsPassed rankings (without stands out) ballot place
+pub passed-still : (rankings : List (List ℕ)) (stands : ℕ → Bool) (out ballot place : ℕ) → IsPassed rankings stands ballot place →
+    IsPassed rankings (without stands out) ballot place
 passed-still rankings stands out ballot place h = record {
   there = h.there;
   none = still_none stands out (take place (ranking_at rankings ballot)) (choice-without stands out (take place (ranking_at rankings ballot))) h.none;
 }
 
-pub lies-still : (rankings : List (List ℕ)) (stands : ℕ → Bool) (out c : ℕ) (piled : PiledBallot) → LiesFor rankings stands c piled → LiesFor rankings (without stands out) c piled
+pub lies-still : (rankings : List (List ℕ)) (stands : ℕ → Bool) (out c : ℕ) (piled : PiledBallot) → LiesFor rankings stands c piled →
+    LiesFor rankings (without stands out) c piled
 lies-still rankings stands out c piled h = record { passed = passed-still rankings stands out piled.ballot piled.place h.passed; named = h.named }
 
 -- the one that goes out doesn't stand
@@ -47,7 +51,8 @@ pub gone-out : (stands : ℕ → Bool) (out : ℕ) → without stands out out �
 gone-out stands out = and_false (stands out) (not (out == out)) (ap not (equal-yes out out refl))
 
 -- the ballots that lay for it lie for none
-pub lies-none : (rankings : List (List ℕ)) (stands : ℕ → Bool) (out : ℕ) (piled : PiledBallot) → LiesFor rankings stands out piled → LiesForNone rankings (without stands out) piled
+pub lies-none : (rankings : List (List ℕ)) (stands : ℕ → Bool) (out : ℕ) (piled : PiledBallot) → LiesFor rankings stands out piled →
+    LiesForNone rankings (without stands out) piled
 lies-none rankings stands out piled h = record {
   passed = record {
     there = h.passed.there;
@@ -90,7 +95,8 @@ none_for out (Some k) = refl
 -- a ballot counts for who stands on, or it did for the one that went out and does now
 counts_one : (stands : ℕ → Bool) (out c : ℕ) (test : List ℕ → Bool) (r : List ℕ) → c ≢ out →
     (choice_of stands r ≡ Some out) ⊎ (choice_of (without stands out) r ≡ choice_of stands r) →
-    cond (test r && is_for stands c r) 1 0 + cond ((test r && is_for (without stands out) c r) && is_for stands out r) 1 0 ≡ cond (test r && is_for (without stands out) c r) 1 0
+    cond (test r && is_for stands c r) 1 0 + cond ((test r && is_for (without stands out) c r) && is_for stands out r) 1 0 ≡
+    cond (test r && is_for (without stands out) c r) 1 0
 counts_one stands out c test r apart (inl e) =
     bits_out (test r) (is_for stands c r) (is_for (without stands out) c r) (is_for stands out r)
     (is_for-choice stands c out r e ∙ equal-no out c (λ h. apart (sym h)))
@@ -128,7 +134,8 @@ module _ (rankings : List (List ℕ)) (old mid new : Piles) (out : ℕ)
     (kept : (c : ℕ) → c ≢ out → pile_at mid c ≡ pile_at old c)
     (laid : Laid rankings (without (stands_in old) out) mid new (map (λ (piled : PiledBallot). ranking_at rankings piled.ballot) (pile_at old out))) where
   -- what a test counts of the rankings that were laid again
-  again : (test : List ℕ → Bool) → count_by test (map (λ (piled : PiledBallot). ranking_at rankings piled.ballot) (pile_at old out)) ≡ count_by (λ ranking. test ranking && is_for (stands_in old) out ranking) rankings
+  again : (test : List ℕ → Bool) → count_by test (map (λ (piled : PiledBallot). ranking_at rankings piled.ballot) (pile_at old out)) ≡
+      count_by (λ ranking. test ranking && is_for (stands_in old) out ranking) rankings
   again test = count_by-map test (λ (piled : PiledBallot). ranking_at rankings piled.ballot) (pile_at old out) ∙ counted out stands test
 
   pub moved-counted : (c : ℕ) → without (stands_in old) out c ≡ true → (test : List ℕ → Bool) →
@@ -145,7 +152,8 @@ module _ (rankings : List (List ℕ)) (old mid new : Piles) (out : ℕ)
       (λ r. counts_one (stands_in old) out c test r apart (choice-without (stands_in old) out r)) rankings in
       omega (arith, laid.counted c h test, same, before, more, both)
 
-  pub moved-exhausted : mid.exhausted ≡ count_by (is_exhausted (stands_in old)) rankings → new.exhausted ≡ count_by (is_exhausted (without (stands_in old) out)) rankings
+  pub moved-exhausted : mid.exhausted ≡ count_by (is_exhausted (stands_in old)) rankings →
+      new.exhausted ≡ count_by (is_exhausted (without (stands_in old) out)) rankings
   moved-exhausted before =
       let more = again (is_exhausted (without (stands_in old) out)) in
       let both = sum_by-split
@@ -168,7 +176,8 @@ and_yes : (a b : Bool) → b ≡ true → a && b ≡ a
 and_yes true b e = e
 and_yes false b e = refl
 
-stands_now : (bits : List Bool) (out c : ℕ) → out < length bits → (c ≡ out) ⊎ (c ≢ out) → slice_index_or (set bits out false) c false ≡ slice_index_or bits c false && not (c == out)
+stands_now : (bits : List Bool) (out c : ℕ) → out < length bits → (c ≡ out) ⊎ (c ≢ out) →
+    slice_index_or (set bits out false) c false ≡ slice_index_or bits c false && not (c == out)
 stands_now bits out c within (inl same) =
     ap (λ (k : ℕ). get_or (set bits out false) k false) same ∙ get_or-set_same bits out false false within
     ∙ sym (and_false (slice_index_or bits c false) (not (c == out)) (ap not (equal-yes c out same)))
@@ -176,12 +185,14 @@ stands_now bits out c within (inr other) =
     (rw get_or-set_other) ∙ sym (and_yes (slice_index_or bits c false) (not (c == out)) (ap not (equal-no c out other)))
 
 -- the same candidates stand but one
-pub stands-without : (bits : List Bool) (out : ℕ) → out < length bits → (λ (c : ℕ). slice_index_or (set bits out false) c false) ≡ without (λ (c : ℕ). slice_index_or bits c false) out
+pub stands-without : (bits : List Bool) (out : ℕ) → out < length bits →
+    (λ (c : ℕ). slice_index_or (set bits out false) c false) ≡ without (λ (c : ℕ). slice_index_or bits c false) out
 stands-without bits out within = λ i c. stands_now bits out c within (same_or c out) i
 
 -- the ballots of the one that goes out lie for none
 pub gone-again : (rankings : List (List ℕ)) (bits : List Bool) (out : ℕ) (pile pile' : List PiledBallot) → out < length bits → pile' ≡ pile →
-    All (LiesFor rankings (λ (c : ℕ). slice_index_or bits c false) out) pile → All (LiesForNone rankings (λ (c : ℕ). slice_index_or (set bits out false) c false)) pile'
+    All (LiesFor rankings (λ (c : ℕ). slice_index_or bits c false) out) pile →
+    All (LiesForNone rankings (λ (c : ℕ). slice_index_or (set bits out false) c false)) pile'
 gone-again rankings bits out pile pile' within same each =
     let at : ℕ → Bool = λ (c : ℕ). slice_index_or bits c false in
     let gone : All (LiesForNone rankings (without at out)) pile =
@@ -190,12 +201,14 @@ gone-again rankings bits out pile pile' within same each =
     (subst (λ (ps : List PiledBallot). All (LiesForNone rankings (without at out)) ps) (sym same) gone)
 
 -- a pile has no more ballots than there are
-pub pile-le : (n : ℕ) (rankings : List (List ℕ)) (piles : Piles) (c : ℕ) → ArePiled n rankings piles → stands_in piles c ≡ true → length (pile_at piles c) ≡ count_by (is_for (stands_in piles) c) rankings
+pub pile-le : (n : ℕ) (rankings : List (List ℕ)) (piles : Piles) (c : ℕ) → ArePiled n rankings piles → stands_in piles c ≡ true →
+    length (pile_at piles c) ≡ count_by (is_for (stands_in piles) c) rankings
 pile-le n rankings piles c h stands =
     sym (count_by-all (pile_at piles c)) ∙ h.counted c stands (λ ranking. true)
 
 module _ (n : ℕ) (rankings : List (List ℕ)) (old mid new : Piles) (out : ℕ) (h : ArePiled n rankings old) (stands : stands_in old out ≡ true)
-    (standing : mid.standing.items ≡ set old.standing.items out false) (piles : mid.piles.items ≡ set old.piles.items out []) (exhausted : mid.exhausted ≡ old.exhausted)
+    (standing : mid.standing.items ≡ set old.standing.items out false) (piles : mid.piles.items ≡ set old.piles.items out [])
+    (exhausted : mid.exhausted ≡ old.exhausted)
     (laid : Laid rankings (stands_in mid) mid new (map (λ (piled : PiledBallot). ranking_at rankings piled.ballot) (pile_at old out))) where
   mid_stands : stands_in mid ≡ without (stands_in old) out
   mid_stands =
@@ -209,7 +222,8 @@ module _ (n : ℕ) (rankings : List (List ℕ)) (old mid new : Piles) (out : ℕ
   mid_kept c apart = ap (λ (ps : List (List PiledBallot)). slice_index_or ps c []) piles ∙ rw get_or-set_other
 
   laid_without : Laid rankings (without (stands_in old) out) mid new (map (λ (piled : PiledBallot). ranking_at rankings piled.ballot) (pile_at old out))
-  laid_without = subst (λ (s : ℕ → Bool). Laid rankings s mid new (map (λ (piled : PiledBallot). ranking_at rankings piled.ballot) (pile_at old out))) mid_stands laid
+  laid_without = subst (λ (s : ℕ → Bool). Laid rankings s mid new
+      (map (λ (piled : PiledBallot). ranking_at rankings piled.ballot) (pile_at old out))) mid_stands laid
 
   new_all : length new.standing.items ≡ n
   new_all =
@@ -222,7 +236,8 @@ module _ (n : ℕ) (rankings : List (List ℕ)) (old mid new : Piles) (out : ℕ
     few = h.few;
     has_piles = has;
     all = new_all;
-    counted = subst (λ (s : ℕ → Bool). (c : ℕ) → s c ≡ true → (test : List ℕ → Bool) → count_on rankings test (pile_at new c) ≡ count_by (λ ranking. test ranking && is_for s c ranking) rankings)
+    counted = subst (λ (s : ℕ → Bool). (c : ℕ) → s c ≡ true → (test : List ℕ → Bool) →
+        count_on rankings test (pile_at new c) ≡ count_by (λ ranking. test ranking && is_for s c ranking) rankings)
         (sym new-stands) (moved-counted rankings old mid new out h.counted stands mid_kept laid_without);
     placed = subst (λ (s : ℕ → Bool). (c : ℕ) → s c ≡ true → All (LiesFor rankings s c) (pile_at new c))
         (sym new-stands) (moved-placed rankings old mid new out h.counted stands mid_kept laid_without h.placed);

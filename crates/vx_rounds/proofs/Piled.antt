@@ -64,7 +64,9 @@ module _ (rankings : List (List ℕ)) (old new : Piles) (ballot : ℕ) (choice :
   pile_same : (c : ℕ) → choice.candidate ≡ c → pile_at new c ≡ pile_at old c ++ record { ballot = ballot; place = choice.place } ∷ []
   pile_same c same =
       ap (λ (ps : List (List PiledBallot)). slice_index_or ps c []) e
-      ∙ subst (λ (k : ℕ). get_or (set old.piles.items choice.candidate (pile_at old choice.candidate ++ record { ballot = ballot; place = choice.place } ∷ [])) k [] ≡ pile_at old k ++ record { ballot = ballot; place = choice.place } ∷ []) same
+      ∙ subst (λ (k : ℕ). get_or (set old.piles.items choice.candidate
+      (pile_at old choice.candidate ++ record { ballot = ballot; place = choice.place } ∷ [])) k [] ≡
+      pile_at old k ++ record { ballot = ballot; place = choice.place } ∷ []) same
       (rw get_or-set_same)
 
   pile_other : (c : ℕ) → choice.candidate ≢ c → pile_at new c ≡ pile_at old c
@@ -73,16 +75,19 @@ module _ (rankings : List (List ℕ)) (old new : Piles) (ballot : ℕ) (choice :
       ap (λ (ps : List (List PiledBallot)). slice_index_or ps c []) e ∙ rw get_or-set_other
 
   laid_counted : (c : ℕ) (test : List ℕ → Bool) → (choice.candidate ≡ c) ⊎ (choice.candidate ≢ c) →
-      count_on rankings test (pile_at new c) ≡ count_on rankings test (pile_at old c) + count_by (λ ranking. test ranking && is_for (stands_in old) c ranking) (ranking_at rankings ballot ∷ [])
+      count_on rankings test (pile_at new c) ≡ count_on rankings test (pile_at old c) + count_by
+      (λ ranking. test ranking && is_for (stands_in old) c ranking) (ranking_at rankings ballot ∷ [])
   laid_counted c test (inl same) =
       ap (count_on rankings test) (pile_same c same)
-      ∙ sum_by_push (λ (piled : PiledBallot). cond (test (ranking_at rankings piled.ballot)) 1 0) (pile_at old c) (record { ballot = ballot; place = choice.place })
+      ∙ sum_by_push (λ (piled : PiledBallot). cond (test (ranking_at rankings piled.ballot)) 1 0) (pile_at old c)
+      (record { ballot = ballot; place = choice.place })
       ∙ ap (λ n. count_on rankings test (pile_at old c) + n) (sym (one-more (stands_in old) test c choice.candidate (ranking_at rankings ballot) chooses same))
   laid_counted c test (inr other) =
       let none = no-more (stands_in old) test c choice.candidate (ranking_at rankings ballot) chooses other in
       ap (count_on rankings test) (pile_other c other) ∙ omega (arith, none)
 
-  laid_placed : (c : ℕ) → (choice.candidate ≡ c) ⊎ (choice.candidate ≢ c) → All (LiesFor rankings (stands_in old) c) (pile_at old c) → All (LiesFor rankings (stands_in old) c) (pile_at new c)
+  laid_placed : (c : ℕ) → (choice.candidate ≡ c) ⊎ (choice.candidate ≢ c) → All (LiesFor rankings (stands_in old) c) (pile_at old c) →
+      All (LiesFor rankings (stands_in old) c) (pile_at new c)
   laid_placed c (inl same) each =
       subst (λ (pile : List PiledBallot). All (LiesFor rankings (stands_in old) c) pile) (sym (pile_same c same))
       (All-push (LiesFor rankings (stands_in old) c) (pile_at old c) (record { ballot = ballot; place = choice.place }) each
@@ -96,7 +101,8 @@ module _ (rankings : List (List ℕ)) (old new : Piles) (ballot : ℕ) (choice :
       ap (λ (o : Option ℕ). 0 + cond (is_none o) 1 0) chooses in
       omega (arith, none, same)
 
-  pub laid-pushed : new.standing.items ≡ old.standing.items → new.exhausted ≡ old.exhausted → Laid rankings (stands_in old) old new (ranking_at rankings ballot ∷ [])
+  pub laid-pushed : new.standing.items ≡ old.standing.items → new.exhausted ≡ old.exhausted →
+      Laid rankings (stands_in old) old new (ranking_at rankings ballot ∷ [])
   laid-pushed standing same = record {
     standing = standing;
     counted = λ c h test. laid_counted c test (same_or choice.candidate c);
@@ -105,7 +111,8 @@ module _ (rankings : List (List ℕ)) (old new : Piles) (ballot : ℕ) (choice :
   }
 
 -- ballots came, and then others
-pub laid-then : (rankings : List (List ℕ)) (stands : ℕ → Bool) (a b c : Piles) (xs ys : List (List ℕ)) → Laid rankings stands a b xs → Laid rankings stands b c ys → Laid rankings stands a c (xs ++ ys)
+pub laid-then : (rankings : List (List ℕ)) (stands : ℕ → Bool) (a b c : Piles) (xs ys : List (List ℕ)) → Laid rankings stands a b xs →
+    Laid rankings stands b c ys → Laid rankings stands a c (xs ++ ys)
 laid-then rankings stands a b c xs ys h k = record {
   standing = k.standing ∙ h.standing;
   counted = λ n yes_ test. omega (
@@ -128,11 +135,13 @@ laid-none rankings stands a = record {
 }
 
 -- what is laid while the same candidates stand
-pub laid-along : (rankings : List (List ℕ)) (first a b : Piles) (xs : List (List ℕ)) → a.standing.items ≡ first.standing.items → Laid rankings (stands_in a) a b xs → Laid rankings (stands_in first) a b xs
+pub laid-along : (rankings : List (List ℕ)) (first a b : Piles) (xs : List (List ℕ)) → a.standing.items ≡ first.standing.items →
+    Laid rankings (stands_in a) a b xs → Laid rankings (stands_in first) a b xs
 laid-along rankings first a b xs e h = subst (λ (stands : ℕ → Bool). Laid rankings stands a b xs) (same-stands first a e) h
 
 -- one ballot more of all
-pub all-next : (rankings : List (List ℕ)) (first a b : Piles) (i : ℕ) → i < length rankings → Laid rankings (stands_in first) first a (take i rankings) → Laid rankings (stands_in a) a b (ranking_at rankings i ∷ []) → Laid rankings (stands_in first) first b (take (i + 1) rankings)
+pub all-next : (rankings : List (List ℕ)) (first a b : Piles) (i : ℕ) → i < length rankings → Laid rankings (stands_in first) first a (take i rankings) →
+    Laid rankings (stands_in a) a b (ranking_at rankings i ∷ []) → Laid rankings (stands_in first) first b (take (i + 1) rankings)
 all-next rankings first a b i within h k =
     subst (λ (xs : List (List ℕ)). Laid rankings (stands_in first) first b xs) (sym (take_more rankings i [] within))
     (laid-then rankings (stands_in first) first a b (take i rankings) (ranking_at rankings i ∷ []) h
@@ -158,5 +167,6 @@ left-next rankings pile i d within = sum_by_more (λ (piled : PiledBallot). leng
 pub left-le : (rankings : List (List ℕ)) (pile : List PiledBallot) (i : ℕ) → left_on rankings (take i pile) ≤ left_on rankings pile
 left-le rankings pile i = sum_by-take-le (λ (piled : PiledBallot). length (ranking_at rankings piled.ballot) - piled.place) pile i
 
-pub most-next : (rankings : List (List ℕ)) (i : ℕ) → i < length rankings → most_steps (take (i + 1) rankings) ≡ most_steps (take i rankings) + (length (ranking_at rankings i) + 1)
+pub most-next : (rankings : List (List ℕ)) (i : ℕ) → i < length rankings →
+    most_steps (take (i + 1) rankings) ≡ most_steps (take i rankings) + (length (ranking_at rankings i) + 1)
 most-next rankings i within = sum_by_more (λ (ranking : List ℕ). length ranking + 1) rankings i [] within

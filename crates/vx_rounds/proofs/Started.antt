@@ -44,22 +44,27 @@ module _ (n : ℕ) (rankings : List (List ℕ)) (old new : Piles) (piles : old.p
   empty_at : (c : ℕ) → pile_at old c ≡ []
   empty_at c = ap (λ (ps : List (List PiledBallot)). slice_index_or ps c []) piles ∙ empty_pile n c
 
-  first_counted : (c : ℕ) → stands_in old c ≡ true → (test : List ℕ → Bool) → count_on rankings test (pile_at new c) ≡ count_by (λ ranking. test ranking && is_for (stands_in old) c ranking) rankings
+  first_counted : (c : ℕ) → stands_in old c ≡ true → (test : List ℕ → Bool) →
+      count_on rankings test (pile_at new c) ≡ count_by (λ ranking. test ranking && is_for (stands_in old) c ranking) rankings
   first_counted c h test =
       let before = ap (count_on rankings test) (empty_at c) in
       omega (arith, laid.counted c h test, before)
 
   first_placed : (c : ℕ) → stands_in old c ≡ true → All (LiesFor rankings (stands_in old) c) (pile_at new c)
   first_placed c h =
-      laid.placed c h (subst (λ (pile : List PiledBallot). All (LiesFor rankings (stands_in old) c) pile) (sym (empty_at c)) (All-nil (LiesFor rankings (stands_in old) c)))
+      laid.placed c h (subst (λ (pile : List PiledBallot). All (LiesFor rankings (stands_in old) c) pile) (sym (empty_at c))
+      (All-nil (LiesFor rankings (stands_in old) c)))
 
   pub started : length rankings < 2 ^ 32 → HasPiles new → old.standing.items ≡ replicate n true → ArePiled n rankings new
   started few has all = record {
     few = few;
     has_piles = has;
     all = ap length (laid.standing ∙ all) ∙ length_all n;
-    counted = subst (λ (s : ℕ → Bool). (c : ℕ) → s c ≡ true → (test : List ℕ → Bool) → count_on rankings test (pile_at new c) ≡ count_by (λ ranking. test ranking && is_for s c ranking) rankings)
+    counted = subst (λ (s : ℕ → Bool). (c : ℕ) → s c ≡ true → (test : List ℕ → Bool) →
+        count_on rankings test (pile_at new c) ≡ count_by (λ ranking. test ranking && is_for s c ranking) rankings)
         (sym (same-stands old new laid.standing)) first_counted;
-    placed = subst (λ (s : ℕ → Bool). (c : ℕ) → s c ≡ true → All (LiesFor rankings s c) (pile_at new c)) (sym (same-stands old new laid.standing)) first_placed;
-    exhausted = subst (λ (s : ℕ → Bool). new.exhausted ≡ count_by (is_exhausted s) rankings) (sym (same-stands old new laid.standing)) (omega (arith, laid.exhausted, none));
+    placed = subst (λ (s : ℕ → Bool). (c : ℕ) → s c ≡ true → All (LiesFor rankings s c) (pile_at new c))
+        (sym (same-stands old new laid.standing)) first_placed;
+    exhausted = subst (λ (s : ℕ → Bool). new.exhausted ≡ count_by (is_exhausted s) rankings) (sym (same-stands old new laid.standing))
+        (omega (arith, laid.exhausted, none));
   }

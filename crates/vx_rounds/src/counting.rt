@@ -1,4 +1,4 @@
-ghost use Rattle.std.specs.Prelude.{◌≡◌, ◌+◌, ◌^◌, ◌<◌, ◌≤◌, length, map, filter, All, IfOk};
+ghost use Rattle.std.specs.Prelude.{◌≡◌, ◌+◌, ◌<◌, ◌≤◌, length, map, filter, IfOk};
 ghost use Rattle.std.specs.List.{range_with_len};
 ghost use Rattle.vx_rounds.specs.Rankings.{AreShort, most_steps};
 ghost use Rattle.vx_rounds.specs.Rounds.{round_of, winner_of, rounds_of};

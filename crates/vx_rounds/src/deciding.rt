@@ -1,5 +1,5 @@
-ghost use Rattle.std.specs.Prelude.{◌≡◌, ◌*◌, ◌^◌, ◌<◌, ◌≤◌, ◌==◌, length, reverse, find, nat_lt, option_map, All, Any, AllPairs};
-ghost use Rattle.vx_rounds.specs.Rounds.{total_of, winner_of, last_of, out_of};
+ghost use Rattle.std.specs.Prelude.{◌≡◌, ◌*◌, ◌^◌, ◌<◌, ◌≤◌, ◌==◌, length, reverse, find, nat_lt, option_map, All, Any};
+ghost use Rattle.vx_rounds.specs.Rounds.{total_of, winner_of, out_of};
 
 /// What a round comes to: who won, or who goes out.
 #[derive(Clone, Copy, Debug, Drop)]

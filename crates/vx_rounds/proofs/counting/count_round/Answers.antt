@@ -5,7 +5,8 @@ use Rattle.vx_rounds.proofs.counting.count_round.Goals as goal
 
 pub decide-decision-requires-clause-few : goal.decide-decision-requires-clause-few
 decide-decision-requires-clause-few c =
-    few-counts c.args.candidates c.args._ballots.now c.args.piles.now c.requires c.as_slice.result.now (c.as_slice.ensures ∙ c.in_ok-counts.ensures) c.ranges.candidates.fits
+    few-counts c.args.candidates c.args._ballots.now c.args.piles.now c.requires c.as_slice.result.now
+    (c.as_slice.ensures ∙ c.in_ok-counts.ensures) c.ranges.candidates.fits
 
 pub decide-decision-requires-clause-small : goal.decide-decision-requires-clause-small
 decide-decision-requires-clause-small c =

@@ -7,7 +7,8 @@ use Rattle.vx_rounds.proofs.deciding.decide.Goals as goal
 
 pub returns-clause-out : goal.returns-clause-out
 returns-clause-out c =
-    let wins = c.winner-winner.ensures ∙ ap (λ (t : ℕ). option_map (λ (count : ℕ × ℕ). count.0) (find (λ (count : ℕ × ℕ). nat_lt t (2 * count.1)) c.args.counts.now)) c.total-total.ensures in
+    let wins = c.winner-winner.ensures ∙ ap (λ (t : ℕ). option_map (λ (count : ℕ × ℕ). count.0)
+    (find (λ (count : ℕ × ℕ). nat_lt t (2 * count.1)) c.args.counts.now)) c.total-total.ensures in
     let no_winner = sym (ap (λ (o : Option ℕ). is_some o) wins) ∙ sym c.is_some.ensures ∙ c.if-is_some.false in
     let counted = equal-no (total_of c.args.counts.now) 0 (λ h. c.if-total-eq0.false (c.total-total.ensures ∙ h)) in
     let any = some-counts c.args.counts.now (λ h. c.if-total-eq0.false (c.total-total.ensures ∙ h)) in

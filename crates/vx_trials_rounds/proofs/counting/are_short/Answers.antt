@@ -5,7 +5,8 @@ use Rattle.std.proofs.lemmas.List.Elements.{All-more}
 use Rattle.vx_trials_rounds.proofs.counting.are_short.Goals as goal
 
 -- one ranking more is short
-one_more : (rankings : List (List ℕ)) (i : ℕ) (d : List ℕ) → i < length rankings → All (λ (ranking : List ℕ). length ranking < 2 ^ 32) (take i rankings) → length (get_or rankings i d) < 2 ^ 32 →
+one_more : (rankings : List (List ℕ)) (i : ℕ) (d : List ℕ) → i < length rankings → All (λ (ranking : List ℕ). length ranking < 2 ^ 32) (take i rankings) →
+  length (get_or rankings i d) < 2 ^ 32 →
   All (λ (ranking : List ℕ). length ranking < 2 ^ 32) (take (i + 1) rankings)
 one_more rankings i d within each short = All-more (λ (ranking : List ℕ). length ranking < 2 ^ 32) rankings i d within each short
 

@@ -9,7 +9,8 @@ use Rattle.vx_rounds.proofs.Piled.{standing-within, other-default, laid-pushed}
 use Rattle.vx_rounds.proofs.piles.Piles.lay.Goals as goal
 
 -- a choice of those that stand has a pile
-has_pile : (bits bits' : List Bool) (r : List ℕ) (c piles : ℕ) → bits ≡ bits' → piles ≡ length bits' → Some c ≡ choice_of (λ n. slice_index_or bits n false) r → c < piles
+has_pile : (bits bits' : List Bool) (r : List ℕ) (c piles : ℕ) → bits ≡ bits' → piles ≡ length bits' →
+    Some c ≡ choice_of (λ n. slice_index_or bits n false) r → c < piles
 has_pile bits bits' r c piles e many h =
     let within = standing-within bits c (found-stands (λ n. slice_index_or bits n false) r c (sym h)) in
     omega (arith, within, ap length e, many)
@@ -30,6 +31,8 @@ returns-in_ok-push-in-Some-clause-laid g c =
     ∙ ap (λ (pile : List PiledBallot). pile ++ record { ballot = c.args.ballot; place = c.in-Some.choice.place } ∷ [])
     (c.index_mut.ensures.value ∙ other-default c.args.self.now.piles.items c.in-Some.choice.candidate c.index_mut.result.now [] within)))
     within
-    (subst (λ (bits : List Bool). choice_of (λ n. slice_index_or bits n false) (ranking_at c.args.ballots.now c.args.ballot) ≡ Some c.in-Some.choice.candidate) c.as_slice.ensures.value (sym c.in-Some.ensures.choice))
-    (subst (λ (bits : List Bool). IsChosen c.args.ballots.now (λ n. slice_index_or bits n false) c.args.ballot c.in-Some.choice) c.as_slice.ensures.value c.in-Some.ensures.chosen)
+    (subst (λ (bits : List Bool). choice_of (λ n. slice_index_or bits n false) (ranking_at c.args.ballots.now c.args.ballot) ≡
+    Some c.in-Some.choice.candidate) c.as_slice.ensures.value (sym c.in-Some.ensures.choice))
+    (subst (λ (bits : List Bool). IsChosen c.args.ballots.now
+    (λ n. slice_index_or bits n false) c.args.ballot c.in-Some.choice) c.as_slice.ensures.value c.in-Some.ensures.chosen)
     refl refl

@@ -25,5 +25,6 @@ loop-piled-preserved g c =
 
 pub returns-clause-laid : goal.returns-clause-laid
 returns-clause-laid g c =
-    subst (λ (pile : List PiledBallot). Laid c.args.ballots.now (stands_in c.args.self.now) c.args.self.now c.loop-piled.self (map (λ (piled : PiledBallot). ranking_at c.args.ballots.now piled.ballot) pile))
+    subst (λ (pile : List PiledBallot). Laid c.args.ballots.now (stands_in c.args.self.now) c.args.self.now c.loop-piled.self
+    (map (λ (piled : PiledBallot). ranking_at c.args.ballots.now piled.ballot) pile))
     (take_all c.loop-piled.piled-index c.args.pile.now c.loop-piled-test.false) c.loop-piled.invariant.laid

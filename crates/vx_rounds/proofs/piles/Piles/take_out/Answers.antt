@@ -10,7 +10,8 @@ use Rattle.vx_rounds.proofs.Moved.{moved, new-stands, gone-again, pile-le}
 use Rattle.vx_rounds.proofs.piles.Piles.take_out.Goals as goal
 
 -- the pile that is taken away is the candidate's
-taken : (items : List (List PiledBallot)) (bits : List Bool) (out : ℕ) (lent pile now : List PiledBallot) → length items ≡ length bits → get_or bits out false ≡ true →
+taken : (items : List (List PiledBallot)) (bits : List Bool) (out : ℕ) (lent pile now : List PiledBallot) → length items ≡ length bits →
+    get_or bits out false ≡ true →
     lent ≡ pile → pile ≡ now → now ≡ get_or items out now → lent ≡ get_or items out []
 taken items bits out lent pile now many stands a b d =
     let within = standing-within bits out stands in
