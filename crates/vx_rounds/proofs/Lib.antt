@@ -1,6 +1,7 @@
 pub mod Choices
 pub mod Counted
 pub mod Counts
+pub mod Ended
 pub mod Least
 pub mod Moved
 pub mod Piled

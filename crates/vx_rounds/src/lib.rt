@@ -22,6 +22,6 @@ mod steps;
 
 pub use ballots::{Ballots, Ranking, Rankings};
 pub use counting::count_rounds;
-pub use laws::rankings_are_short;
+pub use laws::{counts_end, rankings_are_short};
 pub use outcome::{Counts, Round, RoundList, Rounds};
 pub use steps::Steps;
