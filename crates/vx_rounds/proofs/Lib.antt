@@ -1,0 +1,10 @@
+pub mod Choices
+pub mod Counted
+pub mod Counts
+pub mod Ended
+pub mod Least
+pub mod Moved
+pub mod Piled
+pub mod Rounded
+pub mod Short
+pub mod Started

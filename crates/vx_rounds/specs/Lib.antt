@@ -1,0 +1,4 @@
+pub mod Rankings
+pub mod Rounds
+pub mod Piles
+pub mod Laws
