@@ -4,6 +4,7 @@ use vx_bits::BitPage;
 use vx_border::trace;
 use vx_count::Counter;
 use vx_grid::{Paper, Point, Side, mark_of, marks};
+use vx_mark_model::BorderFault;
 
 /// A page with the timing marks, moved by some columns and rows.
 fn page_with_marks(
