@@ -31,6 +31,9 @@ pub record AreLaws : Type 0 where
   pub back : CodesAreGivenBack
   pub codes : CodesNamePrintedPages
 
+pub laws-of : PlacesAreTested → AcceptedAreFramed → CodesAreGivenBack → CodesNamePrintedPages → AreLaws
+laws-of tests framed back codes = record { tests = tests; framed = framed; back = back; codes = codes }
+
 module _ (laws : AreLaws) (election : Election) (page : Page) (reading : PageReading) where
   -- the tests, from the last to the first
   abbrev from_plan : PagePlan → Tested

@@ -172,7 +172,9 @@ module _ (tests : PlacesAreTested) (framed : AcceptedAreFramed) (page : Page) wh
   mark-there k p there accepted = mark-counted k p there ∙ so-passes (is_accepted page p) (MarkAt k p (deficit_of page p)) ((tests.accepted page p).1 accepted)
 
   pub mark-wrong : (k : ℕ) (p : Point) → is_in countable p ≡ true → (IsAccepted page p → ⊥) → mark_tested page k p ≡ Err (MarkAt k p (deficit_of page p))
-  mark-wrong k p there wrong = mark-counted k p there ∙ not-passes (is_accepted page p) (MarkAt k p (deficit_of page p)) (is-false (is_accepted page p) (λ h. wrong ((tests.accepted page p).0 h)))
+  mark-wrong k p there wrong =
+      mark-counted k p there
+      ∙ not-passes (is_accepted page p) (MarkAt k p (deficit_of page p)) (is-false (is_accepted page p) (λ h. wrong ((tests.accepted page p).0 h)))
 
   pub near-is : (k : ℕ) (predicted p : Point) → near_tested k predicted p ≡ Ok tt → IsNear predicted p
   near-is k predicted p h = (tests.region (near predicted) p).0 (passes-so (is_in (near predicted) p) _ h)

@@ -39,7 +39,8 @@ module _ (paper : Paper) (counts : List ℕ) (size : length counts ≡ 84) (code
 
   by_place : (place : Option ℕ) → position is_none (shown_by counts) ≡ place → code_of_shown paper (bits_unless counts place) ≡ Ok code
       → (position is_none (shown_by counts) ≡ None) × (code_of_bits (map or_false (shown_by counts)) ≡ code)
-  by_place None at h = (at, by_version (code_of_bits (map or_false (shown_by counts))) ((code_of_bits (map or_false (shown_by counts))).version == version_of paper) h)
+  by_place None at h =
+      (at, by_version (code_of_bits (map or_false (shown_by counts))) ((code_of_bits (map or_false (shown_by counts))).version == version_of paper) h)
   by_place (Some n) at h = absurd cc
 
   -- its fields fit, and they show its boxes
@@ -54,5 +55,6 @@ module _ (paper : Paper) (counts : List ℕ) (size : length counts ≡ 84) (code
       (IsInRange-code_of_bits bits many, Shows-code_of_bits counts bits size many shown)
 
 -- counts that give a code show its boxes
-pub code_shown_by-shows : (paper : Paper) (counts : List ℕ) (code : PageCode) → length counts ≡ 84 → code_shown_by paper counts ≡ Ok code → IsInRange code × Shows counts (boxes_of code)
+pub code_shown_by-shows : (paper : Paper) (counts : List ℕ) (code : PageCode) → length counts ≡ 84 → code_shown_by paper counts ≡ Ok code
+    → IsInRange code × Shows counts (boxes_of code)
 code_shown_by-shows paper counts code size h = shows paper counts size code h

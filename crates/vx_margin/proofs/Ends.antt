@@ -61,7 +61,8 @@ module _ (s : Slant) (slant : IsSlant s) (scan : Page) (paper : Paper) (marks : 
       let next : (c + k) + 1 ≡ c + suc k = omega arith in
       let expected : LiesNear 5 3 (right_of (point_at places k)) (image_of s paper (c + suc k) 0) =
       subst (λ (m : ℕ). LiesNear 5 3 (right_of (point_at places k)) (image_of s paper m 0)) next (right-predicted s slant paper (point_at places k) (c + k) 0 before) in
-      let predicted : prediction_of (last_row paper) places (suc k) ≡ right_of (point_at places k) = top-prediction (last_row paper) k places (last-row_low paper) (omega (arith, within)) in
+      let predicted : prediction_of (last_row paper) places (suc k) ≡ right_of (point_at places k) =
+      top-prediction (last_row paper) k places (last-row_low paper) (omega (arith, within)) in
       let near : IsNear (right_of (point_at places k)) (point_at places (suc k)) =
       subst (λ (q : Point). IsNear q (point_at places (suc k))) predicted (chain.near (suc k) (omega arith) (omega (arith, within, many))) in
       (accepted-at s slant scan paper marks are shows (c + suc k) 0 (omega (arith, within)) (omega arith) (inl refl) (right_of (point_at places k)) (point_at places (suc k)) expected
@@ -75,7 +76,8 @@ module _ (s : Slant) (slant : IsSlant s) (scan : Page) (paper : Paper) (marks : 
       let next : (c + k) + 1 ≡ 34 = omega (arith, high) in
       let expected : LiesNear 5 3 (right_of (point_at places k)) (image_of s paper 34 0) =
       subst (λ (m : ℕ). LiesNear 5 3 (right_of (point_at places k)) (image_of s paper m 0)) next (right-predicted s slant paper (point_at places k) (c + k) 0 last) in
-      let predicted : prediction_of (last_row paper) places (suc k) ≡ right_of (point_at places k) = top-prediction (last_row paper) k places (last-row_low paper) (omega (arith, low, high)) in
+      let predicted : prediction_of (last_row paper) places (suc k) ≡ right_of (point_at places k) =
+      top-prediction (last_row paper) k places (last-row_low paper) (omega (arith, low, high)) in
       let near : IsNear (right_of (point_at places k)) (point_at places (suc k)) =
       subst (λ (q : Point). IsNear q (point_at places (suc k))) predicted (chain.near (suc k) (omega arith) (omega (arith, low, many))) in
       let point : IsBorderPoint paper 34 0 =
@@ -89,7 +91,8 @@ module _ (s : Slant) (slant : IsSlant s) (scan : Page) (paper : Paper) (marks : 
       let p : Point = point_at places 1 in
       let q : Point = image_of s paper 1 1 in
       let expected : LiesNear 5 3 (right_of (point_at places 0)) q = right-predicted s slant paper (point_at places 0) 0 1 first in
-      let predicted : prediction_of (last_row paper) places 1 ≡ right_of (point_at places 0) = top-prediction (last_row paper) 0 places (last-row_low paper) (omega arith) in
+      let predicted : prediction_of (last_row paper) places 1 ≡ right_of (point_at places 0) =
+      top-prediction (last_row paper) 0 places (last-row_low paper) (omega arith) in
       let near : IsNear (right_of (point_at places 0)) p = subst (λ (o : Point). IsNear o p) predicted (chain.near 1 (omega arith) (omega (arith, many))) in
       let close : LiesNear 15 9 p q = near-from 10 6 5 3 p (right_of (point_at places 0)) q (is-near (right_of (point_at places 0)) p near) expected in
       let zone : IsInZone s paper p = record {
@@ -224,7 +227,8 @@ module _ (s : Slant) (scan other : Page) (paper : Paper) (marks turned_marks : P
     at-first zero zero few low side near = near
     at-first (suc c) zero few low side near = absurd (not-top t slant scan paper turned_marks are shown n many places chain (suc c) (omega arith) (omega (arith, few)) near)
     at-first zero (suc zero) few low side near = absurd (not-below t slant scan paper turned_marks are shown n many places chain near)
-    at-first (suc c) (suc zero) few low side near = absurd (not-side (last_row paper) (suc c) (suc zero) (last-row_low paper) (omega arith) few (omega arith) low side)
+    at-first (suc c) (suc zero) few low side near =
+        absurd (not-side (last_row paper) (suc c) (suc zero) (last-row_low paper) (omega arith) few (omega arith) low side)
     at-first c (suc (suc r)) few low side near = absurd (omega (arith, low))
 
     pub turned-chain : n ≤ marks_of paper → LieAtMarks t paper n places

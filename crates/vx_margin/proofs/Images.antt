@@ -35,7 +35,9 @@ zone-near : (paper : Paper) (c r : ℕ) (x y : ℤ) → c ≤ 34 → r ≤ last_
 zone-near paper c r x y few low (inl top) a b =
     outside_is_zone paper x y (rectangle-outside (pos 178) (pos (first_y paper + 130)) 1344 (52 * last_row paper - 260) x y (inr (inr (inl (omega (arith, ints, b.high, top))))))
 zone-near paper c r x y few low (inr (inl bottom)) a b =
-    outside_is_zone paper x y (rectangle-outside (pos 178) (pos (first_y paper + 130)) 1344 (52 * last_row paper - 260) x y (inr (inr (inr (omega (arith, ints, b.low, bottom, last-row_low paper))))))
+    outside_is_zone paper x y
+    (rectangle-outside (pos 178) (pos (first_y paper + 130)) 1344 (52 * last_row paper - 260) x y
+    (inr (inr (inr (omega (arith, ints, b.low, bottom, last-row_low paper))))))
 zone-near paper c r x y few low (inr (inr (inl left))) a b =
     outside_is_zone paper x y (rectangle-outside (pos 178) (pos (first_y paper + 130)) 1344 (52 * last_row paper - 260) x y (inl (omega (arith, ints, a.high, left))))
 zone-near paper c r x y few low (inr (inr (inr right))) a b =
@@ -75,22 +77,30 @@ module _ (s : Slant) (slant : IsSlant s) (scan : Page) (paper : Paper) (marks : 
   left-light : count_in (q.u -ℤ pos 23) (q.v -ℤ pos 5) 4 10 shown ≡ 0
   left-light =
       count_in-none (q.u -ℤ pos 23) (q.v -ℤ pos 5) 4 10 shown
-      (λ u v a b d e. is-false _ (light-left s slant paper marks are c r point u v (omega (arith, ints, b)) (omega (arith, ints, a)) (record { low = omega (arith, ints, d); high = omega (arith, ints, e) })))
+      (λ u v a b d e. is-false _
+      (light-left s slant paper marks are c r point u v (omega (arith, ints, b)) (omega (arith, ints, a))
+      (record { low = omega (arith, ints, d); high = omega (arith, ints, e) })))
 
   right-light : count_in (q.u +ℤ pos 19) (q.v -ℤ pos 5) 4 10 shown ≡ 0
   right-light =
       count_in-none (q.u +ℤ pos 19) (q.v -ℤ pos 5) 4 10 shown
-      (λ u v a b d e. is-false _ (light-right s slant paper marks are c r point u v (omega (arith, ints, a)) (omega (arith, ints, b)) (record { low = omega (arith, ints, d); high = omega (arith, ints, e) })))
+      (λ u v a b d e. is-false _
+      (light-right s slant paper marks are c r point u v (omega (arith, ints, a)) (omega (arith, ints, b))
+      (record { low = omega (arith, ints, d); high = omega (arith, ints, e) })))
 
   top-light : count_in (q.u -ℤ pos 17) (q.v -ℤ pos 11) 34 4 shown ≡ 0
   top-light =
       count_in-none (q.u -ℤ pos 17) (q.v -ℤ pos 11) 34 4 shown
-      (λ u v a b d e. is-false _ (light-over s slant paper marks are c r point u v (record { low = omega (arith, ints, a); high = omega (arith, ints, b) }) (omega (arith, ints, e)) (omega (arith, ints, d))))
+      (λ u v a b d e. is-false _
+      (light-over s slant paper marks are c r point u v (record { low = omega (arith, ints, a); high = omega (arith, ints, b) })
+      (omega (arith, ints, e)) (omega (arith, ints, d))))
 
   bottom-light : count_in (q.u -ℤ pos 17) (q.v +ℤ pos 7) 34 4 shown ≡ 0
   bottom-light =
       count_in-none (q.u -ℤ pos 17) (q.v +ℤ pos 7) 34 4 shown
-      (λ u v a b d e. is-false _ (light-below s slant paper marks are c r point u v (record { low = omega (arith, ints, a); high = omega (arith, ints, b) }) (omega (arith, ints, d)) (omega (arith, ints, e))))
+      (λ u v a b d e. is-false _
+      (light-below s slant paper marks are c r point u v (record { low = omega (arith, ints, a); high = omega (arith, ints, b) })
+      (omega (arith, ints, d)) (omega (arith, ints, e))))
 
   -- the image of a mark's centre is accepted, where its footprint lies in the frame
   pub image-accepted : IsInFrame scan q → IsAccepted scan q

@@ -45,7 +45,8 @@ module _ (s : Slant) (scan : Page) (paper : Paper) (marks : Pixels) (shows : Sho
     at-first zero zero few low side near = near
     at-first (suc c) zero few low side near = absurd (not-top s shows.slant_is scan paper marks shows.marks_are shows.shows n many places chain (suc c) (omega arith) (omega (arith, few)) near)
     at-first zero (suc zero) few low side near = absurd (not-below s shows.slant_is scan paper marks shows.marks_are shows.shows n many places chain near)
-    at-first (suc c) (suc zero) few low side near = absurd (not-side (last_row paper) (suc c) (suc zero) (last-row_low paper) (omega arith) (omega (arith, few)) (omega arith) low side)
+    at-first (suc c) (suc zero) few low side near =
+        absurd (not-side (last_row paper) (suc c) (suc zero) (last-row_low paper) (omega arith) (omega (arith, few)) (omega arith) low side)
     at-first c (suc (suc r)) few low side near = absurd (omega (arith, low))
 
     first-near : LiesNear 4 2 (point_at places 0) first

@@ -54,10 +54,12 @@ zone-turned paper x y =
     ap not (same-bool _ _
     (λ h. let s = rectangle-sides (pos 178) (pos (first_y paper + 130)) 1344 (52 * last_row paper - 260) (last_x -ℤ x) (last_y paper -ℤ y) h in
     rectangle-inside (pos 178) (pos (first_y paper + 130)) 1344 (52 * last_row paper - 260) x y
-    (omega (arith, ints, s.1)) (omega (arith, ints, s.0)) (omega (arith, ints, s.3, height-is paper, last-row_low paper)) (omega (arith, ints, s.2, height-is paper, last-row_low paper)))
+    (omega (arith, ints, s.1)) (omega (arith, ints, s.0)) (omega (arith, ints, s.3, height-is paper, last-row_low paper))
+    (omega (arith, ints, s.2, height-is paper, last-row_low paper)))
     (λ h. let s = rectangle-sides (pos 178) (pos (first_y paper + 130)) 1344 (52 * last_row paper - 260) x y h in
     rectangle-inside (pos 178) (pos (first_y paper + 130)) 1344 (52 * last_row paper - 260) (last_x -ℤ x) (last_y paper -ℤ y)
-    (omega (arith, ints, s.1)) (omega (arith, ints, s.0)) (omega (arith, ints, s.3, height-is paper, last-row_low paper)) (omega (arith, ints, s.2, height-is paper, last-row_low paper))))
+    (omega (arith, ints, s.1)) (omega (arith, ints, s.0)) (omega (arith, ints, s.3, height-is paper, last-row_low paper))
+    (omega (arith, ints, s.2, height-is paper, last-row_low paper))))
 
 -- the border points are the same from the other end
 point-turned : (paper : Paper) (c r : ℕ) → IsBorderPoint paper c r → IsBorderPoint paper (33 - c) (last_row paper - r)

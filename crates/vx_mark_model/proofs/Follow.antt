@@ -27,15 +27,21 @@ pub followed_one : (page : Page) (last : ℕ) (places : List Point) → IsCorner
 followed_one page last places corner = record { corner = corner; next = λ k l h. absurd (omega arith) }
 
 -- where a mark is expected is told by the places before it
-prediction_same : (last n : ℕ) (places longer : List Point) → ((k : ℕ) → k < n → point_at longer k ≡ point_at places k) → (j : ℕ) → 0 < j → j ≤ n → prediction_of last longer j ≡ prediction_of last places j
+prediction_same : (last n : ℕ) (places longer : List Point) → ((k : ℕ) → k < n → point_at longer k ≡ point_at places k)
+    → (j : ℕ) → 0 < j → j ≤ n → prediction_of last longer j ≡ prediction_of last places j
 prediction_same last n places longer same j some most = ap (expected_from last j) (same (leader_of last j) (omega (arith, leader_before last j some)))
 
 -- a list that begins with followed places, with one place more
-pub followed_grows : (page : Page) (last n : ℕ) (places longer : List Point) → 0 < n → IsFollowed page last n places → ((k : ℕ) → k < n → point_at longer k ≡ point_at places k) → IsBest page (prediction_of last places n) (point_at longer n) → IsFollowed page last (n + 1) longer
+pub followed_grows : (page : Page) (last n : ℕ) (places longer : List Point) → 0 < n → IsFollowed page last n places
+    → ((k : ℕ) → k < n → point_at longer k ≡ point_at places k) → IsBest page (prediction_of last places n) (point_at longer n)
+    → IsFollowed page last (n + 1) longer
 followed_grows page last n places longer some f same best =
     let Corner : Point → Type 0 = λ x. IsCorner page x in
-    let expected : (j : ℕ) → 0 < j → j ≤ n → IsBest page (prediction_of last places j) (point_at longer j) → IsBest page (prediction_of last longer j) (point_at longer j) =
-    λ j low high here. let Expected : Point → Type 0 = λ q. IsBest page q (point_at longer j) in subst Expected (sym (prediction_same last n places longer same j low high)) here in
+    let expected : (j : ℕ) → 0 < j → j ≤ n → IsBest page (prediction_of last places j) (point_at longer j)
+        → IsBest page (prediction_of last longer j) (point_at longer j) =
+    λ j low high here.
+    let Expected : Point → Type 0 = λ q. IsBest page q (point_at longer j) in
+    subst Expected (sym (prediction_same last n places longer same j low high)) here in
     record {
       corner = subst Corner (sym (same 0 some)) f.corner;
       next = λ j low high.
@@ -51,7 +57,8 @@ followed_grows page last n places longer some f same best =
     }
 
 -- a list that begins with followed places is followed so far
-pub followed_same : (page : Page) (last n : ℕ) (places others : List Point) → 0 < n → ((k : ℕ) → k < n → point_at others k ≡ point_at places k) → IsFollowed page last n places → IsFollowed page last n others
+pub followed_same : (page : Page) (last n : ℕ) (places others : List Point) → 0 < n → ((k : ℕ) → k < n → point_at others k ≡ point_at places k)
+    → IsFollowed page last n places → IsFollowed page last n others
 followed_same page last n places others some same f =
     let Corner : Point → Type 0 = λ x. IsCorner page x in
     record {

@@ -12,8 +12,11 @@ use Rattle.vx_mark_model.specs.Best.{IsBetter, IsBest}
 -- of two different places one is first
 either-first : (p q : Point) → (ComesBefore p q → ⊥) → (ComesBefore q p → ⊥) → p ≡ q
 either-first p q a b =
-    let sums : p.u +ℤ p.v ≡ q.u +ℤ q.v = by_lt_z (p.u +ℤ p.v) (q.u +ℤ q.v) (λ l. absurd (a (inl l))) (λ m. by_lt_z (q.u +ℤ q.v) (p.u +ℤ p.v) (λ l. absurd (b (inl l))) (λ n. omega (arith, ints))) in
-    let rows : p.v ≡ q.v = by_lt_z p.v q.v (λ l. absurd (a (inr (sums, l)))) (λ m. by_lt_z q.v p.v (λ l. absurd (b (inr (sym sums, l)))) (λ n. omega (arith, ints))) in
+    let sums : p.u +ℤ p.v ≡ q.u +ℤ q.v =
+    by_lt_z (p.u +ℤ p.v) (q.u +ℤ q.v) (λ l. absurd (a (inl l)))
+    (λ m. by_lt_z (q.u +ℤ q.v) (p.u +ℤ p.v) (λ l. absurd (b (inl l))) (λ n. omega (arith, ints))) in
+    let rows : p.v ≡ q.v =
+    by_lt_z p.v q.v (λ l. absurd (a (inr (sums, l)))) (λ m. by_lt_z q.v p.v (λ l. absurd (b (inr (sym sums, l)))) (λ n. omega (arith, ints))) in
     same-point p q (omega (arith, ints)) rows
 
 -- there is at most one corner
@@ -30,8 +33,12 @@ either-better page p q a b =
         | inr d ↦
             let same : deficit_of page p ≡ deficit_of page q = omega arith in
             let back : deficit_of page q ≡ deficit_of page p = omega arith in
-            let rows : p.v ≡ q.v = by_lt_z p.v q.v (λ l. absurd (a (inr (inl (same, l))))) (λ m. by_lt_z q.v p.v (λ l. absurd (b (inr (inl (back, l))))) (λ n. omega (arith, ints))) in
-            let columns : p.u ≡ q.u = by_lt_z p.u q.u (λ l. absurd (a (inr (inr (same, rows, l))))) (λ m. by_lt_z q.u p.u (λ l. absurd (b (inr (inr (back, sym rows, l))))) (λ n. omega (arith, ints))) in
+            let rows : p.v ≡ q.v =
+            by_lt_z p.v q.v (λ l. absurd (a (inr (inl (same, l)))))
+            (λ m. by_lt_z q.v p.v (λ l. absurd (b (inr (inl (back, l))))) (λ n. omega (arith, ints))) in
+            let columns : p.u ≡ q.u =
+            by_lt_z p.u q.u (λ l. absurd (a (inr (inr (same, rows, l)))))
+            (λ m. by_lt_z q.u p.u (λ l. absurd (b (inr (inr (back, sym rows, l))))) (λ n. omega (arith, ints))) in
             same-point p q columns rows
       ]
     ]

@@ -62,7 +62,8 @@ module _ (paper : Pixels) (shear : Shear) (width height : ℕ) where
       dark_at-in_frame width height (seen s paper) u v k.0 (omega (arith, ints, k.1)) k.2 (omega (arith, ints, k.3)))
 
   no-flips : (left top : ℤ) (w h : ℕ) (zone : Pixels) → count_in left top w h (flips_in s scan paper zone) ≡ 0
-  no-flips left top w h zone = count_in-none left top w h (flips_in s scan paper zone) (λ u v a b c d. and-no (seen s zone u v) (flips s scan paper u v) (no-flip u v))
+  no-flips left top w h zone =
+      count_in-none left top w h (flips_in s scan paper zone) (λ u v a b c d. and-no (seen s zone u v) (flips s scan paper u v) (no-flip u v))
 
   no-laid : (left top : ℤ) (w h : ℕ) → count_in left top w h (flips_on s scan paper) ≡ 0
   no-laid left top w h = count_in-none left top w h (flips_on s scan paper) (λ x y a b c d. no-flip (scan_column s x y) (scan_row s x y))
@@ -211,7 +212,9 @@ module _ (are : TimingMarksAreMarks) (plan : PagePlan) (clear : KeepsClear plan)
 pub clean-fits : TimingMarksAreMarks → PrintedKeepClear → CleanPrintsFit
 clean-fits are clear election printed plan valid planned =
     let print : Pixels = print_of_page election plan printed in
-    let keeps = still-keeps are plan (clear election printed plan valid planned) (λ paper k few. (mark-column (last_row paper) k (last-row_low paper) few, mark-row (last_row paper) k (last-row_low paper) few)) in
+    let keeps =
+    still-keeps are plan (clear election printed plan valid planned)
+    (λ paper k few. (mark-column (last_row paper) k (last-row_low paper) few, mark-row (last_row paper) k (last-row_low paper) few)) in
     let same : sheared_print page_width (page_height plan.paper) still print ≡ page_of page_width (page_height plan.paper) print =
     page_of-same page_width (page_height plan.paper) (seen (slant_of still) print) print (λ x y a b. still-seen print (pos x) (pos y)) in
     subst (λ (page : Page). FitsUpright election page printed plan (no_marks plan)) same (sheared-fits election printed plan still page_width (page_height plan.paper) valid planned keeps)

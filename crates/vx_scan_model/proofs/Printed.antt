@@ -40,7 +40,10 @@ round-inside a b cx cy x y h i j k = rectangle-inside (pos cx -ℤ pos a) (pos c
 -- a mark at a border point lies in the frame zone
 mark-in_zone : (paper : Paper) (c r : ℕ) (x y : ℤ) → (r ≡ 0) ⊎ (r ≡ last_row paper) ⊎ (c ≡ 0) ⊎ (c ≡ last_column) → IsInMark paper c r x y → frame_zone paper x y ≡ true
 mark-in_zone paper c r x y (inl top) m = ap not (rectangle-outside (pos 178) (pos (first_y paper + 130)) 1344 (52 * last_row paper - 260) x y (inr (inr (inl (omega (arith, ints, m.bottom, top))))))
-mark-in_zone paper c r x y (inr (inl bottom)) m = ap not (rectangle-outside (pos 178) (pos (first_y paper + 130)) 1344 (52 * last_row paper - 260) x y (inr (inr (inr (omega (arith, ints, m.top, bottom, last-row_low paper))))))
+mark-in_zone paper c r x y (inr (inl bottom)) m =
+    ap not
+    (rectangle-outside (pos 178) (pos (first_y paper + 130)) 1344 (52 * last_row paper - 260) x y
+    (inr (inr (inr (omega (arith, ints, m.top, bottom, last-row_low paper))))))
 mark-in_zone paper c r x y (inr (inr (inl left))) m = ap not (rectangle-outside (pos 178) (pos (first_y paper + 130)) 1344 (52 * last_row paper - 260) x y (inl (omega (arith, ints, m.right, left))))
 mark-in_zone paper c r x y (inr (inr (inr right))) m = ap not (rectangle-outside (pos 178) (pos (first_y paper + 130)) 1344 (52 * last_row paper - 260) x y (inr (inl (omega (arith, ints, m.left, right)))))
 

@@ -18,9 +18,13 @@ expected-predicted-requires c =
 
 pub loop-k-preserved : goal.loop-k-preserved
 loop-k-preserved c =
-    let is = expected_is (last_row c.args.paper) c.loop-k.places c.loop-k.k c.leader_of.result c.expected-predicted.result c.expected-predicted.ensures.exact c.leader_of.ensures.exact in
+    let is =
+    expected_is (last_row c.args.paper) c.loop-k.places c.loop-k.k c.leader_of.result c.expected-predicted.result
+    c.expected-predicted.ensures.exact c.leader_of.ensures.exact in
     let Best : Point → Type 0 = λ q. IsBest c.args.counter.now q c.in-Some.place in
     record {
       all = length-set c.loop-k.places c.loop-k.k c.in-Some.place ∙ c.loop-k.invariant.all;
-      followed = followed_more c.a_list_is_followed.ensures.grows c.args.counter.now (last_row c.args.paper) c.loop-k.k c.loop-k.places c.in-Some.place (omega arith) (omega arith) c.loop-k.invariant.followed (subst Best is c.in-Some.ensures);
+      followed =
+          followed_more c.a_list_is_followed.ensures.grows c.args.counter.now (last_row c.args.paper) c.loop-k.k c.loop-k.places c.in-Some.place
+          (omega arith) (omega arith) c.loop-k.invariant.followed (subst Best is c.in-Some.ensures);
     }

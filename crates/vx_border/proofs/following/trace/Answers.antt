@@ -17,7 +17,8 @@ use Rattle.vx_mark_model.specs.Laws.{AcceptedAreFramed, FollowedIsSame}
 use Rattle.vx_border.proofs.Follow.{followed_within}
 use Rattle.vx_border.proofs.following.trace.Goals as goal
 
-module _ (framed : AcceptedAreFramed) (same_followed : FollowedIsSame) (paper : Paper) (page : Page) (places : List Point) (w : page.width ≤ 4096) (h : page.height ≤ 4096) (followed : AreAllFollowed paper page places) where
+module _ (framed : AcceptedAreFramed) (same_followed : FollowedIsSame) (paper : Paper) (page : Page) (places : List Point) (w : page.width ≤ 4096)
+    (h : page.height ≤ 4096) (followed : AreAllFollowed paper page places) where
   -- each place of a followed list of all marks lies in the frame
   place_within : (n k : ℕ) → 4096 ≤ n → k < marks paper → IsPointWithin n (point_at places k)
   place_within n k most inside = followed_within framed page n (last_row paper) (marks paper) k places (omega arith) (omega arith) followed inside
@@ -59,10 +60,14 @@ module _ (framed : AcceptedAreFramed) (same_followed : FollowedIsSame) (paper : 
       })
 
 pub right_of-end-requires : goal.right_of-end-requires
-right_of-end-requires c = bottom_within c.accepted_places_are_framed.ensures c.a_list_is_followed.ensures.same c.args.paper c.args.counter.now c.follow.new.places (omega arith) (omega arith) c.in_ok-follow.ensures.found c.bottom_end.result c.bottom_end.ensures
+right_of-end-requires c =
+    bottom_within c.accepted_places_are_framed.ensures c.a_list_is_followed.ensures.same c.args.paper c.args.counter.now c.follow.new.places
+    (omega arith) (omega arith) c.in_ok-follow.ensures.found c.bottom_end.result c.bottom_end.ensures
 
 pub is_near-requires-clause-place : goal.is_near-requires-clause-place
-is_near-requires-clause-place c = right_within c.accepted_places_are_framed.ensures c.a_list_is_followed.ensures.same c.args.paper c.args.counter.now c.follow.new.places (omega arith) (omega arith) c.in_ok-follow.ensures.found c.right_end-found.result c.right_end-found.ensures
+is_near-requires-clause-place c =
+    right_within c.accepted_places_are_framed.ensures c.a_list_is_followed.ensures.same c.args.paper c.args.counter.now c.follow.new.places
+    (omega arith) (omega arith) c.in_ok-follow.ensures.found c.right_end-found.result c.right_end-found.ensures
 
 most_marks : (paper : Paper) → marks paper ≤ 168
 most_marks Letter = omega arith
@@ -70,11 +75,13 @@ most_marks Legal = omega arith
 
 pub returns-then-is_near-clause-border : goal.returns-then-is_near-clause-border
 returns-then-is_near-clause-border c =
-    border_of_places c.accepted_places_are_framed.ensures c.a_list_is_followed.ensures.same c.args.paper c.args.counter.now c.follow.new.places (omega arith) (omega arith) c.in_ok-follow.ensures.found
+    border_of_places c.accepted_places_are_framed.ensures c.a_list_is_followed.ensures.same c.args.paper c.args.counter.now c.follow.new.places
+    (omega arith) (omega arith) c.in_ok-follow.ensures.found
     c.new.result c.bottom_end.result c.right_of-end.result c.right_end-found.result (omega (arith, c.in_ok-follow.ensures.all)) (most_marks c.args.paper)
     c.new.ensures c.bottom_end.ensures c.right_of-end.ensures.exact c.right_end-found.ensures (c.is_near.ensures.0 c.if-is_near.true)
 
 pub returns-then-is_near-clause-within : goal.returns-then-is_near-clause-within
 returns-then-is_near-clause-within c =
-    places_within c.accepted_places_are_framed.ensures c.a_list_is_followed.ensures.same c.args.paper c.args.counter.now c.follow.new.places (omega arith) (omega arith) c.in_ok-follow.ensures.found
+    places_within c.accepted_places_are_framed.ensures c.a_list_is_followed.ensures.same c.args.paper c.args.counter.now c.follow.new.places
+    (omega arith) (omega arith) c.in_ok-follow.ensures.found
     c.new.result (omega (arith, c.in_ok-follow.ensures.all)) (most_marks c.args.paper) c.new.ensures

@@ -23,4 +23,6 @@ pub returns-clause-within : goal.returns-clause-within
 returns-clause-within c =
     let page = c.args.counter.now in
     let border = c.args.border.now in
-    on-ok c.check_closing.result (λ ok. all-within c.accepted_places_are_framed.ensures page (marks border.paper) 9000 border.places (omega arith) (omega arith) c.at.ensures.all c.in_ok-check_places.ensures.accepted)
+    on-ok c.check_closing.result
+    (λ ok. all-within c.accepted_places_are_framed.ensures page (marks border.paper) 9000 border.places (omega arith)
+    (omega arith) c.at.ensures.all c.in_ok-check_places.ensures.accepted)

@@ -14,7 +14,8 @@ right_of-end-requires c =
     let border = c.args.border.now in
     let all : c.marks.result ≡ marks border.paper = c.marks.ensures.exact ∙ ap marks c.paper-paper.ensures in
     within-more 4096 8900 c.at.result (omega arith)
-    (at-within 4096 border.places (c.marks.result - 1) c.at.result c.at.ensures.place (c.requires (c.marks.result - 1) (omega (arith, all, c.marks.ensures.bound.0))))
+    (at-within 4096 border.places (c.marks.result - 1) c.at.result c.at.ensures.place
+    (c.requires (c.marks.result - 1) (omega (arith, all, c.marks.ensures.bound.0))))
 
 pub check_near-requires-clause-place : goal.check_near-requires-clause-place
 check_near-requires-clause-place c =
@@ -32,7 +33,8 @@ returns c =
     let many_too : c.marks-2.result ≡ marks_to last = c.marks-2.ensures.exact ∙ ap marks c.paper-paper.ensures in
     let first : c.first_left.result ≡ first_left last = c.first_left.ensures ∙ ap (λ (p : Paper). first_left (last_row p)) c.paper-paper.ensures in
     let end_is : c.right_of-end.result ≡ end_of last places =
-    c.right_of-end.ensures.exact ∙ ap right_of (sym (at-point places (c.marks.result - 1) c.at.result c.at.ensures.place) ∙ ap (λ (n : ℕ). point_at places (n - 1)) many) in
+    c.right_of-end.ensures.exact
+    ∙ ap right_of (sym (at-point places (c.marks.result - 1) c.at.result c.at.ensures.place) ∙ ap (λ (n : ℕ). point_at places (n - 1)) many) in
     let found_is : c.at-2.result ≡ right_end_of last places =
     sym (at-point places (c.first_left.result - 1) c.at-2.result c.at-2.ensures.place) ∙ ap (λ (n : ℕ). point_at places (n - 1)) first in
     c.check_near.ensures

@@ -7,12 +7,13 @@ use Rattle.vx_scan_model.specs.Named.{StandsOnPaper}
 use Rattle.vx_check.specs.Tests.{paper_tested, border_tested, plan_tested, bubbles_tested, upright_tested}
 use Rattle.vx_check.proofs.Places.{paper-same, ok-is}
 use Rattle.vx_check.proofs.Codes.{plan-named}
-use Rattle.vx_check.proofs.Certified.{AreLaws, bubbles-left, tested-certified, marks-pass, plan-passes, certified-tested, never-passes}
+use Rattle.vx_check.proofs.Certified.{laws-of, bubbles-left, tested-certified, marks-pass, plan-passes, certified-tested, never-passes}
 use Rattle.vx_check.proofs.checking.check_upright.Goals as goal
 
 pub returns-in_err-check_border-clause-certified : goal.returns-in_err-check_border-clause-certified
 returns-in_err-check_border-clause-certified c =
-    let laws : AreLaws = record { tests = c.places_are_tested.ensures; framed = c.accepted_places_are_framed.ensures; back = c.codes_are_given_back.ensures; codes = c.codes_name_printed_pages.ensures } in
+    let laws =
+    laws-of c.places_are_tested.ensures c.accepted_places_are_framed.ensures c.codes_are_given_back.ensures c.codes_name_printed_pages.ensures in
     let p = err_from_is_err_and c.from_residual-in_err-check_border.result c.from_residual-in_err-check_border.ensures.1 in
     rw p.1 (
       λ ok. absurd (false≢true ok),
@@ -22,7 +23,8 @@ returns-in_err-check_border-clause-certified c =
 
 pub returns-in_err-plan-clause-certified : goal.returns-in_err-plan-clause-certified
 returns-in_err-plan-clause-certified c =
-    let laws : AreLaws = record { tests = c.places_are_tested.ensures; framed = c.accepted_places_are_framed.ensures; back = c.codes_are_given_back.ensures; codes = c.codes_name_printed_pages.ensures } in
+    let laws =
+    laws-of c.places_are_tested.ensures c.accepted_places_are_framed.ensures c.codes_are_given_back.ensures c.codes_name_printed_pages.ensures in
     let p = err_from_is_err_and c.from_residual-in_err-plan.result c.from_residual-in_err-plan.ensures.1 in
     rw p.1 (
       λ ok. absurd (false≢true ok),
@@ -45,7 +47,8 @@ returns-clause-certified c =
     let page = c.args.counter.now in
     let reading = c.args.reading.now in
     let plan = c.in_ok-plan.plan.now in
-    let laws : AreLaws = record { tests = c.places_are_tested.ensures; framed = c.accepted_places_are_framed.ensures; back = c.codes_are_given_back.ensures; codes = c.codes_name_printed_pages.ensures } in
+    let laws =
+    laws-of c.places_are_tested.ensures c.accepted_places_are_framed.ensures c.codes_are_given_back.ensures c.codes_name_printed_pages.ensures in
     let left : upright_tested election page reading ≡ bubbles_tested election.thresholds page reading plan =
     bubbles-left laws election page reading plan (sym c.in_ok-check_frame.ensures) (ap (paper_tested election.paper) (sym c.paper.ensures) ∙ sym c.in_ok-check_paper.ensures)
     (sym c.in_ok-check_border.ensures.exact) (sym c.in_ok-check_code.ensures.exact) c.in_ok-plan.ensures in (

@@ -14,4 +14,5 @@ returns-then-wrong-le-MOST c =
     let row : pos c.unsigned-2.result ≡ c.args.place.v = simp to_z-of_z at c.unsigned-2.ensures in
     let inside : IsInFrame c.args.counter.now c.args.place = search (rules, c.if-not-in_frame.ensures) in
     accepted-up_to c.args.counter.now c.args.place c.unsigned.result c.unsigned-2.result c.deficit_up_to-wrong.result
-    (same-point c.args.place (place_in c.unsigned.result c.unsigned-2.result) (sym column) (sym row)) inside c.deficit_up_to-wrong.ensures c.if-wrong-le-MOST.true
+    (same-point c.args.place (place_in c.unsigned.result c.unsigned-2.result) (sym column) (sym row))
+    inside c.deficit_up_to-wrong.ensures c.if-wrong-le-MOST.true
