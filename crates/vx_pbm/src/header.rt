@@ -68,9 +68,10 @@ fn number_of(digits: &[u8]) -> u32
     number
 }
 
-/// The offset behind the gap at an offset; `Err` has the offset, where no gap begins.
+/// The offset behind the gap at an offset, whitespace and comments of one byte or more; `Err` has the
+/// offset, where no gap begins. Netpbm's other formats have such gaps, numbers and spaces too.
 #[tactic(auto, unfolding(crate::specs::Header::gap_at))]
-fn gap_at(text: &[u8], at: usize) -> Result<usize, usize>
+pub fn gap_at(text: &[u8], at: usize) -> Result<usize, usize>
     requires { at ≤ length text.now }
     ensures exact { result ≡ gap_at text.now at }
     ensures within { MatchResult result
@@ -86,7 +87,7 @@ fn gap_at(text: &[u8], at: usize) -> Result<usize, usize>
 /// The number at an offset, above 0 and of one to nine digits, and the offset behind it; `Err` has
 /// the offset, where there is no such number.
 #[tactic(auto, unfolding(crate::specs::Header::number_at))]
-fn number_at(text: &[u8], at: usize) -> Result<(u32, usize), usize>
+pub fn number_at(text: &[u8], at: usize) -> Result<(u32, usize), usize>
     requires { at ≤ length text.now }
     ensures exact { result ≡ number_at text.now at }
     ensures within { MatchResult result (λ found. (found.1 ≤ length text.now) × (0 < found.0))
@@ -106,7 +107,7 @@ fn number_at(text: &[u8], at: usize) -> Result<(u32, usize), usize>
 
 /// The offset behind the whitespace byte at an offset; `Err` has the offset, where there is none.
 #[tactic(auto, unfolding(crate::specs::Header::space_at))]
-fn space_at(text: &[u8], at: usize) -> Result<usize, usize>
+pub fn space_at(text: &[u8], at: usize) -> Result<usize, usize>
     requires { at ≤ length text.now }
     ensures exact { result ≡ space_at text.now at }
     ensures within { MatchResult result

@@ -19,6 +19,7 @@ mod reader;
 mod step;
 
 pub use fault::PbmFault;
+pub use header::{gap_at, number_at, space_at};
 pub use image::Image;
 pub use laws::{
     a_walk_gives_all_images, images_are_whole, raw_images_join, what_is_written_reads_back,
