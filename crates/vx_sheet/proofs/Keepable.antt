@@ -1,5 +1,5 @@
 -- The event of two images that are read fits the election, and has a record.
-use Rattle.std.proofs.Common.{◌≡◌, ℕ, ◌<◌, ◌≤◌, Bool, true, false, cond, List, Result, Ok, Err, refl, sym, ap, subst, ◌∙◌}
+use Rattle.std.proofs.Common.{◌≡◌, ℕ, ◌<◌, ◌≤◌, Bool, true, false, cond, List, Result, Ok, Err, refl, ap, subst, ◌∙◌}
 use Rattle.std.specs.Prelude.{◌&&◌, IfOk, nat_le, nat_lt}
 use Rattle.std.proofs.lemmas.List.{length-map}
 use Rattle.vx_base.proofs.Booleans.{and-both, chosen-if}
@@ -16,7 +16,7 @@ use Rattle.vx_election_model.specs.Valid.{IsValid}
 use Rattle.vx_events.specs.declared.event.Event.{Event}
 use Rattle.vx_events.specs.declared.event.Event.TheVariants.{Add}
 use Rattle.vx_events.specs.declared.key.Key.{Key}
-use Rattle.vx_events.specs.Fits.{Fits, is_batch, is_key, is_sheet}
+use Rattle.vx_events.specs.Fits.{is_batch, is_key, is_sheet}
 use Rattle.vx_layout.specs.declared.pages.PagePlan.{PagePlan}
 use Rattle.vx_layout.specs.Plans.{PlansShowEachOption}
 use Rattle.vx_rules.specs.declared.marks.SheetMarks.{SheetMarks}
@@ -99,12 +99,6 @@ module _ (election : Election) (batch : List ℕ) (batch-is : is_batch batch ≡
   read-keepable : (read : Result SheetMarks Came) (event : Event) → ((sheet : SheetMarks) → read ≡ Ok sheet → CanBeAdded election sheet) → event_of batch number read ≡ Ok event → IsKeepable election event
   read-keepable (Err came) event added is = absurd cc
   read-keepable (Ok sheet) event added is = sheet-keepable sheet event (added sheet refl) is
-
-  -- what was made fits, where it is an event
-  pub made-fits : (read : Result SheetMarks Came) (made : Result Event Came) → IfOk read (CanBeAdded election) → made ≡ event_of batch number read → IfOk made (Fits election)
-  made-fits read (Err came) added is = tt
-  made-fits (Err came) (Ok event) added is = absurd cc
-  made-fits (Ok sheet) (Ok event) added is = (sheet-keepable sheet event added (sym is)).fits
 
 pub events-keepable : PairedCanBeAdded → PlansShowEachOption → SheetEventsAreKeepable
 events-keepable paired shows election batch number image first second event valid batch-is some is =
