@@ -40,8 +40,13 @@ values_of_bits-bits_of_fields (width ∷ ws) [] fit = absurd fit
 values_of_bits-bits_of_fields (width ∷ ws) (value ∷ values) fit =
     let rest = bits_of_fields (zip ws values) in
     let here = length-bits_of_number width value in
-    rw (bits_of_fields-first width value ws values, take-front (bits_of_number width value) rest width here,
-    drop-front (bits_of_number width value) rest width here, number_of_bits-bits_of_number width value fit.0, values_of_bits-bits_of_fields ws values fit.1)
+    rw (
+      bits_of_fields-first width value ws values,
+      take-front (bits_of_number width value) rest width here,
+      drop-front (bits_of_number width value) rest width here,
+      number_of_bits-bits_of_number width value fit.0,
+      values_of_bits-bits_of_fields ws values fit.1,
+    )
     refl
 
 no_fields : bits_of_fields [] ≡ []

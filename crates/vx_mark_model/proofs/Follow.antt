@@ -38,7 +38,7 @@ pub followed_grows : (page : Page) (last n : ℕ) (places longer : List Point) �
 followed_grows page last n places longer some f same best =
     let Corner : Point → Type 0 = λ x. IsCorner page x in
     let expected : (j : ℕ) → 0 < j → j ≤ n → IsBest page (prediction_of last places j) (point_at longer j)
-        → IsBest page (prediction_of last longer j) (point_at longer j) =
+    → IsBest page (prediction_of last longer j) (point_at longer j) =
     λ j low high here.
     let Expected : Point → Type 0 = λ q. IsBest page q (point_at longer j) in
     subst Expected (sym (prediction_same last n places longer same j low high)) here in

@@ -191,11 +191,7 @@ fn paired(alloc: Global) -> Result<BitPage, Fail> {
 }
 
 /// A page has this fault.
-fn assert_fault<R: AllocGlobal + Abort>(
-    rt: &R,
-    page: &BitPage,
-    fault: &str,
-) -> Result<(), Fail> {
+fn assert_fault<R: AllocGlobal + Abort>(rt: &R, page: &BitPage, fault: &str) -> Result<(), Fail> {
     let wanted = format!(in rt.alloc(); "page 1 fault {fault}\n")?;
     let text = read_text(rt.alloc(), page)?;
     assert_eq!(rt; text.as_slice(), wanted.as_bytes(), "{fault}");
@@ -259,11 +255,7 @@ pub(crate) fn turned(alloc: Global, page: &BitPage) -> Result<BitPage, Fail> {
 }
 
 /// A page that is upside down is read so.
-fn assert_over<R: AllocGlobal + Abort>(
-    rt: &R,
-    page: &BitPage,
-    wanted: &str,
-) -> Result<(), Fail> {
+fn assert_over<R: AllocGlobal + Abort>(rt: &R, page: &BitPage, wanted: &str) -> Result<(), Fail> {
     let over = turned(rt.alloc(), page)?;
     let text = read_text(rt.alloc(), &over)?;
     assert_eq!(rt; text.as_slice(), wanted.as_bytes());

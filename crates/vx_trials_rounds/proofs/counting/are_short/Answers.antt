@@ -6,8 +6,8 @@ use Rattle.vx_trials_rounds.proofs.counting.are_short.Goals as goal
 
 -- one ranking more is short
 one_more : (rankings : List (List ℕ)) (i : ℕ) (d : List ℕ) → i < length rankings → All (λ (ranking : List ℕ). length ranking < 2 ^ 32) (take i rankings) →
-  length (get_or rankings i d) < 2 ^ 32 →
-  All (λ (ranking : List ℕ). length ranking < 2 ^ 32) (take (i + 1) rankings)
+    length (get_or rankings i d) < 2 ^ 32 →
+    All (λ (ranking : List ℕ). length ranking < 2 ^ 32) (take (i + 1) rankings)
 one_more rankings i d within each short = All-more (λ (ranking : List ℕ). length ranking < 2 ^ 32) rankings i d within each short
 
 pub loop-ranking-preserved : goal.loop-ranking-preserved
@@ -15,9 +15,9 @@ loop-ranking-preserved c =
     let within : c.loop-ranking.ranking-index < length c.args.rankings.now = omega arith in
     let same = ap (λ (ranking : List ℕ). length ranking) c.ranking-item.is in
     one_more c.args.rankings.now c.loop-ranking.ranking-index c.ranking-item.result within c.loop-ranking.invariant
-      (omega (arith, same, c.len.ensures, c.if-len-ge4294967296.false))
+    (omega (arith, same, c.len.ensures, c.if-len-ge4294967296.false))
 
 pub returns : goal.returns
 returns c =
     subst (λ (rankings : List (List ℕ)). All (λ (ranking : List ℕ). length ranking < 2 ^ 32) rankings)
-      (take_all c.loop-ranking.ranking-index c.args.rankings.now c.loop-ranking-test.false) c.loop-ranking.invariant
+    (take_all c.loop-ranking.ranking-index c.args.rankings.now c.loop-ranking-test.false) c.loop-ranking.invariant
