@@ -1,3 +1,7 @@
+pub mod Bounds
 pub mod Bytes
+pub mod Changes
 pub mod Each
 pub mod Finding
+pub mod SameSums
+pub mod Summed

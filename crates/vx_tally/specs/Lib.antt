@@ -6,3 +6,5 @@ pub mod Members
 pub mod Contests
 pub mod Records
 pub mod Reading
+pub mod Totals
+pub mod Sums

@@ -1,6 +1,11 @@
 //! What a report says: units, contests, and records with their votes.
 
-use vx_base::ListOf;
+ghost use Rattle.std.specs.Prelude.{◌≡◌, IfOk};
+ghost use Rattle.std.specs.Cmp.Lexicographic.{pointwise};
+ghost use Rattle.vx_tally.specs.Totals.{same_contest, same_record};
+
+use std::alloc::Global;
+use vx_base::{ListOf, OutOfMemory};
 use vx_json::{Text, Texts};
 
 /// A contest of a report.
@@ -16,7 +21,7 @@ pub struct ReportContest {
 pub type ReportContests = ListOf<ReportContest>;
 
 /// Votes for a selection.
-#[derive(Clone, Copy, Debug)]
+#[derive(Clone, Copy, Debug, PartialEq)]
 pub struct VoteRow {
     /// The selection's place among those of its contest.
     pub selection: u32,
@@ -40,6 +45,31 @@ pub struct RecordContest {
     pub votes: VoteRows,
 }
 
+impl RecordContest {
+    /// Whether two contests are equal.
+    fn is_same(&self, other: &RecordContest) -> bool
+        ensures { result ≡ same_contest self.now other.now }
+    {
+        self.contest == other.contest
+            && self.over == other.over
+            && self.under == other.under
+            && self.votes.as_slice() == other.votes.as_slice()
+    }
+
+    /// An equal contest.
+    fn copy(&self, alloc: Global) -> Result<RecordContest, OutOfMemory>
+        ensures { IfOk result (λ copy. copy ≡ self.now) }
+    {
+        let votes = Vec::from_slice(alloc, self.votes.as_slice())?;
+        Ok(RecordContest {
+            contest: self.contest,
+            over: self.over,
+            under: self.under,
+            votes: VoteRows::from_vec(votes),
+        })
+    }
+}
+
 /// Contests of a record.
 pub type RecordContests = ListOf<RecordContest>;
 
@@ -52,6 +82,52 @@ pub struct CvrRecord {
     pub unit: u32,
     /// Its contests, each once where they were read.
     pub contests: RecordContests,
+}
+
+fn copy_contests(alloc: Global, contests: &[RecordContest]) -> Result<RecordContests, OutOfMemory>
+    ensures { IfOk result (λ copy. copy ≡ contests.now) }
+{
+    let mut copy = RecordContests::new(alloc);
+    for contest in contests {
+        copy.push(contest.copy(alloc)?)?;
+    }
+    Ok(copy)
+}
+
+fn are_same(one: &[RecordContest], other: &[RecordContest]) -> bool
+    ensures { result ≡ pointwise same_contest one.now other.now }
+{
+    if one.len() != other.len() {
+        return false;
+    }
+    for index in 0..one.len() {
+        if !one[index].is_same(&other[index]) {
+            return false;
+        }
+    }
+    true
+}
+
+impl CvrRecord {
+    /// Whether two records are equal.
+    pub(crate) fn is_same(&self, other: &CvrRecord) -> bool
+        ensures { result ≡ same_record self.now other.now }
+    {
+        self.unique.as_str() == other.unique.as_str()
+            && self.unit == other.unit
+            && are_same(self.contests.as_slice(), other.contests.as_slice())
+    }
+
+    /// An equal record.
+    pub fn copy(&self, alloc: Global) -> Result<CvrRecord, OutOfMemory>
+        ensures { IfOk result (λ copy. copy ≡ self.now) }
+    {
+        Ok(CvrRecord {
+            unique: self.unique.copy(alloc)?,
+            unit: self.unit,
+            contests: copy_contests(alloc, self.contests.as_slice())?,
+        })
+    }
 }
 
 /// Cast vote records.

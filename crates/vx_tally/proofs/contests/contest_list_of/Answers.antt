@@ -1,10 +1,10 @@
-use Rattle.std.proofs.Common.{◌≡◌, ◌∙◌, ◌+◌, ℕ, sym, ap, List, [], Ok, Err, map, rules, arith}
+use Rattle.std.proofs.Common.{◌≡◌, Ok, Err, rules, arith}
 use Rattle.vx_base.specs.Refusals.{Unless}
 use Rattle.std.proofs.lemmas.Result.{err_from_is_err_and}
 use Rattle.serde_json.specs.View.{view}
 use Rattle.vx_base.proofs.Results.{Unless-weaker}
 use Rattle.vx_tally.specs.Faults.{is_no_memory}
-use Rattle.vx_tally.specs.Members.{with_next, each_of}
+use Rattle.vx_tally.specs.Members.{with_next}
 use Rattle.vx_tally.specs.Contests.{contest_in, with_contest, contest_list_in}
 use Rattle.vx_tally.proofs.Each.{next-turn, next-refused, hands-on}
 use Rattle.vx_tally.proofs.contests.contest_list_of.Goals as goal

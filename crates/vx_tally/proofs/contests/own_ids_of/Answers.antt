@@ -1,4 +1,4 @@
-use Rattle.std.proofs.Common.{◌≡◌, ◌∙◌, sym, ap, List, ℕ}
+use Rattle.std.proofs.Common.{◌∙◌, sym, ap, List, ℕ}
 use Rattle.vx_tally.specs.Ids.{place_in}
 use Rattle.vx_tally.proofs.Finding.{position-behind}
 use Rattle.std.specs.Prelude.{bytes_eq}

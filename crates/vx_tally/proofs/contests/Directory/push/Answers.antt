@@ -2,7 +2,6 @@ use Rattle.std.proofs.Common.{◌≡◌, ◌≤◌, ◌++◌, ◌∷◌, [], Lis
 use Rattle.std.proofs.lemmas.Grind.{common_steps}
 use Rattle.std.proofs.lemmas.List.Elements.{All-push}
 use Rattle.vx_tally.specs.Members.{list_limit}
-use Rattle.vx_tally.specs.Contests.{contest_ids, own_selections}
 use Rattle.vx_tally.proofs.contests.Directory.push.Goals as goal
 
 pub invariant_of-self-2 : goal.invariant_of-self-2

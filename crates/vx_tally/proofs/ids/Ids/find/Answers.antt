@@ -1,4 +1,4 @@
-use Rattle.std.proofs.Common.{◌≡◌, ◌∙◌, List, ℕ, sym, ap}
+use Rattle.std.proofs.Common.{◌∙◌, List, ℕ, ap}
 use Rattle.std.specs.Prelude.{bytes_eq, string_bytes, position}
 use Rattle.vx_tally.proofs.Finding.{position-map}
 use Rattle.vx_tally.proofs.ids.Ids.find.Goals as goal
