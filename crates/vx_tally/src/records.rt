@@ -44,13 +44,8 @@ fn row_of(
     requires { length selections.now ≤ 1000000 }
     ensures { Gives is_no_memory result (row_at selections.now path.now (view value.now)) }
 {
-    let selection = reference_member(
-        alloc,
-        value,
-        path,
-        names::contest_selection_id(),
-        selections,
-    )?;
+    let name = names::contest_selection_id();
+    let selection = reference_member(alloc, value, path, name, selections)?;
     let votes = votes_of(alloc, value, path)?;
     Ok(VoteRow { selection, votes })
 }

@@ -104,13 +104,20 @@ fn change_contest(sums: &mut Sums, change: Change, unit: u32, counted: &RecordCo
     );
 }
 
+fn change_contests(sums: &mut Sums, change: Change, unit: u32, contests: &[RecordContest])
+    requires { Allows change (flat_map (contest_shares unit) contests.now) sums.old }
+    ensures { IsChanged change (flat_map (contest_shares unit) contests.now) sums.old sums.new }
+{
+    for counted in contests {
+        change_contest(sums, change, unit, counted);
+    }
+}
+
 /// Adds the numbers of a record to their sums, or takes them away. Taking away takes no memory, and
 /// adding none beyond the room that there is.
 pub(crate) fn change_record(sums: &mut Sums, change: Change, one: &CvrRecord)
     requires { Allows change (record_shares one.now) sums.old }
     ensures { IsChanged change (record_shares one.now) sums.old sums.new }
 {
-    for counted in one.contests.as_slice() {
-        change_contest(sums, change, one.unit, counted);
-    }
+    change_contests(sums, change, one.unit, one.contests.as_slice());
 }
