@@ -3,5 +3,6 @@ pub mod Bytes
 pub mod Changes
 pub mod Each
 pub mod Finding
+pub mod Readings
 pub mod SameSums
 pub mod Summed

@@ -5,7 +5,7 @@ use Rattle.std.specs.List.{flat_map, position_or_len}
 use Rattle.vx_tally.specs.declared.report.CvrRecord.{CvrRecord}
 use Rattle.vx_tally.specs.declared.report.RecordContest.{RecordContest}
 use Rattle.vx_tally.specs.declared.report.VoteRow.{VoteRow}
-use Rattle.vx_tally.specs.Members.{vote_limit}
+use Rattle.vx_tally.specs.Members.{list_limit, vote_limit}
 
 -- votes for a selection of a contest, in a record of a unit
 pub record Row : Type 0 where
@@ -91,3 +91,8 @@ IsSmall counted = (counted.over ≤ vote_limit) × (counted.under ≤ vote_limit
 pub record IsCountable (one : CvrRecord) : Type 0 where
   pub size : size_of one ≤ record_size_limit
   pub small : All IsSmall one.contests
+
+-- records of which each can be added, few enough to add them all
+pub record AreCountable (records : List CvrRecord) : Type 0 where
+  pub few : length records ≤ list_limit
+  pub each : All IsCountable records

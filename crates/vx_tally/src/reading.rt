@@ -1,9 +1,10 @@
 //! The report that bytes give.
 
-ghost use Rattle.std.specs.Prelude.{◌≡◌};
+ghost use Rattle.std.specs.Prelude.{◌≡◌, IfOk};
 ghost use Rattle.serde_json.specs.View.{view};
 ghost use Rattle.vx_base.specs.Refusals.{Gives, GivesAs};
 ghost use Rattle.vx_tally.specs.Faults.{is_no_memory};
+ghost use Rattle.vx_tally.specs.Totals.{AreCountable};
 ghost use Rattle.vx_tally.specs.Reading.{report_in, value_in, report_in_bytes};
 
 use crate::contests::{contests_of, units_of};
@@ -47,7 +48,8 @@ fn value_of(alloc: Global, bytes: &[u8]) -> Result<Value, ReportFault>
 /// element.
 #[tactic(auto, unfolding(crate::specs::Reading::report_in_bytes))]
 pub fn read_report(alloc: Global, bytes: &[u8]) -> Result<Report, ReportFault>
-    ensures { Gives is_no_memory result (report_in_bytes bytes.now) }
+    ensures exact { Gives is_no_memory result (report_in_bytes bytes.now) }
+    ensures countable { IfOk result (λ report. AreCountable report.records) }
 {
     let value = value_of(alloc, bytes)?;
     report_of(alloc, &value)
