@@ -28,7 +28,8 @@ named-behind P no_members k d ms h = h.0
 named-behind P (member l e before) k d ms h = named-behind P before k d ms h.1
 
 -- a name that is behind all others goes last
-put_last : (before : Members) (k : List ℕ) (d : Data) (ms : Members) → IsStrictlySortedBy (slice_cmp nat_cmp) (names (join before (member k d ms))) → put k d before ≡ join before (member k d no_members)
+put_last : (before : Members) (k : List ℕ) (d : Data) (ms : Members) → IsStrictlySortedBy (slice_cmp nat_cmp) (names (join before (member k d ms)))
+    → put k d before ≡ join before (member k d no_members)
 unfolding IsStrictlySortedBy
 put_last no_members k d ms h = refl
 put_last (member l e before) k d ms h =
@@ -50,7 +51,8 @@ mutual
   settled_items-same no_items h = refl
   settled_items-same (item d ds) h = ap₂ item (settled-same d h.0) (settled_items-same ds h.1)
 
-  settled_members-same : (ms before : Members) → IsStrictlySortedBy (slice_cmp nat_cmp) (names (join before ms)) → MembersHaveOrderedNames ms → settled_members ms before ≡ join before ms
+  settled_members-same : (ms before : Members) → IsStrictlySortedBy (slice_cmp nat_cmp) (names (join before ms)) → MembersHaveOrderedNames ms
+      → settled_members ms before ≡ join before ms
   settled_members-same no_members before sorted h = sym (join-none before)
   settled_members-same (member k d ms) before sorted h =
       ap (λ (e : Data). settled_members ms (put k e before)) (settled-same d h.0)

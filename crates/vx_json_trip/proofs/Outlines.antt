@@ -35,12 +35,14 @@ negative_digits : (ds : List ℕ) → 48 < get_or ds 0 0 → IsNumber ds → IsN
 unfolding after_number
 negative_digits [] first h = absurd (omega (arith, first))
 negative_digits (d ∷ ds) first h =
-    sym (ap (λ (b : Bool). option_and_then after_exponent (option_and_then after_fraction (after_whole (cond b ds (d ∷ ds))))) (ne_eqb d 45 (λ e. omega (arith, first, e)))) ∙ h
+    sym (ap (λ (b : Bool). option_and_then after_exponent (option_and_then after_fraction (after_whole (cond b ds (d ∷ ds)))))
+    (ne_eqb d 45 (λ e. omega (arith, first, e)))) ∙ h
 
 IsNumber-text : (n : Num) → IsWhole n → IsNumber (number_text n)
 IsNumber-text (unsigned n) h = IsNumber-decimal n h
 IsNumber-text (negative (pos n)) h = absurd h
-IsNumber-text (negative (negsuc n)) h = negative_digits (decimal (suc n)) (first_decimal (suc n) (omega arith) (omega (arith, h))) (IsNumber-decimal (suc n) (omega (arith, h)))
+IsNumber-text (negative (negsuc n)) h =
+    negative_digits (decimal (suc n)) (first_decimal (suc n) (omega arith) (omega (arith, h))) (IsNumber-decimal (suc n) (omega (arith, h)))
 IsNumber-text (float x) h = absurd h
 
 mutual

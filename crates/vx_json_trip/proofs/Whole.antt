@@ -23,7 +23,8 @@ printable d is = ArePrintable-json_tokens (outline d) (HasNumbers-outline d is.w
 from-tokens : (d : Data) (text : List ℕ) → IsReadable d → tokens text ≡ json_tokens (outline d) → read text ≡ Some (settled d)
 from-tokens d text is same =
     let shallow = subst (λ (n : ℕ). n ≤ max_depth) (sym (depth-outline d)) is.shallow in
-    ap (λ (ts : List Token). option_and_then of_json (option_and_then (λ p. json.if_last p.0 p.1) (json.value max_depth ts))) (same ∙ sym (append-nil (json_tokens (outline d))))
+    ap (λ (ts : List Token). option_and_then of_json (option_and_then (λ p. json.if_last p.0 p.1) (json.value max_depth ts)))
+    (same ∙ sym (append-nil (json_tokens (outline d))))
     ∙ ap (λ o. option_and_then of_json (option_and_then (λ p. json.if_last p.0 p.1) o)) (value-json_tokens (outline d) max_depth [] shallow)
     ∙ of_json-outline d is.whole
 

@@ -25,7 +25,8 @@ rows-length unit contest (row ∷ votes) = omega (arith, rows-length unit contes
 contest-size : RecordContest → ℕ
 contest-size counted = 1 + length counted.votes
 
-contests-length : (unit : ℕ) (contests : List RecordContest) → length (flat_map (contest_shares unit) contests) ≡ 2 * sum_by (λ (counted : RecordContest). 1 + length counted.votes) contests
+contests-length : (unit : ℕ) (contests : List RecordContest)
+    → length (flat_map (contest_shares unit) contests) ≡ 2 * sum_by (λ (counted : RecordContest). 1 + length counted.votes) contests
 contests-length unit [] = refl
 contests-length unit (counted ∷ contests) =
     omega (
@@ -50,16 +51,26 @@ filter-most test value [] = omega arith
 filter-most test value (x ∷ xs) =
     omega (arith, chosen-sum (test x) value x (filter test xs), cond-most (test x) (value x), filter-most test value xs, sum-cons value x xs)
 
-rows-most : (unit contest : ℕ) (votes : List VoteRow) → All (λ (row : VoteRow). row.votes ≤ 50) votes → sum_by (λ (share : Share). share.1) (flat_map (row_shares unit contest) votes) ≤ 100 * length votes
+rows-most : (unit contest : ℕ) (votes : List VoteRow) → All (λ (row : VoteRow). row.votes ≤ 50) votes
+    → sum_by (λ (share : Share). share.1) (flat_map (row_shares unit contest) votes) ≤ 100 * length votes
 rows-most unit contest [] small = omega arith
 rows-most unit contest (row ∷ votes) small =
     let value : Share → ℕ = λ share. share.1 in
     let rest = flat_map (row_shares unit contest) votes in
     let first : Share = (Votes contest row.selection, row.votes) in
     let second : Share = (VotesIn unit contest row.selection, row.votes) in
-    omega (arith, sum-cons value first (second ∷ rest), sum-cons value second rest, rows-most unit contest votes (All-tail (λ (row : VoteRow). row.votes ≤ 50) row votes small), All-head (λ (row : VoteRow). row.votes ≤ 50) row votes small)
+    omega (
+      arith,
+      sum-cons value first (second ∷ rest),
+      sum-cons value second rest,
+      rows-most unit contest votes
+          (All-tail (λ (row : VoteRow). row.votes ≤ 50) row votes small),
+      All-head (λ (row : VoteRow). row.votes ≤ 50) row votes small,
+    )
 
-contests-most : (unit : ℕ) (contests : List RecordContest) → All IsSmall contests → sum_by (λ (share : Share). share.1) (flat_map (contest_shares unit) contests) ≤ 100 * sum_by (λ (counted : RecordContest). 1 + length counted.votes) contests
+contests-most : (unit : ℕ) (contests : List RecordContest) → All IsSmall contests
+    → sum_by (λ (share : Share). share.1) (flat_map (contest_shares unit) contests)
+    ≤ 100 * sum_by (λ (counted : RecordContest). 1 + length counted.votes) contests
 contests-most unit [] small = omega arith
 contests-most unit (counted ∷ contests) small =
     let value : Share → ℕ = λ share. share.1 in
@@ -82,10 +93,16 @@ contests-most unit (counted ∷ contests) small =
 -- a record that can be added raises no sum by more than so much
 pub record-most : (key : Counted) (one : CvrRecord) → IsCountable one → sum_of key (record_shares one) ≤ 1000000000
 record-most key one countable =
-    omega (arith, filter-most (λ (share : Share). same_counted key share.0) (λ (share : Share). share.1) (record_shares one), contests-most one.unit one.contests countable.small, countable.size)
+    omega (
+      arith,
+      filter-most (λ (share : Share). same_counted key share.0) (λ (share : Share). share.1) (record_shares one),
+      contests-most one.unit one.contests countable.small,
+      countable.size,
+    )
 
 -- and records no sum above so much for each
-pub records-most : (key : Counted) (records : List CvrRecord) → All IsCountable records → sum_by (λ (one : CvrRecord). sum_of key (record_shares one)) records ≤ 1000000000 * length records
+pub records-most : (key : Counted) (records : List CvrRecord) → All IsCountable records
+    → sum_by (λ (one : CvrRecord). sum_of key (record_shares one)) records ≤ 1000000000 * length records
 records-most key [] countable = omega arith
 records-most key (one ∷ records) countable =
     omega (
@@ -97,7 +114,8 @@ records-most key (one ∷ records) countable =
 
 module _ {S : Type 0} where
   -- the sums behind one record more
-  pub summed-more : (records : List CvrRecord) (one : CvrRecord) (old room new : IndexMap Counted ℕ S) → IsSummed records old → length records < record_count_limit → IsCountable one → room.entries ≡ old.entries
+  pub summed-more : (records : List CvrRecord) (one : CvrRecord) (old room new : IndexMap Counted ℕ S) → IsSummed records old
+      → length records < record_count_limit → IsCountable one → room.entries ≡ old.entries
       → IsChanged Raise (record_shares one) room new → IsSummed (records ++ one ∷ []) new
   summed-more records one old room new is few countable same changed = record {
     few = omega (arith, few, length-append records (one ∷ []));
@@ -109,7 +127,8 @@ module _ {S : Type 0} where
   }
 
   -- a record that can be added can be
-  pub allows-more : (records : List CvrRecord) (one : CvrRecord) (old room : IndexMap Counted ℕ S) → IsSummed records old → length records < record_count_limit → IsCountable one → room.entries ≡ old.entries
+  pub allows-more : (records : List CvrRecord) (one : CvrRecord) (old room : IndexMap Counted ℕ S) → IsSummed records old
+      → length records < record_count_limit → IsCountable one → room.entries ≡ old.entries
       → 2 * size_of one ≤ spare room → Allows Raise (record_shares one) room
   allows-more records one old room is few countable same free = (
     omega (arith, free, shares-length one),
@@ -120,7 +139,9 @@ module _ {S : Type 0} where
 
 -- the sums without the record at a place
 module _ (records : List CvrRecord) (place : ℕ) (gone : CvrRecord) (lt : place < length records) (there : gone ≡ slice_index_or records place gone) where
-  left : (key : Counted) → sum_by (λ (one : CvrRecord). sum_of key (record_shares one)) (remove records place) + sum_of key (record_shares gone) ≡ sum_by (λ (one : CvrRecord). sum_of key (record_shares one)) records
+  left : (key : Counted)
+      → sum_by (λ (one : CvrRecord). sum_of key (record_shares one)) (remove records place) + sum_of key (record_shares gone)
+      ≡ sum_by (λ (one : CvrRecord). sum_of key (record_shares one)) records
   left key =
       let own : CvrRecord → ℕ = λ one. sum_of key (record_shares one) in
       ap (λ (one : CvrRecord). sum_by own (remove records place) + own one) there ∙ sum_by-remove own records place gone lt
@@ -128,9 +149,12 @@ module _ (records : List CvrRecord) (place : ℕ) (gone : CvrRecord) (lt : place
   pub allows-less : {S : Type 0} (old : IndexMap Counted ℕ S) → IsSummed records old → Allows Lower (record_shares gone) old
   allows-less old is = λ key. omega (arith, left key, is.sums_are key)
 
-  pub summed-less : {S : Type 0} (old new : IndexMap Counted ℕ S) → IsSummed records old → IsChanged Lower (record_shares gone) old new → IsSummed (remove records place) new
+  pub summed-less : {S : Type 0} (old new : IndexMap Counted ℕ S) → IsSummed records old → IsChanged Lower (record_shares gone) old new
+      → IsSummed (remove records place) new
   summed-less old new is changed = record {
     few = omega (arith, is.few, length-remove records place lt);
-    countable = All-append IsCountable (take place records) (drop (suc place) records) (All-take IsCountable place records is.countable) (All-drop IsCountable (suc place) records is.countable);
+    countable =
+        All-append IsCountable (take place records) (drop (suc place) records) (All-take IsCountable place records is.countable)
+        (All-drop IsCountable (suc place) records is.countable);
     sums_are = λ key. omega (arith, left key, is.sums_are key, changed key);
   }

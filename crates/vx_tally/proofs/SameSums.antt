@@ -94,12 +94,15 @@ module _ {S : Type 0} (key : Counted) (number : ℕ) (old new : IndexMap Counted
   absent-zero e = ap (λ (o : Option ℕ). unwrap_or o 0) (sym (get-same old key) ∙ e)
 
   -- a sum that isn't there isn't lowered
-  pub succeeds : {A F : Type 0} (change : Change) (result : Result A F) → Allows change ((key, number) ∷ []) old → 0 < number → (0 < spare old → IsOk result) → OnErr result (get derived old key ≡ None) → IsOk result
+  pub succeeds : {A F : Type 0} (change : Change) (result : Result A F) → Allows change ((key, number) ∷ []) old → 0 < number
+      → (0 < spare old → IsOk result) → OnErr result (get derived old key ≡ None) → IsOk result
   succeeds Raise result h some room absent = room (omega (arith, h.0))
   succeeds Lower (Ok x) h some room absent = refl
   succeeds Lower (Err e) h some room absent = absurd (omega (arith, h key, own-share key number, some, absent-zero absent))
 
-  module _ (changed : (other : Counted) → get same_counted new other ≡ cond (same_counted key other) (Some (changed_by Raise (sum_at old key) number)) (get same_counted old other)) where
+  module _
+      (changed : (other : Counted) → get same_counted new other
+      ≡ cond (same_counted key other) (Some (changed_by Raise (sum_at old key) number)) (get same_counted old other)) where
     raised-at : (other : Counted) (b : Bool) → same_counted key other ≡ b → sum_at new other ≡ sum_at old other + cond b number 0
     raised-at other true e =
         ap (λ (o : Option ℕ). unwrap_or o 0) (changed other ∙ ap (λ (b : Bool). cond b (Some (sum_at old key + number)) (get same_counted old other)) e)
@@ -112,20 +115,25 @@ module _ {S : Type 0} (key : Counted) (number : ℕ) (old new : IndexMap Counted
     pub raised : (other : Counted) → sum_at new other ≡ sum_at old other + sum_of other ((key, number) ∷ [])
     raised other = raised-at other (same_counted key other) refl ∙ ap (λ n. sum_at old other + n) (sym (one-share other key number))
 
-  module _ (less : number ≤ sum_at old key) (changed : (other : Counted) → get same_counted new other ≡ cond (same_counted key other) (Some (changed_by Lower (sum_at old key) number)) (get same_counted old other)) where
+  module _ (less : number ≤ sum_at old key)
+      (changed : (other : Counted) → get same_counted new other
+      ≡ cond (same_counted key other) (Some (changed_by Lower (sum_at old key) number)) (get same_counted old other)) where
     lowered-at : (other : Counted) (b : Bool) → same_counted key other ≡ b → sum_at old other ≡ sum_at new other + cond b number 0
     lowered-at other true e =
-        let here : sum_at new other ≡ sum_at old key - number = ap (λ (o : Option ℕ). unwrap_or o 0) (changed other ∙ ap (λ (b : Bool). cond b (Some (sum_at old key - number)) (get same_counted old other)) e) in
+        let here : sum_at new other ≡ sum_at old key - number =
+        ap (λ (o : Option ℕ). unwrap_or o 0) (changed other ∙ ap (λ (b : Bool). cond b (Some (sum_at old key - number)) (get same_counted old other)) e) in
         let same : sum_at old key ≡ sum_at old other = ap (sum_at old) (same-equal key other e) in
         omega (arith, here, same, less)
     lowered-at other false e =
-        let here : sum_at new other ≡ sum_at old other = ap (λ (o : Option ℕ). unwrap_or o 0) (changed other ∙ ap (λ (b : Bool). cond b (Some (sum_at old key - number)) (get same_counted old other)) e) in
+        let here : sum_at new other ≡ sum_at old other =
+        ap (λ (o : Option ℕ). unwrap_or o 0) (changed other ∙ ap (λ (b : Bool). cond b (Some (sum_at old key - number)) (get same_counted old other)) e) in
         omega (arith, here)
 
     pub lowered : (other : Counted) → sum_at old other ≡ sum_at new other + sum_of other ((key, number) ∷ [])
     lowered other = lowered-at other (same_counted key other) refl ∙ ap (λ n. sum_at new other + n) (sym (one-share other key number))
 
-  updated : (change : Change) (other : Counted) → get derived new other ≡ cond (derived key other) (Some (changed_by change (sum_at old key) number)) (get derived old other)
+  updated : (change : Change) (other : Counted)
+      → get derived new other ≡ cond (derived key other) (Some (changed_by change (sum_at old key) number)) (get derived old other)
       → get same_counted new other ≡ cond (same_counted key other) (Some (changed_by change (sum_at old key) number)) (get same_counted old other)
   updated change other h =
       sym (get-same new other) ∙ h
@@ -133,7 +141,8 @@ module _ {S : Type 0} (key : Counted) (number : ℕ) (old new : IndexMap Counted
 
   -- the sum behind a change
   pub one-changed : (change : Change) → Allows change ((key, number) ∷ []) old → spare old ≤ spare new + 1
-      → ((other : Counted) → get derived new other ≡ cond (derived key other) (Some (changed_by change (sum_at old key) number)) (get derived old other)) → IsChanged change ((key, number) ∷ []) old new
+      → ((other : Counted) → get derived new other ≡ cond (derived key other) (Some (changed_by change (sum_at old key) number))
+      (get derived old other)) → IsChanged change ((key, number) ∷ []) old new
   one-changed Raise h room changed = (room, raised (λ other. updated Raise other (changed other)))
   one-changed Lower h room changed = lowered (omega (arith, h key, own-share key number)) (λ other. updated Lower other (changed other))
 

@@ -30,7 +30,8 @@ row_shares unit contest row = (Votes contest row.selection, row.votes) ∷ (Vote
 
 -- the shares of a contest of a record
 abbrev pub contest_shares : ℕ → RecordContest → List Share
-contest_shares unit counted = (Over counted.contest, counted.over) ∷ (Under counted.contest, counted.under) ∷ flat_map (row_shares unit counted.contest) counted.votes
+contest_shares unit counted =
+    (Over counted.contest, counted.over) ∷ (Under counted.contest, counted.under) ∷ flat_map (row_shares unit counted.contest) counted.votes
 
 -- the shares of a record
 abbrev pub record_shares : CvrRecord → List Share

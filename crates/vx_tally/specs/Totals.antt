@@ -14,9 +14,13 @@ pub record Row : Type 0 where
   pub selection : ℕ
   pub votes : ℕ
 
+-- the row of votes for a selection
+abbrev pub row_of : ℕ → ℕ → VoteRow → Row
+row_of unit contest row = record { unit = unit; contest = contest; selection = row.selection; votes = row.votes }
+
 -- the rows of a contest of a record
 abbrev pub contest_rows : ℕ → RecordContest → List Row
-contest_rows unit counted = map (λ (row : VoteRow). record { unit = unit; contest = counted.contest; selection = row.selection; votes = row.votes }) counted.votes
+contest_rows unit counted = map (row_of unit counted.contest) counted.votes
 
 -- the rows of a record
 abbrev pub record_rows : CvrRecord → List Row

@@ -17,7 +17,8 @@ returns-in_err-next_contest c =
     let fault = p.0 in
     let refused : Unless (is_no_memory fault) (with_next read c.loop-value.directory (view c.value-item.result) ≡ Err fault) = search rules in
     hands-on _ fault _ p.1
-    (Unless-weaker (is_no_memory fault) (next-refused read view c.loop-value.directory c.args.values.now c.loop-value.value-index c.value-item.result (search rules) c.value-item.is _ c.loop-value.invariant.so_far fault) refused)
+    (Unless-weaker (is_no_memory fault) (next-refused read view c.loop-value.directory c.args.values.now c.loop-value.value-index c.value-item.result
+    (search rules) c.value-item.is _ c.loop-value.invariant.so_far fault) refused)
 
 pub loop-value-preserved : goal.loop-value-preserved
 unfolding with_contest
@@ -29,5 +30,7 @@ loop-value-preserved c =
     record {
       count = search (rules, arith);
       all_are = c.in_ok-next_contest.ensures.all;
-      so_far = next-turn read view found c.args.values.now c.loop-value.value-index c.value-item.result (search rules) c.value-item.is _ c.loop-value.invariant.so_far more gives;
+      so_far =
+          next-turn read view found c.args.values.now c.loop-value.value-index c.value-item.result
+          (search rules) c.value-item.is _ c.loop-value.invariant.so_far more gives;
     }

@@ -8,5 +8,6 @@ abbrev pub invariant-loop-value : goal.invariant-loop-value
 invariant-loop-value l = record {
   count : length l.found ≡ l.value-index;
   all_are : l.all ≡ l.initial.all ++ l.found;
-  so_far : each_of (own_id_in l.path l.initial.all) l.found (map view (drop l.value-index l.values)) ≡ each_of (own_id_in l.path l.initial.all) [] (map view l.values);
+  so_far : each_of (own_id_in l.path l.initial.all) l.found (map view (drop l.value-index l.values))
+      ≡ each_of (own_id_in l.path l.initial.all) [] (map view l.values);
 }

@@ -9,5 +9,6 @@ abbrev pub invariant-loop-value : goal.invariant-loop-value
 invariant-loop-value l = record {
   count : length l.counted ≡ l.value-index;
   same : l.found ≡ counted_places l.counted;
-  so_far : each_of (counted_in (contest_ids l.contests) (own_selections l.contests) l.path) l.counted (map view (drop l.value-index l.values)) ≡ each_of (counted_in (contest_ids l.contests) (own_selections l.contests) l.path) [] (map view l.values);
+  so_far : each_of (counted_in (contest_ids l.contests) (own_selections l.contests) l.path) l.counted (map view (drop l.value-index l.values))
+      ≡ each_of (counted_in (contest_ids l.contests) (own_selections l.contests) l.path) [] (map view l.values);
 }

@@ -9,5 +9,6 @@ abbrev pub invariant-loop-value : goal.invariant-loop-value
 invariant-loop-value l = record {
   count : length l.records ≡ l.value-index;
   same : l.uniques ≡ unique_ids l.records;
-  so_far : each_of (record_in l.units (contest_ids l.contests) (own_selections l.contests) l.path) l.records (map view (drop l.value-index l.values)) ≡ each_of (record_in l.units (contest_ids l.contests) (own_selections l.contests) l.path) [] (map view l.values);
+  so_far : each_of (record_in l.units (contest_ids l.contests) (own_selections l.contests) l.path) l.records (map view (drop l.value-index l.values))
+      ≡ each_of (record_in l.units (contest_ids l.contests) (own_selections l.contests) l.path) [] (map view l.values);
 }

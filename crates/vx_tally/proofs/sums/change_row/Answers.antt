@@ -20,4 +20,5 @@ pub returns : goal.returns
 returns c =
     let first : Share = (Votes c.args.contest c.args.row.selection, c.args.row.votes) in
     let second : Share = (VotesIn c.args.unit c.args.contest c.args.row.selection, c.args.row.votes) in
-    changed-both c.args.change (first ∷ []) (second ∷ []) c.args.sums.now c.change_sum.new.sums c.change_sum-2.new.sums c.change_sum.ensures c.change_sum-2.ensures
+    changed-both c.args.change (first ∷ []) (second ∷ []) c.args.sums.now c.change_sum.new.sums c.change_sum-2.new.sums
+    c.change_sum.ensures c.change_sum-2.ensures

@@ -9,7 +9,8 @@ use Rattle.vx_tally.proofs.sums.change_sum.Goals as goal
 pub unwrap-requires : goal.unwrap-requires
 unwrap-requires c =
     let some : 0 < c.args.number = grind (arith, nat_tests) in
-    succeeds c.args.key c.args.number c.args.sums.now c.insert.new.self c.args.change c.insert.result c.requires some c.insert.ensures.succeeds c.insert.ensures.absent
+    succeeds c.args.key c.args.number c.args.sums.now c.insert.new.self c.args.change c.insert.result c.requires some
+    c.insert.ensures.succeeds c.insert.ensures.absent
 
 pub returns : goal.returns
 returns c =

@@ -20,4 +20,5 @@ invariant_of-self c =
     let place = c.unwrap-place.result in
     let lt : place < length records = search rules in
     subst (λ (left : List CvrRecord). IsSummed left c.change_record.new.sums) (sym c.remove-gone.ensures.items)
-    (summed-less records place c.remove-gone.result lt c.remove-gone.ensures.value c.self.inside.sums c.change_record.new.sums c.self.invariant c.change_record.ensures)
+    (summed-less records place c.remove-gone.result lt c.remove-gone.ensures.value c.self.inside.sums c.change_record.new.sums
+    c.self.invariant c.change_record.ensures)
