@@ -1,0 +1,10 @@
+pub mod Faults
+pub mod FaultTexts
+pub mod Names
+pub mod Ids
+pub mod Members
+pub mod Contests
+pub mod Records
+pub mod Reading
+pub mod Totals
+pub mod Sums

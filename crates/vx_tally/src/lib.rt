@@ -1,0 +1,27 @@
+//! Reports read back, and their records summed.
+//!
+//! `read_report` reads the bytes of a cast vote record report, a JSON object: its units, its
+//! contests with their selections, and its records. Which report it is, and which fault comes
+//! first, is one function of the bytes, `report_in_bytes` in `specs/Reading.antt`, with a
+//! definition for each kind of object beside it. A `Tally` keeps a list of records, and its totals
+//! are sums over the rows of that list: `specs/Totals.antt`.
+#![tactic(auto)]
+
+mod contests;
+mod fault;
+mod ids;
+mod members;
+mod names;
+mod reading;
+mod records;
+mod report;
+mod sums;
+mod tally;
+
+pub use fault::ReportFault;
+pub use reading::read_report;
+pub use report::{
+    CvrRecord, CvrRecords, RecordContest, RecordContests, Report, ReportContest, ReportContests,
+    VoteRow, VoteRows,
+};
+pub use tally::Tally;

@@ -1,0 +1,217 @@
+//! Tallies: the totals of the worked report, and drawn adds and removes beside a list that is
+//! summed anew.
+
+ghost use Rattle.std.specs.Prelude.{◌≡◌, ◌<◌, ◌≤◌, ◌+◌, length, IfOk};
+ghost use Rattle.vx_tally.specs.Totals.{AreCountable};
+
+use crate::reports::WORKED;
+use rand_core::{Rng, SeedableRng};
+use rand_pcg::Pcg32;
+use std::alloc::Global;
+use std::test::*;
+use vx_base::OutOfMemory;
+use vx_tally::{CvrRecord, Tally, read_report};
+
+/// Puts a record of a list into a tally.
+fn add_at(
+    alloc: Global,
+    tally: &mut Tally,
+    records: &[CvrRecord],
+    place: usize,
+) -> Result<(), OutOfMemory>
+    requires countable { AreCountable records.now }
+    requires there { place < length records.now }
+    requires few { length tally.old < 1000000000 }
+    ensures { length tally.new ≤ length tally.old + 1 }
+{
+    tally.add(alloc, &records[place])
+}
+
+#[test]
+fn the_worked_totals(rt: HostRuntime) -> Result<(), Fail> {
+    let alloc = rt.alloc();
+    let report = read_report(alloc, WORKED.as_bytes())?;
+    let mut tally = Tally::new(alloc);
+    if !report.records.is_empty() {
+        add_at(alloc, &mut tally, report.records.as_slice(), 0)?;
+    }
+    assert_eq!(rt; tally.over(0), 0);
+    assert_eq!(rt; tally.under(0), 0);
+    assert_eq!(rt; tally.total(0, 0), 0);
+    assert_eq!(rt; tally.total(0, 1), 1);
+    assert_eq!(rt; tally.total_in(1, 0, 1), 1);
+    assert_eq!(rt; tally.total_in(0, 0, 1), 0);
+    Ok(())
+}
+
+fn below(rng: &mut Pcg32, bound: u32) -> u32 {
+    rng.next_u32().checked_rem(bound).unwrap_or(0)
+}
+
+// The contests of a record, each with its rows.
+fn push_contests(text: &mut String, alloc: Global, rng: &mut Pcg32) -> Result<(), OutOfMemory> {
+    let count = below(rng, 4);
+    for contest in 0..count {
+        let comma = if contest == 0 { "" } else { "," };
+        let over = below(rng, 3);
+        let under = below(rng, 51);
+        text.push_str(format!(in alloc;
+            "{comma}{{\"ContestId\":\"c{contest}\",\"Overvotes\":{over},\"Undervotes\":{under},\"CVRContestSelection\":["
+        )?.as_str())?;
+        let rows = below(rng, 4);
+        for row in 0..rows {
+            let comma = if row == 0 { "" } else { "," };
+            let selection = below(rng, 3);
+            let votes = below(rng, 3);
+            text.push_str(format!(in alloc;
+                "{comma}{{\"ContestSelectionId\":\"s{contest}-{selection}\",\"SelectionPosition\":[{{\"NumberVotes\":{votes}}}]}}"
+            )?.as_str())?;
+        }
+        text.push_str("]}")?;
+    }
+    Ok(())
+}
+
+// A report of forty records of three units and four contests with three selections each.
+fn drawn(alloc: Global, rng: &mut Pcg32) -> Result<String, OutOfMemory> {
+    let mut text = String::from_str(
+        alloc,
+        "{\"GpUnit\":[{\"@id\":\"u0\"},{\"@id\":\"u1\"},{\"@id\":\"u2\"}],",
+    )?;
+    text.push_str("\"Election\":[{\"Contest\":[")?;
+    for contest in 0..4u32 {
+        let comma = if contest == 0 { "" } else { "," };
+        text.push_str(format!(in alloc;
+            "{comma}{{\"@id\":\"c{contest}\",\"ContestSelection\":[{{\"@id\":\"s{contest}-0\"}},{{\"@id\":\"s{contest}-1\"}},{{\"@id\":\"s{contest}-2\"}}]}}"
+        )?.as_str())?;
+    }
+    text.push_str("]}],\"CVR\":[")?;
+    for record in 0..40u32 {
+        let comma = if record == 0 { "" } else { "," };
+        let unit = below(rng, 3);
+        text.push_str(format!(in alloc;
+            "{comma}{{\"UniqueId\":\"r-{record}\",\"BallotStyleUnitId\":\"u{unit}\",\"CVRSnapshot\":[{{\"CVRContest\":["
+        )?.as_str())?;
+        push_contests(&mut text, alloc, rng)?;
+        text.push_str("]}]}")?;
+    }
+    text.push_str("]}")?;
+    Ok(text)
+}
+
+// What a record says: the votes for a selection of a contest, and its overvotes and undervotes.
+fn said(record: &CvrRecord, contest: u32, selection: u32) -> (u64, u64, u64) {
+    let mut sums = (0u64, 0u64, 0u64);
+    for counted in record.contests.as_slice() {
+        if counted.contest == contest {
+            sums.1 = sums.1.saturating_add(u64::from(counted.over));
+            sums.2 = sums.2.saturating_add(u64::from(counted.under));
+            for row in counted.votes.as_slice() {
+                if row.selection == selection {
+                    sums.0 = sums.0.saturating_add(u64::from(row.votes));
+                }
+            }
+        }
+    }
+    sums
+}
+
+// Whether the tally says of a selection what the records that are in sum up to.
+fn agrees(
+    tally: &Tally,
+    records: &[CvrRecord],
+    held: &[usize],
+    contest: u32,
+    selection: u32,
+) -> bool {
+    let mut all = (0u64, 0u64, 0u64);
+    let mut units = [0u64; 3];
+    for place in held {
+        if let Some(record) = records.get(*place) {
+            let sums = said(record, contest, selection);
+            all.0 = all.0.saturating_add(sums.0);
+            all.1 = all.1.saturating_add(sums.1);
+            all.2 = all.2.saturating_add(sums.2);
+            if let Some(unit) = units.get_mut(record.unit as usize) {
+                *unit = unit.saturating_add(sums.0);
+            }
+        }
+    }
+    tally.total(contest, selection) == all.0
+        && tally.over(contest) == all.1
+        && tally.under(contest) == all.2
+        && tally.total_in(0, contest, selection) == units[0]
+        && tally.total_in(1, contest, selection) == units[1]
+        && tally.total_in(2, contest, selection) == units[2]
+}
+
+fn agrees_on_all(tally: &Tally, records: &[CvrRecord], held: &[usize]) -> bool {
+    let mut agree = true;
+    for contest in 0..5u32 {
+        for selection in 0..4u32 {
+            agree = agree && agrees(tally, records, held, contest, selection);
+        }
+    }
+    agree
+}
+
+// A record put in or taken out, in the tally and in the list; whether both knew it.
+fn take_step(
+    alloc: Global,
+    rng: &mut Pcg32,
+    tally: &mut Tally,
+    records: &[CvrRecord],
+    held: &mut Vec<usize>,
+) -> Result<bool, OutOfMemory>
+    requires countable { AreCountable records.now }
+    requires few { length tally.old < 1000000000 }
+    ensures { length tally.new ≤ length tally.old + 1 }
+{
+    let place = below(rng, 40) as usize;
+    let adds = below(rng, 2) == 0;
+    if place >= records.len() {
+        return Ok(false);
+    }
+    if adds {
+        held.push(place)?;
+        add_at(alloc, tally, records, place)?;
+        return Ok(true);
+    }
+    let found = held.iter().position(|one| *one == place);
+    if !tally.holds(&records[place]) {
+        return Ok(found.is_none());
+    }
+    tally.remove(&records[place]);
+    if let Some(at) = found {
+        held.remove(at);
+    }
+    Ok(found.is_some())
+}
+
+// Steps on a tally of those records; whether the tally always said what the list sums up to.
+fn steps_agree(alloc: Global, rng: &mut Pcg32, records: &[CvrRecord]) -> Result<bool, OutOfMemory>
+    requires { AreCountable records.now }
+{
+    let mut tally = Tally::new(alloc);
+    let mut held = Vec::new(alloc);
+    let mut agree = true;
+    for step in 0..3000u32 {
+        let knew = take_step(alloc, rng, &mut tally, records, &mut held)?;
+        agree = agree && knew;
+        if step % 16 == 0 {
+            agree = agree && agrees_on_all(&tally, records, &held);
+        }
+    }
+    Ok(agree)
+}
+
+#[test]
+fn drawn_steps_beside_a_list(rt: HostRuntime) -> Result<(), Fail> {
+    let alloc = rt.alloc();
+    let mut rng = Pcg32::seed_from_u64(7);
+    let text = drawn(alloc, &mut rng)?;
+    let report = read_report(alloc, text.as_bytes())?;
+    assert_eq!(rt; report.records.len(), 40);
+    assert!(rt; steps_agree(alloc, &mut rng, report.records.as_slice())?);
+    Ok(())
+}
