@@ -1,0 +1,4 @@
+pub mod Packs
+pub mod Steps
+pub mod Tops
+pub mod Walks
