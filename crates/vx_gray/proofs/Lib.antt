@@ -2,3 +2,4 @@ pub mod Packs
 pub mod Steps
 pub mod Tops
 pub mod Walks
+pub mod Light

@@ -130,7 +130,7 @@ row_of_bits gray down v halves row are tile inside long is =
     ap (λ n. map (λ u. nat_lt (get_or row u 0) (get_or halves (u / 64) 0)) (range_with_len 0 n)) long
     ∙ (map-same (λ u. nat_lt (get_or row u 0) (get_or halves (u / 64) 0)) (λ u. dark_in gray (pos u) (pos v)) gray.width
     (λ u h.
-    let value : get_or row u 0 ≡ value_at gray u v = ap (λ r. get_or r u 0) is ∙ row_value gray v u h in
+    let value : get_or row u 0 ≡ value_at gray u v = ap (λ r. get_or r u 0) is ∙ row_value gray v u h inside in
     let half : get_or halves (u / 64) 0 ≡ (top_of gray (u / 64) (v / 64) + 1) / 2 =
     are.values (u / 64) (omega (arith, are.size)) ∙ ap (λ t. (top_of gray (u / 64) t + 1) / 2) (sym tile) in
     ap₂ nat_lt value half ∙ half_test (value_at gray u v) (top_of gray (u / 64) (v / 64)))

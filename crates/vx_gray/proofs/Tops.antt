@@ -1,6 +1,6 @@
 -- Laws of the greatest of some numbers, and of the greatest value near a tile.
-use Rattle.std.proofs.Common.{◌≡◌, ◌+◌, ◌-◌, ◌*◌, ◌<◌, ◌≤◌, ℕ, zero, suc, min, max, cond, List, [], ◌∷◌, length, take, drop, get_or, refl, inl, inr, ap, ap₂, sym, subst, ◌∙◌, ◌++◌, arith, add-one, length-take, length-drop}
-use Rattle.std.proofs.Math.Nat.{le-max_left, le-max_right, max-le, max-zero, mul-le-mul_right}
+use Rattle.std.proofs.Common.{◌&&◌, Bool, true, false, nat_lt, ◌≡◌, ◌+◌, ◌-◌, ◌*◌, ◌<◌, ◌≤◌, ℕ, zero, suc, min, max, cond, List, [], ◌∷◌, length, take, drop, get_or, refl, inl, inr, ap, ap₂, sym, subst, ◌∙◌, ◌++◌, arith, add-one, length-take, length-drop}
+use Rattle.std.proofs.Math.Nat.{le-max_left, le-max_right, max-le, max-zero}
 use Rattle.std.proofs.Math.Seq.{take-append_seam, get_or-append_seam}
 use Rattle.std.proofs.lemmas.Bool.{cases_lt, lt-ltb, le-ltb}
 use Rattle.std.proofs.lemmas.List.{get_or_past, get_or-take, get_or-drop, get_or_append_left}
@@ -47,20 +47,21 @@ greatest-cut_at m n f within none =
     let whole : n ≡ m + (n - m) = omega arith in
     ap (λ k. greatest k f) whole ∙ greatest-cut m (n - m) f (λ i a b. none i a (omega arith))
 
--- the value in a column of the frame, and beside it
-pub value_inside : (gray : Gray) (u v : ℕ) → u < gray.width → value_at gray u v ≡ get_or gray.values (v * gray.width + u) 0
-value_inside gray u v h = ap (λ t. cond t (get_or gray.values (v * gray.width + u) 0) 0) (lt-ltb u gray.width h)
+-- the value in the frame, and beside and under it
+pub value_inside : (gray : Gray) (u v : ℕ) → u < gray.width → v < gray.height → value_at gray u v ≡ get_or gray.values (v * gray.width + u) 0
+value_inside gray u v h k = ap₂ (λ s t. cond (s && t) (get_or gray.values (v * gray.width + u) 0) 0) (lt-ltb u gray.width h) (lt-ltb v gray.height k)
 
 pub value_beside : (gray : Gray) (u v : ℕ) → gray.width ≤ u → value_at gray u v ≡ 0
-value_beside gray u v h = ap (λ t. cond t (get_or gray.values (v * gray.width + u) 0) 0) (le-ltb u gray.width h)
+value_beside gray u v h = ap (λ t. cond (t && nat_lt v gray.height) (get_or gray.values (v * gray.width + u) 0) 0) (le-ltb u gray.width h)
 
-pub value_under : (gray : Gray) (u v : ℕ) → length gray.values ≡ gray.height * gray.width → gray.height ≤ v → value_at gray u v ≡ 0
-value_under gray u v sized h = elim (cases_lt u gray.width) [
-  | inl l ↦
-      let rows : gray.height * gray.width ≤ v * gray.width = mul-le-mul_right gray.width h in
-      value_inside gray u v l ∙ get_or_past gray.values (v * gray.width + u) 0 (omega arith)
-  | inr l ↦ value_beside gray u v l
-]
+neither : (s : Bool) (x : ℕ) → cond (s && false) x 0 ≡ 0
+neither true x = refl
+neither false x = refl
+
+pub value_under : (gray : Gray) (u v : ℕ) → gray.height ≤ v → value_at gray u v ≡ 0
+value_under gray u v h =
+    ap (λ t. cond (nat_lt u gray.width && t) (get_or gray.values (v * gray.width + u) 0) 0) (le-ltb v gray.height h)
+    ∙ neither (nat_lt u gray.width) (get_or gray.values (v * gray.width + u) 0)
 
 -- a column beside the frame
 pub column_beside : (gray : Gray) (first rows u : ℕ) → gray.width ≤ u → column_top gray first rows u ≡ 0
@@ -69,17 +70,17 @@ column_beside gray first (suc rows) u h =
     ap₂ max (column_beside gray first rows u h) (value_beside gray u (first + rows) h)
 
 -- rows under the frame don't count
-pub column-cut : (gray : Gray) (first rows all u : ℕ) → length gray.values ≡ gray.height * gray.width → rows ≤ all → rows ≡ min (first + all) gray.height - first → column_top gray first all u ≡ column_top gray first rows u
-column-cut gray first rows all u sized within is =
+pub column-cut : (gray : Gray) (first rows all u : ℕ) → rows ≤ all → rows ≡ min (first + all) gray.height - first → column_top gray first all u ≡ column_top gray first rows u
+column-cut gray first rows all u within is =
     greatest-cut_at rows all (λ j. value_at gray u (first + j)) within
-    (λ i a b. value_under gray u (first + i) sized (omega arith))
+    (λ i a b. value_under gray u (first + i) (omega arith))
 
 -- a row's values are those of the page
-pub row_value : (gray : Gray) (v u : ℕ) → u < gray.width → get_or (take gray.width (drop (v * gray.width) gray.values)) u 0 ≡ value_at gray u v
-row_value gray v u h =
+pub row_value : (gray : Gray) (v u : ℕ) → u < gray.width → v < gray.height → get_or (take gray.width (drop (v * gray.width) gray.values)) u 0 ≡ value_at gray u v
+row_value gray v u h k =
     get_or-take gray.width (drop (v * gray.width) gray.values) u 0 h
     ∙ get_or-drop (v * gray.width) gray.values u 0
-    ∙ sym (value_inside gray u v h)
+    ∙ sym (value_inside gray u v h k)
 
 -- the greatest of a tile's columns and its neighbours', cut at the frame
 pub top_is : (gray : Gray) (down across start end : ℕ) (tops : List ℕ) → AreColumnTops gray (near_start down) (near_size down) tops → start ≡ near_start across → end ≡ min (64 * (across + 2)) gray.width → start ≤ end → greatest (length (take (end - start) (drop start tops))) (λ i. get_or (take (end - start) (drop start tops)) i 0) ≡ top_of gray across down
@@ -98,8 +99,8 @@ top_is gray down across start end tops are starts ends order =
     (λ i a b. column_beside gray (near_start down) (near_size down) (near_start across + i) (omega arith))))
 
 -- the tops of a row more
-pub tops_more : (gray : Gray) (first v n : ℕ) (old seen row new : List ℕ) → first ≤ v → AreColumnTops gray first (v - first) old → seen ≡ old → row ≡ take gray.width (drop (v * gray.width) gray.values) → length new ≡ length seen → n ≡ length old → IsRaised seen row new → AreColumnTops gray first (v + 1 - first) (take n (new ++ drop (length new) old))
-tops_more gray first v n old seen row new order are same is long all raised =
+pub tops_more : (gray : Gray) (first v n : ℕ) (old seen row new : List ℕ) → first ≤ v → v < gray.height → AreColumnTops gray first (v - first) old → seen ≡ old → row ≡ take gray.width (drop (v * gray.width) gray.values) → length new ≡ length seen → n ≡ length old → IsRaised seen row new → AreColumnTops gray first (v + 1 - first) (take n (new ++ drop (length new) old))
+tops_more gray first v n old seen row new order inside are same is long all raised =
     let one : v + 1 - first ≡ v - first + 1 = omega arith in
     let here : first + (v - first) ≡ v = omega arith in
     subst (AreColumnTops gray first (v + 1 - first)) (sym (ap (λ k. take k (new ++ drop (length new) old)) (all ∙ sym (long ∙ ap length same)) ∙ take-append_seam new (drop (length new) old)))
@@ -108,7 +109,7 @@ tops_more gray first v n old seen row new order are same is long all raised =
       values = λ u.
           raised u
           ∙ (ap₂ max (ap (λ s. get_or s u 0) same ∙ are.values u) (elim (cases_lt u gray.width) [
-            | inl h ↦ ap (λ r. get_or r u 0) is ∙ row_value gray v u h
+            | inl h ↦ ap (λ r. get_or r u 0) is ∙ row_value gray v u h inside
             | inr h ↦ get_or_past row u 0 (omega (arith, ap length is, length-take gray.width (drop (v * gray.width) gray.values))) ∙ sym (value_beside gray u v h)
           ] ∙ ap (value_at gray u) (sym here))
           ∙ (sym (greatest_more (v - first) (λ j. value_at gray u (first + j)))
@@ -116,10 +117,10 @@ tops_more gray first v n old seen row new order are same is long all raised =
     })
 
 -- the tops of all rows of a band and its neighbours, cut at the frame
-pub tops_all : (gray : Gray) (first all v : ℕ) (tops : List ℕ) → length gray.values ≡ gray.height * gray.width → v - first ≡ min (first + all) gray.height - first → AreColumnTops gray first (v - first) tops → AreColumnTops gray first all tops
-tops_all gray first all v tops sized end are = record {
+pub tops_all : (gray : Gray) (first all v : ℕ) (tops : List ℕ) → v - first ≡ min (first + all) gray.height - first → AreColumnTops gray first (v - first) tops → AreColumnTops gray first all tops
+tops_all gray first all v tops end are = record {
   size = are.size;
-  values = λ u. are.values u ∙ sym (column-cut gray first (v - first) all u sized (omega arith) end);
+  values = λ u. are.values u ∙ sym (column-cut gray first (v - first) all u (omega arith) end);
 }
 
 -- one tile's number more

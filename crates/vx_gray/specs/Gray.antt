@@ -1,6 +1,6 @@
 -- Grayscale pages, and the bits of them. The rule is this project's own: the light may fall unevenly, so each
 -- pixel is held against the lightest one near it.
-use Rattle.std.specs.Prelude.{ℕ, zero, suc, ◌+◌, ◌-◌, ◌*◌, ◌/◌, nat_lt, max, List, false, pos, slice_index, if◌then◌else◌}
+use Rattle.std.specs.Prelude.{ℕ, zero, suc, ◌+◌, ◌-◌, ◌*◌, ◌/◌, ◌&&◌, nat_lt, max, List, false, pos, slice_index, if◌then◌else◌}
 use Rattle.vx_plane.specs.Plane.{Pixels, Page, page_of}
 
 -- a grayscale page: its frame, and the values of its pixels row by row from the top, 0 for black
@@ -11,7 +11,8 @@ pub record Gray : Type 0 where
 
 -- the value of the pixel in a column and a row; outside the frame it is 0
 abbrev pub value_at : Gray → ℕ → ℕ → ℕ
-value_at gray u v = if nat_lt u gray.width then slice_index gray.values (v * gray.width + u) else 0
+value_at gray u v =
+    if nat_lt u gray.width && nat_lt v gray.height then slice_index gray.values (v * gray.width + u) else 0
 
 -- Tiles are the parts of the frame of 64 by 64 pixels from its top left corner on, cut at its right and lower
 -- edge. They are numbered across and down from 0.

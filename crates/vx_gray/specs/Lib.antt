@@ -5,3 +5,5 @@ pub mod Images
 pub mod Near
 pub mod Packing
 pub mod Step
+pub mod Light
+pub mod Fits

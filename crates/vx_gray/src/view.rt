@@ -51,7 +51,6 @@ impl<'b> GrayView<'b> {
     pub fn height(&self) -> u32
         ensures value { result ≡ self.now.height }
         ensures bound { (0 < result) × (result ≤ 4096) }
-        ensures size { length self.now.values ≡ self.now.height * self.now.width }
     {
         self.height
     }
