@@ -1,0 +1,66 @@
+ghost use Rattle.std.specs.Prelude.{◌≡◌, ◌≢◌, ◌≤◌, ◌+◌, false, drop, length, IfErr};
+ghost use Rattle.std.specs.Option.{ForSome};
+ghost use Rattle.vx_command.specs.Devices.{is_keeper_fault, LeavesInputs, LeavesSink};
+ghost use Rattle.vx_command_gray.specs.Done.{IsGrayDone, WritesFirst};
+ghost use Rattle.vx_command_gray.specs.Outcome.{gray_outcome};
+ghost use Rattle.vx_command_gray.specs.Status.{answer_of, IsStop};
+
+use crate::status::{GrayStatus, status_of_halt};
+use crate::writing::write_scan;
+use std::alloc::Global;
+use std::mem::replace;
+use vx_base::Bytes;
+use vx_command::{Halt, INPUT_LIMIT, acts_in_order, steps_in_order, take_input};
+use vx_gray::PgmFault;
+use vx_io::{Inputs, Sink, Words};
+
+/// Takes the scan of a word under its name, into the memory of the one before, and writes its images.
+/// Answers the fault that ended them, if any.
+fn write_input<I: Inputs, S: Sink>(
+    alloc: Global,
+    memory: &mut Bytes,
+    name: &str,
+    word: u32,
+    inputs: &mut I,
+    out: &mut S,
+) -> Result<Option<PgmFault>, Halt>
+    ensures done { ForSome (I.held inputs.old) (λ files.
+        WritesFirst files word name.now (S.taken out.old) (S.taken out.new) result) }
+    ensures inputs { LeavesInputs (I.held inputs.old) (I.held inputs.new)
+        (I.faults inputs.old) (I.faults inputs.new) result }
+    ensures sink { LeavesSink (S.faults out.old) (S.faults out.new) result }
+    ensures stops { IfErr result IsStop }
+{
+    steps_in_order::<Bytes>();
+    let last = replace(memory, Bytes::new(alloc));
+    let bytes = take_input(last, inputs, name, word, INPUT_LIMIT)?;
+    let written = write_scan(alloc, word, bytes.as_slice(), out);
+    *memory = bytes;
+    written
+}
+
+/// Takes the scans that the words from 1 on name, one after the other, and writes their images as bitmaps.
+pub(crate) fn write_scans<I: Inputs, S: Sink>(
+    alloc: Global,
+    words: &Words,
+    inputs: &mut I,
+    out: &mut S,
+) -> GrayStatus
+    ensures done { ForSome (I.held inputs.old) (λ files.
+        IsGrayDone (gray_outcome (drop 1 words.now) files) (S.taken out.old) (S.taken out.new) result) }
+    ensures inputs { LeavesInputs (I.held inputs.old) (I.held inputs.new)
+        (I.faults inputs.old) (I.faults inputs.new) (answer_of result) }
+    ensures sink { LeavesSink (S.faults out.old) (S.faults out.new) (answer_of result) }
+    ensures no_usage { result ≢ GrayStatus.Usage }
+{
+    acts_in_order();
+    let mut memory = Bytes::new(alloc);
+    for word in 1..words.count() {
+        match write_input(alloc, &mut memory, words.word(word), word, inputs, out) {
+            Ok(None) => {}
+            Ok(Some(fault)) => return GrayStatus::Pgm(word, fault),
+            Err(cause) => return status_of_halt(cause),
+        }
+    }
+    GrayStatus::Ok
+}
