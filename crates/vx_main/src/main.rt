@@ -4,12 +4,13 @@
 #![tactic(auto)]
 
 use std::alloc::Global;
-use std::env;
 use std::process::ExitCode;
 use std::sync::Wait;
 use std::thread::Threads;
+use std::{env, fmt};
 use vx_app::{arguments_status, command_words, is_center, run, run_center};
 use vx_command::{Halt, Message, Status};
+use vx_command_gray::{GrayMessage, GrayStatus, run_gray};
 use vx_io::{Inputs, Keeper, KeeperCalls, MemKeeper, Records, Sink, StdInputs, StdSink, Words};
 use vx_keep_sqlite::SqliteKeeper;
 use vx_workers::OpenGate;
@@ -92,21 +93,51 @@ fn run_with<R: Threads + Wait + Sync>(
     }
 }
 
+/// What the program ends with: the status of `run` or `run_center`, or that of another top call.
+#[derive(Drop)]
+enum Ending {
+    Command(Status),
+    Gray(GrayStatus),
+}
+
+/// Whether the words begin with this command's name.
+fn begins_with(words: &Words, name: &str) -> bool {
+    words.count() > 0 && words.word(0) == name
+}
+
+/// Makes grayscale scans into bitmaps; the journal has no part in it.
+fn make_bitmaps(rt: &HostRuntime, words: &Words) -> GrayStatus {
+    let mut inputs = StdInputs::new(rt);
+    let mut out = StdSink::new(rt);
+    run_gray(rt.alloc(), words, &mut inputs, &mut out)
+}
+
 /// Does the command of the command line.
-fn answer<R: Threads + Wait + Sync>(rt: &HostRuntime, threads: &R) -> Result<Status, Status> {
+fn answer<R: Threads + Wait + Sync>(rt: &HostRuntime, threads: &R) -> Result<Ending, Status> {
     let arguments = arguments_of_line(rt)?;
     let words = command_words(rt.alloc(), arguments.as_slice())?;
     match arguments.as_slice() {
-        [_program, journal, ..] => Ok(run_with(rt, threads, journal.as_str(), &words)),
+        [_program, _journal, ..] if begins_with(&words, "gray") => {
+            Ok(Ending::Gray(make_bitmaps(rt, &words)))
+        }
+        [_program, journal, ..] => {
+            let status = run_with(rt, threads, journal.as_str(), &words);
+            Ok(Ending::Command(status))
+        }
         _ => Err(Status::Usage),
     }
 }
 
+/// Says on standard error how the program ends, and gives that number.
+fn end<M: fmt::Display>(rt: &HostRuntime, message: &M, number: u8) -> ExitCode {
+    let _ = eprint!(rt; "{message}");
+    ExitCode::from(number)
+}
+
 fn main(rt: HostRuntime) -> ExitCode {
-    let status = match answer(&rt, &rt) {
-        Ok(status) => status,
-        Err(status) => status,
-    };
-    let _ = eprint!(rt; "{}", Message(&status));
-    ExitCode::from(status.number())
+    match answer(&rt, &rt) {
+        Ok(Ending::Command(status)) => end(&rt, &Message(&status), status.number()),
+        Ok(Ending::Gray(status)) => end(&rt, &GrayMessage(&status), status.number()),
+        Err(status) => end(&rt, &Message(&status), status.number()),
+    }
 }
