@@ -1,0 +1,7 @@
+mod Replayed
+mod Runs
+mod Sheets
+mod Rows
+mod Marked
+mod Counted
+mod Exported
