@@ -5,3 +5,4 @@ mod Rows
 mod Marked
 mod Counted
 mod Exported
+mod Undecided

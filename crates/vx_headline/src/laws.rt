@@ -1,6 +1,7 @@
 //! Laws of whole runs, from scans to the report. These functions do nothing; their contracts are the laws.
 
 ghost use Rattle.vx_headline.specs.Exported.{MarkedPagesAreExported};
+ghost use Rattle.vx_headline.specs.Undecided.{UndecidedContestsAreExportedAsMarked, UndecidedReasonsWait};
 
 use vx_center::sheets_have_own_keys;
 use vx_command::{scanned_images_are_whole, taken_elections_are_valid};
@@ -24,4 +25,21 @@ pub fn marked_pages_are_exported()
     records_are_read();
     sheets_have_own_keys();
     exports_write_what_was_kept();
+}
+
+/// A contest of such a sheet of which no decision is kept, and for which no reason is enabled, stands in the
+/// report once, as it was marked: its selections are exactly its marked options, none was ruled, and the numbers
+/// of the text are theirs.
+pub fn undecided_contests_are_exported_as_marked()
+    ensures { UndecidedContestsAreExportedAsMarked }
+{
+    marked_pages_are_exported();
+}
+
+/// A contest of such a sheet of which no decision is kept, and for which a reason is enabled, stands nowhere in
+/// the report.
+pub fn undecided_reasons_wait()
+    ensures { UndecidedReasonsWait }
+{
+    marked_pages_are_exported();
 }

@@ -9,4 +9,6 @@
 
 mod laws;
 
-pub use laws::marked_pages_are_exported;
+pub use laws::{
+    marked_pages_are_exported, undecided_contests_are_exported_as_marked, undecided_reasons_wait,
+};
