@@ -3,6 +3,9 @@ mod Runs
 mod Sheets
 mod Rows
 mod Marked
+mod Mixed
+mod FirstDone
+mod Centered
 mod Counted
 mod Exported
 mod Undecided

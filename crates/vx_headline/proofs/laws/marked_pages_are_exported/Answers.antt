@@ -12,5 +12,7 @@ returns c =
       says = c.marked_sheets_say_each_mark.ensures;
       keepable = c.sheet_events_are_keepable.ensures;
       records = c.records_are_read.ensures;
+      images = c.images_are_whole.ensures;
+      adds = c.fitting_sheets_are_in_their_items.ensures;
     } in
     exports laws c.sheets_have_own_keys.ensures c.exports_write_what_was_kept.ensures
