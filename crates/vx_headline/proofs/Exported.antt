@@ -1,0 +1,131 @@
+-- What an export writes of sheets that runs counted.
+use Rattle.std.proofs.Common.{◌≡◌, ℕ, inl, inr, Bool, true, false, cond, List, [], ◌∷◌, ◌++◌, refl, sym, ap, subst, ◌∙◌}
+use Rattle.std.specs.Prelude.{◌==◌, filter, Option, Some, None, Ok, slice_get}
+use Rattle.vx_io.specs.Outside.{Took}
+use Rattle.vx_election_model.specs.declared.contest.Contest.{Contest}
+use Rattle.vx_election_model.specs.declared.election.Election.{Election}
+use Rattle.vx_rules.specs.declared.marks.ContestMarks.{ContestMarks}
+use Rattle.vx_rules.specs.declared.marks.SheetMarks.{SheetMarks}
+use Rattle.vx_rules.specs.Reasons.{is_blank_sheet}
+use Rattle.vx_events.specs.declared.event.Event.{Event}
+use Rattle.vx_events.specs.declared.event.Event.TheVariants.{Add}
+use Rattle.vx_events.specs.declared.key.Key.{Key}
+use Rattle.vx_sheet.specs.Margin.{MarkedSheet, sheet_marked}
+use Rattle.vx_sheet.specs.Sheet.{contest_limit}
+use Rattle.vx_center.specs.declared.rows.Final.{Final}
+use Rattle.vx_center.specs.Decisions.{decided_of, decisions_on}
+use Rattle.vx_center.specs.Exports.{final_in}
+use Rattle.vx_center.specs.Histories.{IsHistory}
+use Rattle.vx_center.specs.Laws.{SheetsHaveOwnKeys}
+use Rattle.vx_center.specs.Sheets.{Added, sheet_in}
+use Rattle.vx_center.specs.Shown.{ShowsWhatWasKept}
+use Rattle.vx_center.specs.Waiting.{exports_by}
+use Rattle.vx_cvr.specs.Report.{report_of}
+use Rattle.vx_command_export.specs.Laws.{ExportsWriteWhatWasKept}
+use Rattle.vx_journal.specs.Replay.{replay_of}
+use Rattle.vx_words.specs.declared.command.Command.{Command}
+use Rattle.vx_app.specs.Journals.{AreRuns, IsDoneOf, IsFor, Run}
+use Rattle.vx_headline.specs.Counted.{AddedBy, HasSheet}
+use Rattle.vx_headline.specs.Exported.{IsExport, MarkedPagesAreExported, StandsMarked, final_if}
+use Rattle.vx_headline.proofs.Counted.{CountLaws, IsCounted, counted}
+use Rattle.vx_headline.proofs.Marked.{once}
+use Rattle.vx_headline.proofs.Replayed.{front, kept-as}
+use Rattle.vx_headline.proofs.Rows.{one-row}
+use Rattle.vx_headline.proofs.Runs.{all-add}
+use Rattle.vx_headline.proofs.Sheets.{alone, still-there}
+
+-- no final
+abbrev none : List Final
+none = []
+
+-- what is exported of a contest of a sheet is of that contest
+none-if : (b : Bool) → cond b none none ≡ none
+none-if true = refl
+none-if false = refl
+
+final-own : (election : Election) (kept : List Event) (added : Added) (marks : ContestMarks) (contest : ℕ)
+    → filter (λ (final : Final). final.contest == contest) (final_if election kept added marks) ≡ cond (marks.contest == contest) (final_if election kept added marks) []
+final-own election kept added marks contest =
+    by (exports_by election (is_blank_sheet added.sheet) (decided_of kept added.key) marks) (slice_get election.contests marks.contest)
+  where
+    of : Option Contest → List Final
+    of found = final_in marks (decisions_on marks.contest (decided_of kept added.key)) found
+
+    by : (b : Bool) (found : Option Contest) → filter (λ (final : Final). final.contest == contest) (cond b (of found) []) ≡ cond (marks.contest == contest) (cond b (of found) []) []
+    by true None = sym (none-if (marks.contest == contest))
+    by true (Some found) = refl
+    by false found = sym (none-if (marks.contest == contest))
+
+module _ (laws : CountLaws) (own : SheetsHaveOwnKeys) (election : Election) where
+  module _ (kept : List Event) (history : IsHistory election kept) where
+    -- a sheet whose record stands in the journal
+    stands-marked : (left : List (List ℕ)) → replay_of election left ≡ Ok kept → (key : Key) (sheet : MarkedSheet) → IsCounted laws election key sheet left
+        → (added : Added) × StandsMarked election kept key sheet added
+    stands-marked left replays key sheet it =
+        let stands = it.stands in
+        let Replays : List (List ℕ) → Type 0 = λ some. replay_of election some ≡ Ok kept in
+        let seam = kept-as election stands.header stands.front _ stands.behind (Add key (sheet_marked sheet)) kept it.known.read (subst Replays stands.are replays) in
+        let only = alone own election seam.events seam.more key (sheet_marked sheet) kept seam.is history in
+        let added : Added = record { at = _; key = key; sheet = sheet_marked sheet } in (
+          added,
+          record {
+            keyed = refl;
+            marked = refl;
+            front = it.known.front;
+            back = it.known.back;
+            one_sheet = only;
+            one_row = one-row election kept key added only;
+            contests = λ place marks there.
+                (once (λ (final : Final). final.contest) (final_if election kept added) sheet (final-own election kept added) 0 contest_limit place marks there).1;
+          },
+        )
+
+  -- a sheet that was there at some time is there still
+  has-still : (records more left : List (List ℕ)) (kept : List Event) (key : Key) (sheet : SheetMarks) → left ≡ records ++ more → replay_of election left ≡ Ok kept → HasSheet election records key sheet → sheet_in kept key ≡ Some sheet
+  has-still records more left kept key sheet are replays has =
+      let Replays : List (List ℕ) → Type 0 = λ some. replay_of election some ≡ Ok kept in
+      let first = front election records more kept (subst Replays are replays) in
+      let same : first.events ≡ has.events = let one = first.replays in let other = has.replays in cc in
+      let In : List Event → Type 0 = λ events. sheet_in events key ≡ Some sheet in
+      subst In (ap (λ (some : List Event). some ++ first.more) (sym same) ∙ sym first.is) (still-there has.events first.more key sheet has.there)
+
+  added-still : (records : List (List ℕ)) (runs : List Run) (left : List (List ℕ)) (kept : List Event) (key : Key) (sheet : SheetMarks) → AreRuns election records runs left → replay_of election left ≡ Ok kept → AddedBy election records runs key sheet → sheet_in kept key ≡ Some sheet
+  added-still records [] left kept key sheet are replays has =
+      let adds = all-add election records [] left are in
+      has-still records adds.more left kept key sheet adds.are replays has
+  added-still records (one ∷ runs) left kept key sheet are replays (inl has) =
+      let adds = all-add election records (one ∷ runs) left are in
+      has-still records adds.more left kept key sheet adds.are replays has
+  added-still records (one ∷ runs) left kept key sheet are replays (inr later) = added-still one.left runs left kept key sheet are.1 replays later
+
+  -- what the export itself wrote
+  record Wrote (left : List (List ℕ)) (last : Run) (moment device : List ℕ) (own_election : Election) : Type 0 where
+    pub kept : List Event
+    pub are_kept : replay_of own_election left ≡ Ok kept
+    pub history : IsHistory own_election kept
+    pub report : Took last.taken last.taken_now (report_of own_election kept moment device)
+    pub shows : ShowsWhatWasKept own_election kept
+
+  wrote : ExportsWriteWhatWasKept → (runs : List Run) (left : List (List ℕ)) (last : Run) (moment device : List ℕ) → IsExport election runs left last moment device → Wrote left last moment device election
+  wrote exported runs left last moment device it =
+      let For : Command → Type 0 = λ command. IsFor command last.files election in
+      let named = subst For it.is_export it.is_run.for_it in
+      let Done : Command → Type 0 = λ command. IsDoneOf command last.files left last.taken last.taken_now (Some last.left) last.answer in
+      let done = subst Done it.is_export it.is_run.done in
+      let all = exported it.name moment device last.files left last.taken last.taken_now (Some left) (Some last.left) last.answer done it.well in
+      let same : all.election ≡ election = let one = all.is_read in cc in
+      let Of : Election → Type 0 = λ some. Wrote left last moment device some in
+      subst Of same (record { kept = all.events; are_kept = all.are_kept; history = all.history; report = all.report; shows = all.shows })
+
+pub exports : CountLaws → SheetsHaveOwnKeys → ExportsWriteWhatWasKept → MarkedPagesAreExported
+exports laws own exported election runs left last moment device it =
+    let all = wrote laws own election exported runs left last moment device it in
+    record {
+      kept = all.kept;
+      are_kept = all.are_kept;
+      history = all.history;
+      report = all.report;
+      shows = all.shows;
+      marked = λ key sheet by. stands-marked laws own election all.kept all.history left all.are_kept key sheet (counted laws election key sheet [] runs left it.are_runs by);
+      first = λ key sheet by. added-still laws own election [] runs left all.kept key sheet it.are_runs all.are_kept by;
+    }

@@ -1,0 +1,11 @@
+mod Replayed
+mod Runs
+mod Sheets
+mod Rows
+mod Marked
+mod Mixed
+mod FirstDone
+mod Centered
+mod Counted
+mod Exported
+mod Undecided

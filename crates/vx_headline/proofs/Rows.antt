@@ -1,0 +1,89 @@
+-- A key that one sheet has, one row of the report has: what will be a law of `vx_cvr`.
+use Rattle.std.proofs.Common.{◌≡◌, Bool, true, false, cond, List, [], ◌∷◌, map, refl, ap, ◌∙◌}
+use Rattle.std.specs.Prelude.{filter}
+use Rattle.std.specs.declared.cmp.Ordering.{Ordering}
+use Rattle.std.specs.declared.cmp.Ordering.TheVariants.{Less, Equal, Greater}
+use Rattle.std.specs.Ordering.{match_ordering}
+use Rattle.vx_election_model.specs.declared.election.Election.{Election}
+use Rattle.vx_events.specs.declared.event.Event.{Event}
+use Rattle.vx_events.specs.declared.key.Key.{Key}
+use Rattle.vx_center.specs.declared.rows.ExportSheet.{ExportSheet}
+use Rattle.vx_center.specs.Exports.{key_order, row_of}
+use Rattle.vx_center.specs.Sheets.{Added, has_key, same_key, sheets_in}
+use Rattle.vx_cvr.specs.Rows.{in_order, placed, rows_of}
+
+module _ (test : ExportSheet → Bool) where
+  -- a row that doesn't pass, placed among others
+  placed-other : (row : ExportSheet) (rows : List ExportSheet) → test row ≡ false → filter test (placed row rows) ≡ filter test rows
+  placed-other row [] not = ap (λ (b : Bool). cond b (row ∷ []) []) not
+  placed-other row (other ∷ others) not = by (key_order other.key row.key) (placed-other row others not)
+    where
+      first : filter test (row ∷ other ∷ others) ≡ filter test (other ∷ others)
+      first = ap (λ (b : Bool). cond b (row ∷ filter test (other ∷ others)) (filter test (other ∷ others))) not
+
+      by : (o : Ordering) → filter test (placed row others) ≡ filter test others
+          → filter test (match_ordering o (other ∷ placed row others) (row ∷ other ∷ others) (row ∷ other ∷ others)) ≡ filter test (other ∷ others)
+      by Less rest = ap (λ (some : List ExportSheet). cond (test other) (other ∷ some) some) rest
+      by Equal rest = first
+      by Greater rest = first
+
+  not-first : (other : ExportSheet) (others : List ExportSheet) → filter test (other ∷ others) ≡ [] → (test other ≡ false) × (filter test others ≡ [])
+  not-first other others none = by (test other) refl none
+    where
+      by : (b : Bool) → test other ≡ b → cond b (other ∷ filter test others) (filter test others) ≡ [] → (test other ≡ false) × (filter test others ≡ [])
+      by true is none = absurd cc
+      by false is none = (is, none)
+
+  -- one that passes, placed among others that don't
+  placed-only : (row : ExportSheet) (rows : List ExportSheet) → test row ≡ true → filter test rows ≡ [] → filter test (placed row rows) ≡ row ∷ []
+  placed-only row [] is none = ap (λ (b : Bool). cond b (row ∷ []) []) is
+  placed-only row (other ∷ others) is none =
+      by (key_order other.key row.key) (placed-only row others is (not-first other others none).1)
+    where
+      first : filter test (row ∷ other ∷ others) ≡ row ∷ []
+      first =
+          ap (λ (b : Bool). cond b (row ∷ filter test (other ∷ others)) (filter test (other ∷ others))) is
+          ∙ ap (λ (some : List ExportSheet). row ∷ some) none
+
+      by : (o : Ordering) → filter test (placed row others) ≡ row ∷ []
+          → filter test (match_ordering o (other ∷ placed row others) (row ∷ other ∷ others) (row ∷ other ∷ others)) ≡ row ∷ []
+      by Less rest =
+          ap (λ (b : Bool). cond b (other ∷ filter test (placed row others)) (filter test (placed row others))) (not-first other others none).0
+          ∙ rest
+      by Equal rest = first
+      by Greater rest = first
+
+  in_order-none : (rows : List ExportSheet) → filter test rows ≡ [] → filter test (in_order rows) ≡ []
+  in_order-none [] none = refl
+  in_order-none (row ∷ rows) none =
+      let both = not-first row rows none in
+      placed-other row (in_order rows) both.0 ∙ in_order-none rows both.1
+
+  pub in_order-one : (rows : List ExportSheet) (one : ExportSheet) → filter test rows ≡ one ∷ [] → filter test (in_order rows) ≡ one ∷ []
+  in_order-one [] one h = h
+  in_order-one (row ∷ rows) one h = by (test row) refl (in_order-one rows one) h
+    where
+      by : (b : Bool) → test row ≡ b → (filter test rows ≡ one ∷ [] → filter test (in_order rows) ≡ one ∷ []) → cond b (row ∷ filter test rows) (filter test rows) ≡ one ∷ [] → filter test (placed row (in_order rows)) ≡ one ∷ []
+      by true is rest h =
+          let same : row ≡ one = cc in
+          let none : filter test rows ≡ [] = cc in
+          placed-only row (in_order rows) is (in_order-none rows none) ∙ ap (λ (some : ExportSheet). some ∷ []) same
+      by false is rest h = placed-other row (in_order rows) is ∙ rest h
+
+-- rows of sheets have their keys
+rows-keyed : (election : Election) (kept : List Event) (key : Key) (sheets : List Added)
+    → filter (λ (row : ExportSheet). same_key key row.key) (map (row_of election kept) sheets) ≡ map (row_of election kept) (filter (has_key key) sheets)
+rows-keyed election kept key [] = refl
+rows-keyed election kept key (added ∷ sheets) = by (has_key key added) (rows-keyed election kept key sheets)
+  where
+    by : (b : Bool) → filter (λ (row : ExportSheet). same_key key row.key) (map (row_of election kept) sheets) ≡ map (row_of election kept) (filter (has_key key) sheets)
+        → cond b (row_of election kept added ∷ filter (λ (row : ExportSheet). same_key key row.key) (map (row_of election kept) sheets)) (filter (λ (row : ExportSheet). same_key key row.key) (map (row_of election kept) sheets))
+        ≡ map (row_of election kept) (cond b (added ∷ filter (has_key key) sheets) (filter (has_key key) sheets))
+    by true rest = ap (λ (rows : List ExportSheet). row_of election kept added ∷ rows) rest
+    by false rest = rest
+
+pub one-row : (election : Election) (kept : List Event) (key : Key) (added : Added) → filter (has_key key) (sheets_in kept) ≡ added ∷ []
+    → filter (λ (row : ExportSheet). same_key key row.key) (rows_of election kept) ≡ row_of election kept added ∷ []
+one-row election kept key added alone =
+    in_order-one (λ (row : ExportSheet). same_key key row.key) (map (row_of election kept) (sheets_in kept)) (row_of election kept added)
+    (rows-keyed election kept key (sheets_in kept) ∙ ap (map (row_of election kept)) alone)

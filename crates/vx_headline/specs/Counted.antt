@@ -1,0 +1,134 @@
+-- Sheets that runs counted: which pages, with which marks, under which key. A run is of `count`, or of `center`.
+use Rattle.std.specs.Prelude.{◌≡◌, ◌⊎◌, ◌<◌, ◌≤◌, ℕ, ◌+◌, ◌*◌, false, List, [], ◌∷◌, length, slice_get, IsOk, Some, None, Ok}
+use Rattle.vx_plane.specs.Plane.{Page}
+use Rattle.vx_election_model.specs.declared.election.Election.{Election}
+use Rattle.vx_rules.specs.declared.marks.SheetMarks.{SheetMarks}
+use Rattle.vx_events.specs.declared.event.Event.{Event}
+use Rattle.vx_events.specs.declared.event.Event.TheVariants.{Add}
+use Rattle.vx_events.specs.declared.key.Key.{Key}
+use Rattle.vx_records.specs.Records.{record_of}
+use Rattle.vx_pbm.specs.Images.{images_of}
+use Rattle.vx_sheet.specs.Events.{number_limit}
+use Rattle.vx_sheet.specs.Margin.{FitsSheet, MarkedSheet, sheet_marked}
+use Rattle.vx_center.specs.Replies.{event_limit}
+use Rattle.vx_center.specs.Sheets.{place_in, sheet_in}
+use Rattle.vx_command.specs.Elections.{plans_in}
+use Rattle.vx_command.specs.Images.{images_in}
+use Rattle.vx_command.specs.Texts.{broke_off}
+use Rattle.vx_journal.specs.Replay.{replay_of}
+use Rattle.vx_command_count.specs.Margin.{key_at}
+use Rattle.vx_command_center.specs.declared.item.Item.{Item}
+use Rattle.vx_command_center.specs.Items.{events_of}
+use Rattle.vx_command_center.specs.Outcome.{items_taken}
+use Rattle.vx_words.specs.declared.command.Command.TheVariants.{Center, Count}
+use Rattle.vx_words.specs.declared.command.ItemWord.{ItemWord}
+use Rattle.vx_words.specs.declared.command.ItemWord.TheVariants.{Scan}
+use Rattle.vx_app.specs.Journals.{Run}
+
+-- the sheet in a place of a `count`'s scans, counted from 0: its two images fit the facing pages of a card as they were
+-- printed and marked, its number is at most 999,999, and the key is its batch and that number
+pub record IsScanned (election : Election) (one : Run) (key : Key) (sheet : MarkedSheet) (place : ℕ) : Type 0 where
+  pub name : List ℕ
+  pub batch : List ℕ
+  pub workers : ℕ
+  pub scans : List (List ℕ)
+  pub is_count : one.command ≡ Count name batch workers scans
+  pub key_is : key ≡ key_at batch place
+  pub first : Page
+  pub second : Page
+  pub first_is : slice_get (images_in one.files 4 scans) (2 * place) ≡ Some first
+  pub second_is : slice_get (images_in one.files 4 scans) (2 * place + 1) ≡ Some second
+  pub fits : FitsSheet election first second sheet
+  pub numbered : place + 1 ≤ number_limit
+
+-- behind events no sheet has the key yet, and there is room for a sheet in such a place
+pub record IsNew (events : List Event) (key : Key) (place : ℕ) : Type 0 where
+  pub new : place_in events key ≡ None
+  pub room : length events + place < event_limit
+
+-- the record of a sheet stands among records, behind the first
+pub record HasRecord (records : List (List ℕ)) (key : Key) (sheet : MarkedSheet) : Type 0 where
+  pub before : ℕ
+  pub stands : slice_get records (before + 1) ≡ Some (record_of (Add key (sheet_marked sheet)))
+
+-- a run counted a sheet over records: the cards of the election can be planned, the key is new, there is room, and the
+-- run didn't break off, or not before that sheet's record
+pub record Counts (election : Election) (records : List (List ℕ)) (one : Run) (key : Key) (sheet : MarkedSheet)
+    : Type 0 where
+  pub place : ℕ
+  pub scanned : IsScanned election one key sheet place
+  pub planned : IsOk (plans_in election)
+  pub before : List Event
+  pub replays : replay_of election records ≡ Ok before
+  pub is_new : IsNew before key place
+  pub whole : (broke_off one.answer ≡ false) ⊎ HasRecord one.left key sheet
+
+-- the sheet in a place of a scan that a word `scan:BATCH:FILE` of a `center` names, whose items can be taken: its two
+-- images fit the facing pages of a card, its number is at most 999,999, and the key is its batch and that number
+pub record IsItemOf (election : Election) (one : Run) (key : Key) (sheet : MarkedSheet) (items : List Item) : Type 0 where
+  pub name : List ℕ
+  pub moment : List ℕ
+  pub device : List ℕ
+  pub words : List ItemWord
+  pub is_center : one.command ≡ Center name moment device words
+  pub are_items : items_taken election one.files 4 0 words ≡ Ok items
+  pub item : ℕ
+  pub batch : List ℕ
+  pub file : List ℕ
+  pub bytes : List ℕ
+  pub is_scan : slice_get words item ≡ Some (Scan batch file)
+  pub is_file : one.files file ≡ Some bytes
+  pub place : ℕ
+  pub key_is : key ≡ key_at batch place
+  pub first : Page
+  pub second : Page
+  pub first_is : slice_get (images_of bytes).pages (2 * place) ≡ Some first
+  pub second_is : slice_get (images_of bytes).pages (2 * place + 1) ≡ Some second
+  pub fits : FitsSheet election first second sheet
+  pub numbered : place + 1 ≤ number_limit
+
+-- how many events items have
+abbrev pub events_in_all : Election → List Item → ℕ
+events_in_all election [] = 0
+events_in_all election (item ∷ items) = length (events_of election item) + events_in_all election items
+
+-- no item adds another sheet under a key
+abbrev pub AddNoOther : Election → List Item → Key → MarkedSheet → Type 0
+AddNoOther election items key sheet =
+    (place n : ℕ) (item : Item) (other : SheetMarks)
+    → slice_get items place ≡ Some item → slice_get (events_of election item) n ≡ Some (Add key other)
+    → other ≡ sheet_marked sheet
+
+-- a `center` counted a sheet over records: the cards of the election can be planned, the key is new and no item adds
+-- another sheet under it, there is room for all events of the items, and the run didn't break off, or not before that
+-- sheet's record; in whichever order the items' events came
+pub record Shares (election : Election) (records : List (List ℕ)) (one : Run) (key : Key) (sheet : MarkedSheet)
+    : Type 0 where
+  pub items : List Item
+  pub is_item : IsItemOf election one key sheet items
+  pub planned : IsOk (plans_in election)
+  pub before : List Event
+  pub replays : replay_of election records ≡ Ok before
+  pub new : place_in before key ≡ None
+  pub no_other : AddNoOther election items key sheet
+  pub room : length before + events_in_all election items ≤ event_limit
+  pub whole : (broke_off one.answer ≡ false) ⊎ HasRecord one.left key sheet
+
+-- one of these runs did either, the first of which is over records
+abbrev pub CountedBy : Election → List (List ℕ) → List Run → Key → MarkedSheet → Type 0
+CountedBy election records [] key sheet = ⊥
+CountedBy election records (one ∷ runs) key sheet =
+    (Counts election records one key sheet ⊎ Shares election records one key sheet)
+    ⊎ CountedBy election one.left runs key sheet
+
+-- records are a journal that keeps a sheet under a key
+pub record HasSheet (election : Election) (records : List (List ℕ)) (key : Key) (sheet : SheetMarks) : Type 0 where
+  pub events : List Event
+  pub replays : replay_of election records ≡ Ok events
+  pub there : sheet_in events key ≡ Some sheet
+
+-- so they were before one of these runs, or are behind the last
+abbrev pub AddedBy : Election → List (List ℕ) → List Run → Key → SheetMarks → Type 0
+AddedBy election records [] key sheet = HasSheet election records key sheet
+AddedBy election records (one ∷ runs) key sheet =
+    HasSheet election records key sheet ⊎ AddedBy election one.left runs key sheet
