@@ -4,3 +4,6 @@ pub mod Parts
 pub mod Kept
 pub mod RowsOf
 pub mod Trip
+pub mod Members
+pub mod Places
+pub mod Names
