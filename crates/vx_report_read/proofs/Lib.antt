@@ -7,3 +7,8 @@ pub mod Trip
 pub mod Members
 pub mod Places
 pub mod Names
+pub mod Pairs
+pub mod Fitting
+pub mod Contests
+pub mod Records
+pub mod Whole

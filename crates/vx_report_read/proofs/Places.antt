@@ -19,7 +19,7 @@ pub other-bytes : (xs ys : List ℕ) → bytes_eq xs ys ≡ false → xs ≡ ys 
 other-bytes xs ys unlike e = not-both (bytes_eq xs ys) ((bytes_eq-Decides xs ys).1 e) unlike
 
 -- the same the other way round
-turned : (xs ys : List ℕ) → bytes_eq xs ys ≡ false → bytes_eq ys xs ≡ false
+pub turned : (xs ys : List ℕ) → bytes_eq xs ys ≡ false → bytes_eq ys xs ≡ false
 turned xs ys unlike = bytes-other ys xs (λ e. other-bytes xs ys unlike (sym e))
 
 new-length : (id : List ℕ) (ids : List (List ℕ)) → IsNew id ids → position_or_len (bytes_eq id) ids ≡ length ids

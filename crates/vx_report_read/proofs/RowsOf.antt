@@ -24,7 +24,7 @@ use Rattle.vx_report_read.proofs.Parts.{IsShort, HasShort, HasFewSeats}
 
 -- what holds of each row holds of each in order
 module _ (P : ExportSheet → Type 0) where
-  each-placed : (row : ExportSheet) (rows : List ExportSheet) → P row → AllByRecursion P rows → AllByRecursion P (placed row rows)
+  pub each-placed : (row : ExportSheet) (rows : List ExportSheet) → P row → AllByRecursion P rows → AllByRecursion P (placed row rows)
   each-placed row [] is each = (is, tt)
   each-placed row (other ∷ others) is each = by (key_order other.key row.key) (each-placed row others is each.1)
     where
@@ -44,7 +44,7 @@ module _ (P : ExportSheet → Type 0) where
       (each-map P (row_of election kept) (sheets_in kept)
       (each-weaker (IsAdded election) (λ (added : Added). P (row_of election kept added)) (sheets_in kept) of_added (sheets-are election kept history)))
 
-few-choices : (is_yes_no : Bool) (contest : Contest) → HasChoices is_yes_no contest → length contest.choices ≤ 100
+pub few-choices : (is_yes_no : Bool) (contest : Contest) → HasChoices is_yes_no contest → length contest.choices ≤ 100
 few-choices true contest has = let two = ap length has.answers.2 in omega (arith, two)
 few-choices false contest has = has.few
 

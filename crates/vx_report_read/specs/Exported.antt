@@ -108,3 +108,10 @@ exported_by election row = flat_map (λ (final : Final). map (exported_vote elec
 -- the exported selections of a history's sheets, with their votes, in the report's order
 abbrev pub exported_rows : Election → List Event → List totals.Row
 exported_rows election kept = flat_map (exported_by election) (cvr.rows_of election kept)
+
+-- of what a history's report is read as, the rows are those
+abbrev pub RowsAreTheExported : Type 0
+RowsAreTheExported =
+    (election : Election) (kept : List Event) (moment id : List ℕ) (report : Report) → IsValid election → IsHistory election kept
+    → report_in_bytes (report_of election kept moment id) ≡ Ok report
+    → totals.rows_of report.records ≡ exported_rows election kept

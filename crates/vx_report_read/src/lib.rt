@@ -7,4 +7,4 @@
 
 mod laws;
 
-pub use laws::reports_are_read_back;
+pub use laws::{reports_are_read, reports_are_read_back, rows_are_the_exported};
