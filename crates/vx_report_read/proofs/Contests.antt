@@ -1,27 +1,24 @@
 -- What the units and the contests of a report are read as.
 use Rattle.std.proofs.Common.{◌≡◌, ℕ, zero, suc, ◌+◌, ◌<◌, ◌≤◌, ◌^◌, Bool, true, false, cond, List, [], ◌∷◌, ◌++◌, length, map, refl, sym, ap, subst, ◌∙◌, arith}
-use Rattle.std.specs.Prelude.{⊤, Option, Some, None, Result, Ok, codes, bytes_eq, slice_get, slice_index_or, option_map}
-use Rattle.std.specs.List.{AllByRecursion, IsDistinct, flat_map, range_with_len}
+use Rattle.std.specs.Prelude.{⊤, Some, None, Ok, codes, bytes_eq, slice_get, option_map}
+use Rattle.std.specs.List.{AllByRecursion, IsDistinct, range_with_len}
 use Rattle.std.proofs.lemmas.Option.{slice_get-map}
 use Rattle.serde_json.specs.Data.{Data}
 use Rattle.vx_base.proofs.Lists.{map-map}
 use Rattle.vx_json.specs.Paths.{member_path, element_path}
-use Rattle.vx_election_model.specs.declared.choice.Choice.{Choice}
 use Rattle.vx_election_model.specs.declared.contest.Contest.{Contest}
 use Rattle.vx_election_model.specs.declared.election.Election.{Election}
 use Rattle.vx_election_model.specs.declared.named.Named.{Named}
 use Rattle.vx_election_model.specs.Options.{options_of}
 use Rattle.vx_election_model.specs.Valid.{IsNamed, IsContest, IsValid}
 use Rattle.vx_center.specs.declared.rows.ExportSheet.{ExportSheet}
-use Rattle.vx_cvr.specs.Json.{text, list, members}
 use Rattle.vx_cvr.specs.Names.{precinct_name, contest_name, selection_name}
-use Rattle.vx_cvr.specs.Votes.{is_slot}
 use Rattle.vx_cvr.specs.Report as spec
 use Rattle.vx_tally.specs.declared.report.ReportContest.{ReportContest}
 use Rattle.vx_tally.specs.Names.{contest_selection}
 use Rattle.vx_tally.specs.Ids.{place_in}
-use Rattle.vx_tally.specs.Members.{list_limit, id_member, list_member, first_member, each_of}
-use Rattle.vx_tally.specs.Contests.{contest_ids, selection_ids, own_selections, own_id_in, own_ids_in, units_in, election_path, contest_at, contest_in, contest_list_in, contests_in}
+use Rattle.vx_tally.specs.Members.{list_limit, id_member}
+use Rattle.vx_tally.specs.Contests.{contest_ids, selection_ids, own_id_in, own_ids_in, units_in, election_path, contest_at, contest_in, contest_list_in, contests_in}
 use Rattle.vx_report_read.specs.Exported.{units_of, selections_of, contest_of}
 use Rattle.vx_report_read.proofs.Each.{each-all, each-weaker, each-append}
 use Rattle.vx_report_read.proofs.Members.{bind-ok, id-member, list-member, first-member, walk}
@@ -39,13 +36,14 @@ length-range a (suc n) = ap (λ (m : ℕ). suc m) (length-range (a + 1) n)
 
 -- ---- selections
 
-
 -- numbers from one on and below another
 range-from : (a n : ℕ) → AllByRecursion (λ (m : ℕ). (a ≤ m) × (m < a + n)) (range_with_len a n)
 range-from a zero = tt
-range-from a (suc n) =
-    ((omega arith, omega arith), each-weaker (λ (m : ℕ). (a + 1 ≤ m) × (m < (a + 1) + n)) (λ (m : ℕ). (a ≤ m) × (m < a + suc n)) (range_with_len (a + 1) n)
-    (λ m is. (omega (arith, is.0), omega (arith, is.1))) (range-from (a + 1) n))
+range-from a (suc n) = (
+  (omega arith, omega arith),
+  each-weaker (λ (m : ℕ). (a + 1 ≤ m) × (m < (a + 1) + n)) (λ (m : ℕ). (a ≤ m) × (m < a + suc n)) (range_with_len (a + 1) n)
+      (λ m is. (omega (arith, is.0), omega (arith, is.1))) (range-from (a + 1) n),
+)
 
 selections-distinct : (id : List ℕ) (a n : ℕ) → a + n < 2 ^ 64 → IsDistinct bytes_eq (map (selection_name id) (range_with_len a n))
 unfolding IsDistinct
@@ -56,9 +54,11 @@ selections-distinct id a (suc n) small =
     others : (numbers : List ℕ) → AllByRecursion (λ (m : ℕ). (a + 1 ≤ m) × (m < (a + 1) + n)) numbers
         → AllByRecursion (λ (name : List ℕ). bytes_eq (selection_name id a) name ≡ false) (map (selection_name id) numbers)
     others [] all = tt
-    others (m ∷ numbers) all =
-        (bytes-other (selection_name id a) (selection_name id m)
-        (λ same. omega (arith, (selection-same id id a m (omega (arith, small)) (omega (arith, all.0.1, small)) same).1, all.0.0)), others numbers all.1)
+    others (m ∷ numbers) all = (
+      bytes-other (selection_name id a) (selection_name id m)
+          (λ same. omega (arith, (selection-same id id a m (omega (arith, small)) (omega (arith, all.0.1, small)) same).1, all.0.0)),
+      others numbers all.1,
+    )
 
 range-got : (a n k : ℕ) → k < n → slice_get (range_with_len a n) k ≡ Some (a + k)
 range-got a zero k below = absurd (omega (arith, below))
@@ -106,16 +106,18 @@ others-new contest option (other ∷ before) given all small new =
     own : (numbers : List ℕ) → AllByRecursion (λ (m : ℕ). (0 ≤ m) × (m < 0 + options_of other)) numbers
         → AllByRecursion (λ (name : List ℕ). bytes_eq (selection_name contest.id option) name ≡ false) (map (selection_name other.id) numbers)
     own [] are = tt
-    own (m ∷ numbers) are =
-        (bytes-other (selection_name contest.id option) (selection_name other.id m)
-        (λ same. other-bytes contest.id other.id new.0 (selection-same contest.id other.id option m small (omega (arith, are.0.1, given-options other all.0)) same).0),
-        own numbers are.1)
+    own (m ∷ numbers) are = (
+      bytes-other (selection_name contest.id option) (selection_name other.id m)
+          (λ same. other-bytes contest.id other.id new.0
+          (selection-same contest.id other.id option m small (omega (arith, are.0.1, given-options other all.0)) same).0),
+      own numbers are.1,
+    )
 
 -- the selections of a contest, behind those of the contests before it
 own-selections : (make : ℕ → Data) (contest : Contest) (before : List Contest) (path : List ℕ) → IsGiven contest → AllByRecursion IsGiven before
     → IsNew contest.id (map (λ (one : Contest). one.id) before)
     → ((option : ℕ) (where_it_is : List ℕ) (ids : List (List ℕ)) → option < options_of contest → place_in (selection_name contest.id option) ids ≡ None
-      → id_member (make option) where_it_is (codes "@id") ids ≡ Ok (selection_name contest.id option))
+    → id_member (make option) where_it_is (codes "@id") ids ≡ Ok (selection_name contest.id option))
     → own_ids_in path (selection_ids (map contest_of before)) (map make (range_with_len 0 (options_of contest))) ≡ Ok (selections_of contest)
 unfolding own_ids_in
 own-selections make contest before path given all new reads =
@@ -129,26 +131,29 @@ own-selections make contest before path given all new reads =
         → own_id_in path (selection_ids (map contest_of before)) (map (selection_name contest.id) front) (make option) ≡ Ok (selection_name contest.id option)
     one front option back e =
         let inside : (0 ≤ option) × (option < 0 + options_of contest) =
-          each-seam (λ (m : ℕ). (0 ≤ m) × (m < 0 + options_of contest)) front option back
-          (subst (λ (numbers : List ℕ). AllByRecursion (λ (m : ℕ). (0 ≤ m) × (m < 0 + options_of contest)) numbers) e (range-from 0 (options_of contest))) in
+        each-seam (λ (m : ℕ). (0 ≤ m) × (m < 0 + options_of contest)) front option back
+        (subst (λ (numbers : List ℕ). AllByRecursion (λ (m : ℕ). (0 ≤ m) × (m < 0 + options_of contest)) numbers) e (range-from 0 (options_of contest))) in
         let below : option < options_of contest = omega (arith, inside.1) in
         let distinct = subst (λ (numbers : List ℕ). IsDistinct bytes_eq (map (selection_name contest.id) numbers)) e
-          (selections-distinct contest.id 0 (options_of contest) (omega (arith, small))) in
+        (selections-distinct contest.id 0 (options_of contest) (omega (arith, small))) in
         let ids = selection_ids (map contest_of before) ++ map (selection_name contest.id) front in
         reads option (element_path path (length (map (selection_name contest.id) front))) ids below
         (new-place (selection_name contest.id option) ids
-        (each-append (λ (name : List ℕ). bytes_eq (selection_name contest.id option) name ≡ false) (selection_ids (map contest_of before)) (map (selection_name contest.id) front)
+        (each-append (λ (name : List ℕ). bytes_eq (selection_name contest.id option) name ≡ false) (selection_ids (map contest_of before))
+        (map (selection_name contest.id) front)
         (others-new contest option before given all (omega (arith, below, small)) new)
         (new-name (selection_name contest.id) front option back distinct)))
 
 candidate-read : (contest : Contest) (option : ℕ) (path : List ℕ) (ids : List (List ℕ)) → IsGiven contest → option < options_of contest
-    → place_in (selection_name contest.id option) ids ≡ None → id_member (spec.candidate_selection contest option) path (codes "@id") ids ≡ Ok (selection_name contest.id option)
+    → place_in (selection_name contest.id option) ids ≡ None
+    → id_member (spec.candidate_selection contest option) path (codes "@id") ids ≡ Ok (selection_name contest.id option)
 candidate-read contest option path ids given below none =
     id-member _ path (codes "@id") ids (selection_name contest.id option) refl
     (selection-id contest.id option given.2.id (omega (arith, below, given-options contest given))) none
 
 answer-read : (contest : Contest) (option : ℕ) (path : List ℕ) (ids : List (List ℕ)) → IsGiven contest → option < options_of contest
-    → place_in (selection_name contest.id option) ids ≡ None → id_member (spec.answer contest option) path (codes "@id") ids ≡ Ok (selection_name contest.id option)
+    → place_in (selection_name contest.id option) ids ≡ None
+    → id_member (spec.answer contest option) path (codes "@id") ids ≡ Ok (selection_name contest.id option)
 answer-read contest option path ids given below none =
     id-member _ path (codes "@id") ids (selection_name contest.id option) refl
     (selection-id contest.id option given.2.id (omega (arith, below, given-options contest given))) none
@@ -158,9 +163,10 @@ answer-read contest option path ids given below none =
 contest-new : (contest : Contest) (before : List Contest) → IsNew contest.id (map (λ (one : Contest). one.id) before)
     → IsNew (contest_name contest.id) (contest_ids (map contest_of before))
 contest-new contest [] new = tt
-contest-new contest (other ∷ before) new =
-    (bytes-other (contest_name contest.id) (contest_name other.id) (λ same. other-bytes contest.id other.id new.0 (contest-same contest.id other.id same)),
-    contest-new contest before new.1)
+contest-new contest (other ∷ before) new = (
+  bytes-other (contest_name contest.id) (contest_name other.id) (λ same. other-bytes contest.id other.id new.0 (contest-same contest.id other.id same)),
+  contest-new contest before new.1,
+)
 
 contest-read : (contest : Contest) (before : List Contest) (path : List ℕ) → IsGiven contest → AllByRecursion IsGiven before
     → IsNew contest.id (map (λ (one : Contest). one.id) before) → contest_in path (map contest_of before) (spec.contest contest) ≡ Ok (contest_of contest)
@@ -179,26 +185,35 @@ contest-read contest before path given all new = by contest.is_yes_no
     few : (make : ℕ → Data) → length (map make (range_with_len 0 (options_of contest))) ≤ list_limit
     few make = omega (arith, length-mapped make (range_with_len 0 (options_of contest)), length-range 0 (options_of contest), given-options contest given)
 
-    by : (b : Bool) → contest_at at (contest_ids (map contest_of before)) (selection_ids (map contest_of before)) (cond b (spec.measure contest) (spec.candidate_contest contest)) ≡ Ok (contest_of contest)
+    by : (b : Bool) → contest_at at (contest_ids (map contest_of before)) (selection_ids (map contest_of before))
+        (cond b (spec.measure contest) (spec.candidate_contest contest)) ≡ Ok (contest_of contest)
     by true =
-        bind-ok _ _ (contest_name contest.id) _ (id-member _ at (codes "@id") (contest_ids (map contest_of before)) (contest_name contest.id) refl (contest-id contest.id given.2.id) none)
+        bind-ok _ _ (contest_name contest.id) _
+        (id-member _ at (codes "@id") (contest_ids (map contest_of before)) (contest_name contest.id) refl (contest-id contest.id given.2.id) none)
         (bind-ok _ _ (map (spec.answer contest) (range_with_len 0 (options_of contest))) _
-        (list-member _ at (codes "ContestSelection") list_limit (map (spec.answer contest) (range_with_len 0 (options_of contest))) refl (few (spec.answer contest)))
+        (list-member _ at (codes "ContestSelection") list_limit (map (spec.answer contest) (range_with_len 0 (options_of contest))) refl
+        (few (spec.answer contest)))
         (bind-ok _ _ (selections_of contest) _
-        (own-selections (spec.answer contest) contest before own given all new (λ option path ids below none. answer-read contest option path ids given below none)) refl))
+        (own-selections (spec.answer contest) contest before own given all new
+        (λ option path ids below none. answer-read contest option path ids given below none)) refl))
     by false =
-        bind-ok _ _ (contest_name contest.id) _ (id-member _ at (codes "@id") (contest_ids (map contest_of before)) (contest_name contest.id) refl (contest-id contest.id given.2.id) none)
+        bind-ok _ _ (contest_name contest.id) _
+        (id-member _ at (codes "@id") (contest_ids (map contest_of before)) (contest_name contest.id) refl (contest-id contest.id given.2.id) none)
         (bind-ok _ _ (map (spec.candidate_selection contest) (range_with_len 0 (options_of contest))) _
-        (list-member _ at (codes "ContestSelection") list_limit (map (spec.candidate_selection contest) (range_with_len 0 (options_of contest))) refl (few (spec.candidate_selection contest)))
+        (list-member _ at (codes "ContestSelection") list_limit (map (spec.candidate_selection contest) (range_with_len 0 (options_of contest))) refl
+        (few (spec.candidate_selection contest)))
         (bind-ok _ _ (selections_of contest) _
-        (own-selections (spec.candidate_selection contest) contest before own given all new (λ option path ids below none. candidate-read contest option path ids given below none)) refl))
+        (own-selections (spec.candidate_selection contest) contest before own given all new
+        (λ option path ids below none. candidate-read contest option path ids given below none)) refl))
 
 pub contests-given : (election : Election) → IsValid election → AllByRecursion IsGiven election.contests
 contests-given election valid =
-    each-weaker (IsContest (length election.parties) (length election.districts)) IsGiven election.contests (λ contest is. (length election.parties, length election.districts, is))
+    each-weaker (IsContest (length election.parties) (length election.districts)) IsGiven election.contests
+    (λ contest is. (length election.parties, length election.districts, is))
     (each-all (IsContest (length election.parties) (length election.districts)) election.contests valid.contests.each)
 
-contest-list-read : (election : Election) (path : List ℕ) → IsValid election → contest_list_in path (map spec.contest election.contests) ≡ Ok (map contest_of election.contests)
+contest-list-read : (election : Election) (path : List ℕ) → IsValid election
+    → contest_list_in path (map spec.contest election.contests) ≡ Ok (map contest_of election.contests)
 unfolding contest_list_in
 contest-list-read election path valid =
     walk (contest_in path) spec.contest contest_of election.contests
@@ -214,7 +229,8 @@ unfolding contests_in
 contests-read election rows moment id valid =
     bind-ok _ _ (spec.election_object election) _ (first-member _ [] (codes "Election") (spec.election_object election) refl)
     (bind-ok _ _ (map spec.contest election.contests) _
-    (list-member _ election_path (codes "Contest") list_limit (map spec.contest election.contests) refl (omega (arith, length-mapped spec.contest election.contests, valid.contests.few)))
+    (list-member _ election_path (codes "Contest") list_limit (map spec.contest election.contests) refl
+    (omega (arith, length-mapped spec.contest election.contests, valid.contests.few)))
     (contest-list-read election (member_path election_path (codes "Contest")) valid))
 
 -- the contest at its own place
@@ -223,14 +239,16 @@ pub contest-place : (election : Election) (number : ℕ) (contest : Contest) →
 contest-place election number contest valid there =
     ap (place_in (contest_name contest.id)) (map-map (λ (one : ReportContest). one.id) contest_of election.contests)
     ∙ got-place (map (λ (one : Contest). contest_name one.id) election.contests) number (contest_name contest.id)
-    (told-apart (λ (one : Contest). one.id) (λ (one : Contest). contest_name one.id) (λ one other same. contest-same one.id other.id same) election.contests valid.contests.distinct)
+    (told-apart (λ (one : Contest). one.id) (λ (one : Contest). contest_name one.id)
+    (λ one other same. contest-same one.id other.id same) election.contests valid.contests.distinct)
     (slice_get-map (λ (one : Contest). contest_name one.id) election.contests number ∙ ap (option_map (λ (one : Contest). contest_name one.id)) there)
 
 -- ---- units
 
 precincts-distinct : (election : Election) → IsValid election → IsDistinct bytes_eq (map (λ (one : Named). precinct_name one.id) election.precincts)
 precincts-distinct election valid =
-    told-apart (λ (one : Named). one.id) (λ (one : Named). precinct_name one.id) (λ one other same. precinct-same one.id other.id same) election.precincts valid.precincts.distinct
+    told-apart (λ (one : Named). one.id) (λ (one : Named). precinct_name one.id)
+    (λ one other same. precinct-same one.id other.id same) election.precincts valid.precincts.distinct
 
 scope-new : (precincts : List Named) → IsNew (codes "scope") (map (λ (one : Named). precinct_name one.id) precincts)
 scope-new [] = tt
@@ -288,12 +306,15 @@ pub units-read : (election : Election) (rows : List ExportSheet) (moment id : Li
 unfolding units_in
 units-read election rows moment id valid =
     bind-ok _ _ (spec.places election) _
-    (list-member _ [] (codes "GpUnit") list_limit (spec.places election) refl (omega (arith, length-mapped spec.precinct election.precincts, valid.precincts.few)))
-    (ap (own_ids_in (codes "GpUnit") []) (sym objects) ∙ unit-list-read election (scope ∷ map named_unit election.precincts) (codes "GpUnit") (tt, named-units election.precincts (each-all IsNamed election.precincts valid.precincts.each))
+    (list-member _ [] (codes "GpUnit") list_limit (spec.places election) refl
+    (omega (arith, length-mapped spec.precinct election.precincts, valid.precincts.few)))
+    (ap (own_ids_in (codes "GpUnit") []) (sym objects) ∙ unit-list-read election (scope ∷ map named_unit election.precincts) (codes "GpUnit")
+    (tt, named-units election.precincts (each-all IsNamed election.precincts valid.precincts.each))
     (subst (IsDistinct bytes_eq) (sym names) (units-distinct election valid)) ∙ ap Ok names)
   where
     objects : map (unit_object election) (scope ∷ map named_unit election.precincts) ≡ spec.places election
-    objects = ap (λ (ds : List Data). spec.place (codes "scope") election.title (codes "other") ∷ ds) (map-map (unit_object election) named_unit election.precincts)
+    objects = ap (λ (ds : List Data). spec.place (codes "scope") election.title (codes "other") ∷ ds)
+        (map-map (unit_object election) named_unit election.precincts)
 
     names : map unit_name (scope ∷ map named_unit election.precincts) ≡ units_of election
     names = ap (λ (ids : List (List ℕ)). codes "scope" ∷ ids) (map-map unit_name named_unit election.precincts)

@@ -1,6 +1,6 @@
 -- What holds of each element of a list.
-use Rattle.std.proofs.Common.{◌≡◌, ℕ, zero, suc, ◌<◌, ◌≤◌, Bool, true, false, cond, List, [], ◌∷◌, ◌++◌, length, map, fold, refl, arith}
-use Rattle.std.specs.Prelude.{⊤, Option, Some, None, slice_get, slice_index_or}
+use Rattle.std.proofs.Common.{◌≡◌, ℕ, suc, ◌≤◌, Bool, true, false, cond, List, [], ◌∷◌, ◌++◌, length, map, fold, refl, arith}
+use Rattle.std.specs.Prelude.{Some, slice_get}
 use Rattle.std.specs.List.{AllByRecursion, All, flat_map, list_all, filter}
 use Rattle.vx_base.proofs.Booleans.{and-left, and-right}
 
@@ -39,11 +39,13 @@ module _ {X Y : Type 0} where
   each-map P f [] each = tt
   each-map P f (x ∷ xs) each = (each.0, each-map P f xs each.1)
 
-  pub each-flat_map : (P : Y → Type 0) (f : X → List Y) (xs : List X) → AllByRecursion (λ (x : X). AllByRecursion P (f x)) xs → AllByRecursion P (flat_map f xs)
+  pub each-flat_map : (P : Y → Type 0) (f : X → List Y) (xs : List X) → AllByRecursion (λ (x : X). AllByRecursion P (f x)) xs
+      → AllByRecursion P (flat_map f xs)
   each-flat_map P f [] each = tt
   each-flat_map P f (x ∷ xs) each = each-append P (f x) (flat_map f xs) each.0 (each-flat_map P f xs each.1)
 
   -- what is kept from one to the next holds at the end
-  pub fold-keeps : (P : Y → Type 0) (Q : X → Type 0) (f : Y → X → Y) (xs : List X) (y : Y) → ((z : Y) (x : X) → P z → Q x → P (f z x)) → P y → AllByRecursion Q xs → P (fold f y xs)
+  pub fold-keeps : (P : Y → Type 0) (Q : X → Type 0) (f : Y → X → Y) (xs : List X) (y : Y) → ((z : Y) (x : X) → P z → Q x → P (f z x)) → P y
+      → AllByRecursion Q xs → P (fold f y xs)
   fold-keeps P Q f [] y step first each = first
   fold-keeps P Q f (x ∷ xs) y step first each = fold-keeps P Q f xs (f y x) step (step y x first each.0) each.1

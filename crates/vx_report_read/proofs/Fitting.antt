@@ -1,7 +1,7 @@
 -- What the rows of a history have: cards that are there, and contests that ascend, with options that are there.
-use Rattle.std.proofs.Common.{◌≡◌, ℕ, zero, suc, ◌+◌, ◌-◌, ◌<◌, ◌≤◌, ◌%◌, Bool, true, false, cond, ◌==◌, List, [], ◌∷◌, ◌++◌, length, map, get_or, refl, sym, ap, subst, ◌∙◌, arith, length-append}
-use Rattle.std.specs.Prelude.{⊤, ◌&&◌, ◌||◌, Option, Some, None, slice_get, slice_index_or, nat_lt, nat_le, sum_by}
-use Rattle.std.specs.List.{AllByRecursion, flat_map, list_any, list_all}
+use Rattle.std.proofs.Common.{◌≡◌, ℕ, zero, suc, ◌+◌, ◌-◌, ◌<◌, ◌≤◌, ◌%◌, Bool, true, false, cond, ◌==◌, List, [], ◌∷◌, ◌++◌, length, map, refl, sym, ap, subst, ◌∙◌, arith, length-append}
+use Rattle.std.specs.Prelude.{◌&&◌, ◌||◌, Option, Some, None, slice_get, slice_index_or, nat_lt, nat_le}
+use Rattle.std.specs.List.{AllByRecursion, flat_map, list_all}
 use Rattle.std.proofs.lemmas.List.Sums.{sum_by-cons}
 use Rattle.std.proofs.lemmas.Option.{slice_get_within, get_or_from_slice_get}
 use Rattle.vx_base.proofs.Booleans.{and-both, and-left, and-right}
@@ -25,18 +25,18 @@ use Rattle.vx_center.specs.declared.decided.Decided.{Decided}
 use Rattle.vx_center.specs.declared.rows.ExportSheet.{ExportSheet}
 use Rattle.vx_center.specs.declared.rows.Final.{Final}
 use Rattle.vx_center.specs.Decisions.{decided_of, decisions_on}
-use Rattle.vx_center.specs.Exports.{final_of, final_in, final_if_exported, finals_by, row_of}
+use Rattle.vx_center.specs.Exports.{final_in, final_if_exported, row_of}
 use Rattle.vx_center.specs.Histories.{IsHistory}
 use Rattle.vx_center.specs.Sheets.{Added}
 use Rattle.vx_center.specs.Waiting.{exports_by}
 use Rattle.vx_cvr.specs.Rows.{rows_of}
-use Rattle.vx_cvr.specs.Votes.{is_slot, name_of, candidate_in, candidate_of}
+use Rattle.vx_cvr.specs.Votes.{is_slot, candidate_in, candidate_of}
 use Rattle.vx_cvr.specs.Report.{no_contest, voted_for}
 use Rattle.vx_tally.specs.Ids.{is_among}
 use Rattle.vx_report_read.specs.Exported.{contest_at}
 use Rattle.vx_report_read.proofs.Each.{each-weaker}
-use Rattle.vx_report_read.proofs.Kept.{AreOptions, IsNameIn, IsSlotOf, IsFinal, IsAdded, row-finals}
-use Rattle.vx_report_read.proofs.RowsOf.{each-row, few-choices}
+use Rattle.vx_report_read.proofs.Kept.{AreOptions, IsSlotOf, IsFinal, IsAdded, row-finals}
+use Rattle.vx_report_read.proofs.RowsOf.{each-row}
 
 -- the numbers of elements
 module _ {X : Type 0} (number : X → ℕ) where
@@ -76,7 +76,8 @@ abbrev pub final_number : Final → ℕ
 final_number final = final.contest
 
 -- the exported contests of a sheet ascend
-finals-ascend : (election : Election) (blank : Bool) (decided : List Decided) (least : ℕ) (list : List ContestMarks) → ascends_from least (contests_of list) ≡ true
+finals-ascend : (election : Election) (blank : Bool) (decided : List Decided) (least : ℕ) (list : List ContestMarks)
+    → ascends_from least (contests_of list) ≡ true
     → ascends_from least (map final_number (flat_map (final_if_exported election blank decided) list)) ≡ true
 finals-ascend election blank decided least [] up = refl
 finals-ascend election blank decided least (marks ∷ list) up =
@@ -90,10 +91,12 @@ finals-ascend election blank decided least (marks ∷ list) up =
     inside : (o : Option Contest) → least ≤ marks.contest → ascends_from (marks.contest + 1) (map final_number rest) ≡ true
         → ascends_from least (map final_number (final_in marks (decisions_on marks.contest decided) o ++ rest)) ≡ true
     inside None low up = ascends-lower final_number least (marks.contest + 1) rest (omega (arith, low)) up
-    inside (Some contest) low up = and-both (nat_le least marks.contest) (ascends_from (marks.contest + 1) (map final_number rest)) (at_most-yes least marks.contest low) up
+    inside (Some contest) low up = and-both (nat_le least marks.contest) (ascends_from (marks.contest + 1) (map final_number rest))
+        (at_most-yes least marks.contest low) up
 
     by : (b : Bool) → least ≤ marks.contest → ascends_from (marks.contest + 1) (map final_number rest) ≡ true
-        → ascends_from least (map final_number (cond b (final_in marks (decisions_on marks.contest decided) (slice_get election.contests marks.contest)) [] ++ rest)) ≡ true
+        → ascends_from least
+        (map final_number (cond b (final_in marks (decisions_on marks.contest decided) (slice_get election.contests marks.contest)) [] ++ rest)) ≡ true
     by true low up = inside (slice_get election.contests marks.contest) low up
     by false low up = ascends-lower final_number least (marks.contest + 1) rest (omega (arith, low)) up
 
@@ -149,7 +152,8 @@ sheet-ascends election sheet fits =
     and-right (sheet_head election sheet) (is_ascending (contests_of sheet.contests))
     (and-left (sheet_head election sheet && is_ascending (contests_of sheet.contests)) (list_all (is_read election) sheet.contests) fits)
 
-added-row : (election : Election) (kept : List Event) → IsValid election → IsHistory election kept → (added : Added) → IsAdded election added → IsRow election (row_of election kept added)
+added-row : (election : Election) (kept : List Event) → IsValid election → IsHistory election kept → (added : Added) → IsAdded election added
+    → IsRow election (row_of election kept added)
 added-row election kept valid history added is = record {
   key = is.0;
   card = omega (arith, length-cards_from 0 election.styles, below-from_yes added.sheet.card (card_count election.styles) card);
@@ -165,7 +169,8 @@ added-row election kept valid history added is = record {
     card = sheet-card election sheet is.1
 
     finals : AllByRecursion (IsFinalAt election) (row_of election kept added).finals
-    finals = each-weaker (IsFinal election) (IsFinalAt election) (row_of election kept added).finals (final-at election) (row-finals election kept added history is)
+    finals = each-weaker (IsFinal election) (IsFinalAt election) (row_of election kept added).finals (final-at election)
+        (row-finals election kept added history is)
 
     up : ascends_from 0 (map final_number (row_of election kept added).finals) ≡ true
     up = finals-ascend election (is_blank_sheet sheet) (decided_of kept added.key) 0 sheet.contests (sheet-ascends election sheet is.1)
@@ -184,7 +189,8 @@ contest-valid election final valid is =
     valid.contests.each final.contest no_contest (slice_get_within election.contests final.contest (contest_at election final) is.there)
 
 -- whom a slot is for is one of the candidates
-named-in : (contest : Contest) (names : List (Option WriteInName)) (slot : ℕ) → AllByRecursion (IsSlotOf contest) names → IsSlotOf contest (slice_index_or names slot None)
+named-in : (contest : Contest) (names : List (Option WriteInName)) (slot : ℕ) → AllByRecursion (IsSlotOf contest) names
+    → IsSlotOf contest (slice_index_or names slot None)
 named-in contest [] slot all = tt
 named-in contest (name ∷ names) zero all = all.0
 named-in contest (name ∷ names) (suc slot) all = named-in contest names slot all.1

@@ -1,20 +1,19 @@
 -- What the kept events of a history are: the sheets and the decisions that fit, and what is exported of them.
-use Rattle.std.proofs.Common.{◌≡◌, ℕ, zero, suc, ◌+◌, ◌<◌, ◌≤◌, ◌%◌, Bool, true, false, cond, ◌==◌, List, [], ◌∷◌, length, map, take, refl, sym, ap, ◌∙◌, subst, arith}
-use Rattle.std.specs.Prelude.{⊤, ◌&&◌, Option, Some, None, find, nat_lt, nat_le, slice_get}
-use Rattle.std.specs.List.{AllByRecursion, flat_map, list_all, range_with_len}
+use Rattle.std.proofs.Common.{◌≡◌, ℕ, suc, ◌+◌, ◌<◌, ◌≤◌, Bool, true, false, cond, ◌==◌, List, [], ◌∷◌, length, take, refl, sym, ap, ◌∙◌, arith}
+use Rattle.std.specs.Prelude.{⊤, Option, Some, None, find, nat_lt, nat_le, slice_get}
+use Rattle.std.specs.List.{AllByRecursion, list_all, range_with_len}
 use Rattle.std.proofs.lemmas.Option.{same_Some}
 use Rattle.vx_base.proofs.Booleans.{and-left, and-right, chosen-none}
-use Rattle.vx_base.proofs.Numbers.{equal-from_yes, below-from_yes, below-from_no, at_most-yes, at_most-from_yes}
+use Rattle.vx_base.proofs.Numbers.{equal-from_yes, below-from_yes, at_most-from_yes}
 use Rattle.vx_grid.specs.declared.state.State.{State}
 use Rattle.vx_election_model.specs.declared.contest.Contest.{Contest}
 use Rattle.vx_election_model.specs.declared.election.Election.{Election}
-use Rattle.vx_election_model.specs.Lists.{card_count}
 use Rattle.vx_election_model.specs.Options.{options_of}
 use Rattle.vx_rules.specs.declared.marks.ContestMarks.{ContestMarks}
 use Rattle.vx_rules.specs.declared.marks.SheetMarks.{SheetMarks}
 use Rattle.vx_rules.specs.Reasons.{is_marked, is_blank_sheet}
 use Rattle.vx_refusals.specs.declared.reply.Reply.{Reply}
-use Rattle.vx_refusals.specs.declared.reply.Reply.TheVariants.{Done, NoSheet, HeldBy, NotHeld, NotOnSheet, NotAnOption, OverSeats, StillMarginal, NoWriteIn, Full}
+use Rattle.vx_refusals.specs.declared.reply.Reply.TheVariants.{Done, HeldBy, NotAnOption, OverSeats, NoWriteIn, Full}
 use Rattle.vx_events.specs.declared.decision.Decision.{Decision}
 use Rattle.vx_events.specs.declared.decision.Decision.TheVariants.{Selections, RuledOvervote, AcceptRead, NameWriteIn}
 use Rattle.vx_events.specs.declared.decision.WriteInName.{WriteInName}
@@ -22,16 +21,14 @@ use Rattle.vx_events.specs.declared.decision.WriteInName.TheVariants.{Words, Can
 use Rattle.vx_events.specs.declared.event.Event.{Event}
 use Rattle.vx_events.specs.declared.event.Event.TheVariants.{Add, Claim, Release, Decide}
 use Rattle.vx_events.specs.declared.key.Key.{Key}
-use Rattle.vx_events.specs.Ascending.{ascends_from}
-use Rattle.vx_events.specs.Fits.{Fits, is_key, is_read, has_options, is_sheet, contests_of}
+use Rattle.vx_events.specs.Fits.{Fits, is_key, is_read, has_options, is_sheet}
 use Rattle.vx_center.specs.declared.decided.Decided.{Decided}
-use Rattle.vx_center.specs.declared.rows.ExportSheet.{ExportSheet}
 use Rattle.vx_center.specs.declared.rows.Final.{Final}
 use Rattle.vx_center.specs.Decisions.{decided_by, decided_of, of_contest, decisions_on, decisions_of, ruling_after, ruling_of, name_after, name_of}
 use Rattle.vx_center.specs.Exports.{final_of, final_in, final_if_exported, finals_by, row_of}
 use Rattle.vx_center.specs.Finals.{options_from, marked_options, selected_by, slots_of}
 use Rattle.vx_center.specs.Histories.{IsHistory}
-use Rattle.vx_center.specs.Replies.{event_limit, on_sheet, if_held, selections_reply, unless_marginal, name_reply, has_slot, slot_reply, naming_reply, decision_reply, on_contest, decide_reply, reply_with_room, reply_of}
+use Rattle.vx_center.specs.Replies.{event_limit, on_sheet, if_held, selections_reply, unless_marginal, name_reply, has_slot, slot_reply, naming_reply, decision_reply, on_contest, reply_of}
 use Rattle.vx_center.specs.Sheets.{Added, same_key, added_by, added_from, sheets_in, sheet_in, marks_on}
 use Rattle.vx_center.specs.Waiting.{exports_by}
 use Rattle.vx_report_read.proofs.Each.{each-at, each-test, each-weaker, each-append, each-map, each-flat_map, fold-keeps}
@@ -173,7 +170,8 @@ decisions-are : (election : Election) (number : ℕ) (contest : Contest) (decide
     → AreTaken election decided → AllByRecursion (IsDecisionOf contest) (decisions_on number decided)
 decisions-are election number contest decided there taken =
     each-flat_map (IsDecisionOf contest) (of_contest number) decided
-    (each-weaker (λ (one : Decided). IsTaken election one.contest one.decision) (λ (one : Decided). AllByRecursion (IsDecisionOf contest) (of_contest number one)) decided
+    (each-weaker (λ (one : Decided). IsTaken election one.contest one.decision)
+    (λ (one : Decided). AllByRecursion (IsDecisionOf contest) (of_contest number one)) decided
     (λ one is. by one is (one.contest == number) refl) taken)
   where
     by : (one : Decided) → IsTaken election one.contest one.decision → (b : Bool) → (one.contest == number) ≡ b
@@ -189,20 +187,24 @@ IsRulingOf contest (Some decision) = IsDecisionOf contest decision
 ruling-is : (contest : Contest) (decisions : List Decision) → AllByRecursion (IsDecisionOf contest) decisions → IsRulingOf contest (ruling_of decisions)
 ruling-is contest decisions are = fold-keeps (IsRulingOf contest) (IsDecisionOf contest) ruling_after decisions None step tt are
   where
-    step : (before : Option Decision) (decision : Decision) → IsRulingOf contest before → IsDecisionOf contest decision → IsRulingOf contest (ruling_after before decision)
+    step : (before : Option Decision) (decision : Decision) → IsRulingOf contest before → IsDecisionOf contest decision
+        → IsRulingOf contest (ruling_after before decision)
     step before (Selections options) was is = is
     step before RuledOvervote was is = tt
     step before AcceptRead was is = tt
     step before (NameWriteIn slot name) was is = was
 
-slot-named : (contest : Contest) (slot : ℕ) (decisions : List Decision) → AllByRecursion (IsDecisionOf contest) decisions → IsSlotOf contest (name_of slot decisions)
+slot-named : (contest : Contest) (slot : ℕ) (decisions : List Decision) → AllByRecursion (IsDecisionOf contest) decisions
+    → IsSlotOf contest (name_of slot decisions)
 slot-named contest slot decisions are = fold-keeps (IsSlotOf contest) (IsDecisionOf contest) (name_after slot) decisions None step tt are
   where
-    if-that : (b : Bool) (before : Option WriteInName) (name : WriteInName) → IsSlotOf contest before → IsNameIn contest name → IsSlotOf contest (cond b (Some name) before)
+    if-that : (b : Bool) (before : Option WriteInName) (name : WriteInName) → IsSlotOf contest before → IsNameIn contest name
+        → IsSlotOf contest (cond b (Some name) before)
     if-that true before name was is = is
     if-that false before name was is = was
 
-    step : (before : Option WriteInName) (decision : Decision) → IsSlotOf contest before → IsDecisionOf contest decision → IsSlotOf contest (name_after slot before decision)
+    step : (before : Option WriteInName) (decision : Decision) → IsSlotOf contest before → IsDecisionOf contest decision
+        → IsSlotOf contest (name_after slot before decision)
     step before (Selections options) was is = was
     step before RuledOvervote was is = was
     step before AcceptRead was is = was
@@ -218,8 +220,10 @@ passing-below : (passes : State → Bool) (number : ℕ) (states : List State) (
 passing-below passes number [] most room = (tt, omega arith)
 passing-below passes number (state ∷ states) most room = by (passes state) (passing-below passes (number + 1) states most (omega (arith, room)))
   where
-    by : (b : Bool) → (AllByRecursion (λ (option : ℕ). option < most) (options_from passes (number + 1) states)) × (length (options_from passes (number + 1) states) ≤ length states)
-        → (AllByRecursion (λ (option : ℕ). option < most) (cond b (number ∷ options_from passes (number + 1) states) (options_from passes (number + 1) states)))
+    by : (b : Bool) → (AllByRecursion (λ (option : ℕ). option < most) (options_from passes (number + 1) states)) ×
+        (length (options_from passes (number + 1) states) ≤ length states)
+        → (AllByRecursion (λ (option : ℕ). option < most)
+        (cond b (number ∷ options_from passes (number + 1) states) (options_from passes (number + 1) states)))
         × (length (cond b (number ∷ options_from passes (number + 1) states) (options_from passes (number + 1) states)) ≤ suc (length states))
     by true rest = ((omega (arith, room), rest.0), omega (arith, rest.1))
     by false rest = (rest.0, omega (arith, rest.1))
@@ -244,7 +248,8 @@ pub record IsFinal (election : Election) (final : Final) : Type 0 where
   pub options : AreOptions contest final.selected
   pub names : AllByRecursion (IsSlotOf contest) final.names
 
-final-is : (election : Election) (marks : ContestMarks) (decided : List Decided) (contest : Contest) → is_read election marks ≡ true → AreTaken election decided
+final-is : (election : Election) (marks : ContestMarks) (decided : List Decided) (contest : Contest) → is_read election marks ≡ true
+    → AreTaken election decided
     → slice_get election.contests marks.contest ≡ Some contest → IsFinal election (final_of contest marks (decisions_on marks.contest decided))
 final-is election marks decided contest read taken there =
     let decisions = decisions_on marks.contest decided in
@@ -253,12 +258,15 @@ final-is election marks decided contest read taken there =
     record {
       contest = contest;
       there = there;
-      options = selected-are contest marks.states (ruling_of decisions) (sym (equal-from_yes (options_of contest) (length marks.states) as_many)) (ruling-is contest decisions are);
+      options = selected-are contest marks.states (ruling_of decisions) (sym (equal-from_yes (options_of contest) (length marks.states) as_many))
+          (ruling-is contest decisions are);
       names = each-map (IsSlotOf contest) (λ slot. name_of slot decisions) (range_with_len 0 (slots_of contest))
-        (each-any (λ (slot : ℕ). IsSlotOf contest (name_of slot decisions)) (range_with_len 0 (slots_of contest)) (λ slot. slot-named contest slot decisions are));
+          (each-any (λ (slot : ℕ). IsSlotOf contest (name_of slot decisions)) (range_with_len 0 (slots_of contest))
+          (λ slot. slot-named contest slot decisions are));
     }
 
-finals-are : (election : Election) (sheet : SheetMarks) (decided : List Decided) → list_all (is_read election) sheet.contests ≡ true → AreTaken election decided
+finals-are : (election : Election) (sheet : SheetMarks) (decided : List Decided) → list_all (is_read election) sheet.contests ≡ true
+    → AreTaken election decided
     → AllByRecursion (IsFinal election) (finals_by election sheet decided)
 finals-are election sheet decided read taken =
     each-flat_map (IsFinal election) (final_if_exported election (is_blank_sheet sheet) decided) sheet.contests
@@ -279,9 +287,11 @@ finals-are election sheet decided read taken =
 abbrev pub IsAdded : Election → Added → Type 0
 IsAdded election added = (is_key added.key ≡ true) × (is_sheet election added.sheet ≡ true)
 
-added-are : (election : Election) (place : ℕ) (events : List Event) → AllByRecursion (Fits election) events → AllByRecursion (IsAdded election) (added_from place events)
+added-are : (election : Election) (place : ℕ) (events : List Event) → AllByRecursion (Fits election) events
+    → AllByRecursion (IsAdded election) (added_from place events)
 added-are election place [] fit = tt
-added-are election place (event ∷ events) fit = each-append (IsAdded election) (added_by place event) (added_from (place + 1) events) (by event fit.0) (added-are election (place + 1) events fit.1)
+added-are election place (event ∷ events) fit = each-append (IsAdded election) (added_by place event) (added_from (place + 1) events) (by event fit.0)
+    (added-are election (place + 1) events fit.1)
   where
     by : (event : Event) → Fits election event → AllByRecursion (IsAdded election) (added_by place event)
     by (Add key sheet) fits = ((and-left (is_key key) (is_sheet election sheet) fits, and-right (is_key key) (is_sheet election sheet) fits), tt)

@@ -1,5 +1,5 @@
 -- What the members of a report's objects are read as.
-use Rattle.std.proofs.Common.{◌≡◌, ℕ, suc, ◌<◌, ◌≤◌, Bool, true, false, cond, List, [], ◌∷◌, ◌++◌, length, map, refl, sym, ap, ◌∙◌, arith, append_assoc, append-nil}
+use Rattle.std.proofs.Common.{◌≡◌, ℕ, ◌≤◌, Bool, true, false, cond, List, [], ◌∷◌, ◌++◌, length, map, refl, sym, ap, ◌∙◌, arith, append_assoc, append-nil}
 use Rattle.std.specs.Prelude.{Option, Some, None, Result, Ok, Err, ok_or, is_some, nat_le}
 use Rattle.serde_json.specs.Data.{Data, object, Members}
 use Rattle.serde_json.specs.Find.{get_member}
@@ -8,7 +8,6 @@ use Rattle.vx_base.specs.Results.{◌>>=◌}
 use Rattle.vx_base.proofs.Lists.{map-push}
 use Rattle.vx_base.proofs.Booleans.{and-both}
 use Rattle.vx_base.proofs.Numbers.{at_most-yes}
-use Rattle.vx_json.specs.declared.fault.JsonFault.{JsonFault}
 use Rattle.vx_json.specs.declared.fault.JsonFault.TheVariants as json
 use Rattle.vx_json.specs.Paths.{member_path}
 use Rattle.vx_json.specs.Reading.{need_in, elements, is_within}
@@ -55,7 +54,8 @@ new-reference-is t path ids places k is found new =
 need-is : (ms : Members) (path name : List ℕ) (d : Data) → get_member name ms ≡ Some d → of_json (need_in (object ms) path name) ≡ Ok d
 need-is ms path name d there = ap (λ (o : Option Data). of_json (ok_or o (json.Missing (member_path path name)))) there
 
-pub id-member : (ms : Members) (path name : List ℕ) (ids : List (List ℕ)) (t : List ℕ) → get_member name ms ≡ Some (text t) → is_id t ≡ true → place_in t ids ≡ None
+pub id-member : (ms : Members) (path name : List ℕ) (ids : List (List ℕ)) (t : List ℕ) → get_member name ms ≡ Some (text t) → is_id t ≡ true
+    → place_in t ids ≡ None
     → id_member (object ms) path name ids ≡ Ok t
 unfolding id_member
 id-member ms path name ids t there is none =
@@ -65,16 +65,19 @@ pub reference-member : (ms : Members) (path name : List ℕ) (ids : List (List �
     → place_in t ids ≡ Some k → reference_member (object ms) path name ids ≡ Ok k
 unfolding reference_member
 reference-member ms path name ids t k there is found =
-    bind-ok (of_json (need_in (object ms) path name)) _ (text t) (Ok k) (need-is ms path name (text t) there) (reference-is t (member_path path name) ids k is found)
+    bind-ok (of_json (need_in (object ms) path name)) _ (text t) (Ok k) (need-is ms path name (text t) there)
+    (reference-is t (member_path path name) ids k is found)
 
-pub new-reference-member : (ms : Members) (path name : List ℕ) (ids : List (List ℕ)) (places : List ℕ) (t : List ℕ) (k : ℕ) → get_member name ms ≡ Some (text t)
+pub new-reference-member : (ms : Members) (path name : List ℕ) (ids : List (List ℕ)) (places : List ℕ) (t : List ℕ) (k : ℕ)
+    → get_member name ms ≡ Some (text t)
     → is_id t ≡ true → place_in t ids ≡ Some k → is_among k places ≡ false → new_reference_member (object ms) path name ids places ≡ Ok k
 unfolding new_reference_member
 new-reference-member ms path name ids places t k there is found new =
     bind-ok (of_json (need_in (object ms) path name)) _ (text t) (Ok k) (need-is ms path name (text t) there)
     (new-reference-is t (member_path path name) ids places k is found new)
 
-pub votes-member : (ms : Members) (path name : List ℕ) (n : ℕ) → get_member name ms ≡ Some (whole n) → n ≤ vote_limit → votes_member (object ms) path name ≡ Ok n
+pub votes-member : (ms : Members) (path name : List ℕ) (n : ℕ) → get_member name ms ≡ Some (whole n) → n ≤ vote_limit
+    → votes_member (object ms) path name ≡ Ok n
 unfolding votes_member
 votes-member ms path name n there few =
     bind-ok (of_json (need_in (object ms) path name)) _ (whole n) (Ok n) (need-is ms path name (whole n) there)
@@ -103,13 +106,14 @@ first-member ms path name d there =
 
 -- elements in order, where each is read behind those before it
 module _ {A X : Type 0} (take_next : List A → Data → Result A ReportFault) (make : X → Data) (give : X → A) where
-  walk-from : (front xs : List X) → ((before : List X) (x : X) (back : List X) → front ++ xs ≡ before ++ x ∷ back → take_next (map give before) (make x) ≡ Ok (give x))
+  walk-from : (front xs : List X)
+      → ((before : List X) (x : X) (back : List X) → front ++ xs ≡ before ++ x ∷ back → take_next (map give before) (make x) ≡ Ok (give x))
       → each_of take_next (map give front) (map make xs) ≡ Ok (map give (front ++ xs))
   walk-from front [] one = ap (λ (ys : List X). Ok (map give ys)) (sym (append-nil front))
   walk-from front (x ∷ xs) one =
       let moved : (front ++ x ∷ []) ++ xs ≡ front ++ x ∷ xs = append_assoc front (x ∷ []) xs in
       let step : with_next take_next (map give front) (make x) ≡ Ok (map give (front ++ x ∷ [])) =
-        bind-ok (take_next (map give front) (make x)) _ (give x) (Ok (map give (front ++ x ∷ []))) (one front x xs refl) (ap Ok (sym (map-push give front x))) in
+      bind-ok (take_next (map give front) (make x)) _ (give x) (Ok (map give (front ++ x ∷ []))) (one front x xs refl) (ap Ok (sym (map-push give front x))) in
       bind-ok (with_next take_next (map give front) (make x)) _ (map give (front ++ x ∷ [])) (Ok (map give (front ++ x ∷ xs))) step
       (walk-from (front ++ x ∷ []) xs (λ before y back e. one before y back (sym moved ∙ e)) ∙ ap (λ (ys : List X). Ok (map give ys)) moved)
 

@@ -1,6 +1,6 @@
 -- What holds of each two elements of a list, and that the sheets of a history have names of their own.
-use Rattle.std.proofs.Common.{◌≡◌, ℕ, zero, suc, ◌+◌, ◌<◌, ◌≤◌, Bool, true, false, cond, List, [], ◌∷◌, ◌++◌, length, map, take, get_or, refl, sym, ap, subst, ◌∙◌, arith, length-take, length-append}
-use Rattle.std.specs.Prelude.{⊤, Some, slice_get, bytes_eq, nat_lt, nat_le}
+use Rattle.std.proofs.Common.{◌≡◌, ℕ, zero, suc, ◌+◌, ◌<◌, ◌≤◌, Bool, true, false, cond, List, [], ◌∷◌, length, map, take, get_or, refl, sym, ap, subst, ◌∙◌, arith, length-take, length-append}
+use Rattle.std.specs.Prelude.{⊤, Some, slice_get, bytes_eq, nat_le}
 use Rattle.std.specs.List.{AllByRecursion, IsDistinct}
 use Rattle.std.specs.Ordering.{match_ordering}
 use Rattle.std.specs.declared.cmp.Ordering.{Ordering}
@@ -8,16 +8,14 @@ use Rattle.std.specs.declared.cmp.Ordering.TheVariants.{Less, Equal, Greater}
 use Rattle.std.proofs.lemmas.Option.{same_Some, slice_get-get_or}
 use Rattle.vx_base.proofs.Numbers.{below-no, at_most-from_yes}
 use Rattle.vx_election_model.specs.declared.election.Election.{Election}
-use Rattle.vx_refusals.specs.declared.reply.Reply.{Reply}
 use Rattle.vx_refusals.specs.declared.reply.Reply.TheVariants.{Done, Full}
 use Rattle.vx_events.specs.declared.event.Event.{Event}
 use Rattle.vx_events.specs.declared.event.Event.TheVariants.{Add, Claim, Release, Decide}
-use Rattle.vx_events.specs.declared.key.Key.{Key}
 use Rattle.vx_center.specs.declared.rows.ExportSheet.{ExportSheet}
 use Rattle.vx_center.specs.Exports.{key_order, row_of}
 use Rattle.vx_center.specs.Histories.{IsHistory}
 use Rattle.vx_center.specs.Laws.{SheetsHaveOwnKeys}
-use Rattle.vx_center.specs.Replies.{event_limit, reply_with_room, reply_of}
+use Rattle.vx_center.specs.Replies.{event_limit, reply_with_room}
 use Rattle.vx_center.specs.Sheets.{Added, added_by, added_from, sheets_in}
 use Rattle.vx_cvr.specs.Names.{sheet_name}
 use Rattle.vx_cvr.specs.Rows.{placed, in_order, rows_of}
@@ -50,9 +48,10 @@ module _ {X : Type 0} where
 
   pairs-at : (R : X → X → Type 0) (xs : List X) → ((i j : ℕ) (x y : X) → i < j → slice_get xs i ≡ Some x → slice_get xs j ≡ Some y → R x y) → Pairs R xs
   pairs-at R [] at = tt
-  pairs-at R (x ∷ xs) at =
-      (all-at (R x) xs (λ j y there. at 0 (suc j) x y (omega arith) refl there),
-      pairs-at R xs (λ i j y z below first second. at (suc i) (suc j) y z (omega (arith, below)) first second))
+  pairs-at R (x ∷ xs) at = (
+    all-at (R x) xs (λ j y there. at 0 (suc j) x y (omega arith) refl there),
+    pairs-at R xs (λ i j y z below first second. at (suc i) (suc j) y z (omega (arith, below)) first second),
+  )
 
 module _ {X Y : Type 0} (R : Y → Y → Type 0) (f : X → Y) where
   each-mapped : (x : X) (xs : List X) → AllByRecursion (λ (y : X). R (f x) (f y)) xs → AllByRecursion (R (f x)) (map f xs)
@@ -67,14 +66,17 @@ module _ {X Y : Type 0} (R : Y → Y → Type 0) (f : X → Y) where
 abbrev AreOthers : ExportSheet → ExportSheet → Type 0
 AreOthers one other = bytes_eq (sheet_name one.key) (sheet_name other.key) ≡ false
 
-all-turned : (row : ExportSheet) (rows : List ExportSheet) → AllByRecursion (AreOthers row) rows → AllByRecursion (λ (other : ExportSheet). AreOthers other row) rows
-all-turned row rows all = each-weaker (AreOthers row) (λ (other : ExportSheet). AreOthers other row) rows (λ other is. turned (sheet_name row.key) (sheet_name other.key) is) all
+all-turned : (row : ExportSheet) (rows : List ExportSheet) → AllByRecursion (AreOthers row) rows
+    → AllByRecursion (λ (other : ExportSheet). AreOthers other row) rows
+all-turned row rows all = each-weaker (AreOthers row) (λ (other : ExportSheet). AreOthers other row) rows
+    (λ other is. turned (sheet_name row.key) (sheet_name other.key) is) all
 
 pairs-placed : (row : ExportSheet) (rows : List ExportSheet) → AllByRecursion (AreOthers row) rows → Pairs AreOthers rows → Pairs AreOthers (placed row rows)
 pairs-placed row [] all pairs = (tt, tt)
 pairs-placed row (other ∷ others) all pairs = by (key_order other.key row.key) (pairs-placed row others all.1 pairs.1)
   where
-    by : (o : Ordering) → Pairs AreOthers (placed row others) → Pairs AreOthers (match_ordering o (other ∷ placed row others) (row ∷ other ∷ others) (row ∷ other ∷ others))
+    by : (o : Ordering) → Pairs AreOthers (placed row others)
+        → Pairs AreOthers (match_ordering o (other ∷ placed row others) (row ∷ other ∷ others) (row ∷ other ∷ others))
     by Less rest = (each-placed (AreOthers other) row others (turned (sheet_name row.key) (sheet_name other.key) all.0) pairs.0, rest)
     by Equal rest = (all, pairs)
     by Greater rest = (all, pairs)
@@ -88,7 +90,8 @@ ats-from : (place : ℕ) (events : List Event) → AllByRecursion (λ (one : Add
 ats-from place [] = tt
 ats-from place (event ∷ events) =
     each-append (λ (one : Added). place ≤ one.at) (added_by place event) (added_from (place + 1) events) (by event)
-    (each-weaker (λ (one : Added). place + 1 ≤ one.at) (λ (one : Added). place ≤ one.at) (added_from (place + 1) events) (λ one is. omega (arith, is)) (ats-from (place + 1) events))
+    (each-weaker (λ (one : Added). place + 1 ≤ one.at) (λ (one : Added). place ≤ one.at) (added_from (place + 1) events) (λ one is. omega (arith, is))
+    (ats-from (place + 1) events))
   where
     by : (event : Event) → AllByRecursion (λ (one : Added). place ≤ one.at) (added_by place event)
     by (Add key sheet) = (omega arith, tt)
@@ -98,9 +101,11 @@ ats-from place (event ∷ events) =
 
 ats-ascend : (place : ℕ) (events : List Event) → Pairs (λ (one other : Added). one.at < other.at) (added_from place events)
 ats-ascend place [] = tt
-ats-ascend place (Add key sheet ∷ events) =
-    (each-weaker (λ (other : Added). place + 1 ≤ other.at) (λ (other : Added). place < other.at) (added_from (place + 1) events) (λ one is. omega (arith, is)) (ats-from (place + 1) events),
-    ats-ascend (place + 1) events)
+ats-ascend place (Add key sheet ∷ events) = (
+  each-weaker (λ (other : Added). place + 1 ≤ other.at) (λ (other : Added). place < other.at) (added_from (place + 1) events) (λ one is. omega (arith, is))
+      (ats-from (place + 1) events),
+  ats-ascend (place + 1) events,
+)
 ats-ascend place (Claim station key ∷ events) = ats-ascend (place + 1) events
 ats-ascend place (Release station key ∷ events) = ats-ascend (place + 1) events
 ats-ascend place (Decide station key contest decision ∷ events) = ats-ascend (place + 1) events
@@ -119,7 +124,8 @@ sheets-others election kept law history =
         let parts = sheet-same one.key other.key is.0 fits.0 same in
         let keys : one.key ≡ other.key = (λ k. record { batch = parts.0 k; number = parts.1 k }) in
         let ats : one.at ≡ other.at = ap (λ (added : Added). added.at) (law election kept i j one other history first second keys) in
-        let lower : one.at < other.at = pairs-got (λ (one other : Added). one.at < other.at) (sheets_in kept) i j one other (ats-ascend 0 kept) below first second in
+        let lower : one.at < other.at = pairs-got (λ (one other : Added). one.at < other.at) (sheets_in kept) i j one other
+        (ats-ascend 0 kept) below first second in
         omega (arith, ats, lower)
 
 distinct-from : (rows : List ExportSheet) → Pairs AreOthers rows → IsDistinct bytes_eq (map (λ (row : ExportSheet). sheet_name row.key) rows)
@@ -137,14 +143,16 @@ pub rows-distinct : (election : Election) (kept : List Event) → SheetsHaveOwnK
     → IsDistinct bytes_eq (map (λ (row : ExportSheet). sheet_name row.key) (rows_of election kept))
 rows-distinct election kept law history =
     distinct-from (rows_of election kept)
-    (pairs-in_order (map (row_of election kept) (sheets_in kept)) (pairs-map AreOthers (row_of election kept) (sheets_in kept) (sheets-others election kept law history)))
+    (pairs-in_order (map (row_of election kept) (sheets_in kept))
+    (pairs-map AreOthers (row_of election kept) (sheets_in kept) (sheets-others election kept law history)))
 
 -- how many there are
 length-placed : (row : ExportSheet) (rows : List ExportSheet) → length (placed row rows) ≡ suc (length rows)
 length-placed row [] = refl
 length-placed row (other ∷ others) = by (key_order other.key row.key) (length-placed row others)
   where
-    by : (o : Ordering) → length (placed row others) ≡ suc (length others) → length (match_ordering o (other ∷ placed row others) (row ∷ other ∷ others) (row ∷ other ∷ others)) ≡ suc (suc (length others))
+    by : (o : Ordering) → length (placed row others) ≡ suc (length others)
+        → length (match_ordering o (other ∷ placed row others) (row ∷ other ∷ others) (row ∷ other ∷ others)) ≡ suc (suc (length others))
     by Less rest = ap (λ (n : ℕ). suc n) rest
     by Equal rest = refl
     by Greater rest = refl
@@ -181,7 +189,8 @@ events-few election kept history = by (nat_le (length kept) 1000000) refl
         let size : length (take 1000000 kept) ≡ 1000000 = omega (arith, length-take 1000000 kept, more) in
         let done = history.done 1000000 event there in
         let full : Full 1000000 ≡ Done =
-          sym (ap (λ (b : Bool). cond b (reply_with_room election (take 1000000 kept) event) (Full 1000000)) (below-no (length (take 1000000 kept)) 1000000 (omega (arith, size)))) ∙ done in
+        sym (ap (λ (b : Bool). cond b (reply_with_room election (take 1000000 kept) event) (Full 1000000))
+        (below-no (length (take 1000000 kept)) 1000000 (omega (arith, size)))) ∙ done in
         absurd cc
 
     at-least : (n : ℕ) → nat_le n 1000000 ≡ false → 1000000 < n
@@ -195,4 +204,11 @@ events-few election kept history = by (nat_le (length kept) 1000000) refl
 
 pub rows-few : (election : Election) (kept : List Event) → IsHistory election kept → length (rows_of election kept) ≤ 1000000
 rows-few election kept history =
-    omega (arith, length-in_order (map (row_of election kept) (sheets_in kept)), length-mapped (row_of election kept) (sheets_in kept), added-few 0 kept, events-few election kept history)
+    omega (
+      arith,
+      length-in_order (map (row_of election kept) (sheets_in kept)),
+      length-mapped (row_of election kept)
+          (sheets_in kept),
+      added-few 0 kept,
+      events-few election kept history,
+    )

@@ -1,21 +1,20 @@
 -- Each part of a report is sound.
-use Rattle.std.proofs.Common.{◌≡◌, ℕ, zero, suc, ◌+◌, ◌-◌, ◌<◌, ◌≤◌, ◌^◌, Bool, true, false, cond, List, [], ◌∷◌, ◌++◌, length, map, refl, subst, arith}
-use Rattle.std.specs.Prelude.{Option, None, Some, if◌then◌else◌, codes, slice_index_or, nat_lt, slice_get}
-use Rattle.std.specs.List.{AllByRecursion, flat_map, range_with_len, filter}
+use Rattle.std.proofs.Common.{ℕ, zero, suc, ◌-◌, ◌<◌, ◌≤◌, ◌^◌, Bool, true, false, List, [], ◌∷◌, ◌++◌, length, map, refl, arith}
+use Rattle.std.specs.Prelude.{Option, None, Some, if◌then◌else◌, codes, slice_index_or}
+use Rattle.std.specs.List.{AllByRecursion, range_with_len}
 use Rattle.vx_report_read.proofs.Each.{length-filter_most}
-use Rattle.serde_json.specs.Data.{Data, boolean}
+use Rattle.serde_json.specs.Data.{boolean}
 use Rattle.serde_json.specs.View.{items_of}
 use Rattle.vx_election_model.specs.declared.contest.Contest.{Contest}
 use Rattle.vx_election_model.specs.declared.election.Election.{Election}
 use Rattle.vx_election_model.specs.Options.{options_of}
-use Rattle.vx_election_model.specs.Valid.{IsValid, IsContest}
 use Rattle.vx_events.specs.declared.decision.WriteInName.{WriteInName}
 use Rattle.vx_events.specs.declared.decision.WriteInName.TheVariants.{Words, Candidate}
 use Rattle.vx_center.specs.declared.rows.ExportSheet.{ExportSheet}
 use Rattle.vx_center.specs.declared.rows.Final.{Final}
 use Rattle.vx_cvr.specs.Json.{text, whole, list, described}
 use Rattle.vx_cvr.specs.Names.{candidate_name, selection_name}
-use Rattle.vx_cvr.specs.Votes.{is_overvoted, overvotes, undervotes, write_ins, is_repeated, candidate_of, is_slot, name_of, status_words, indication_of, allocable, votes_of}
+use Rattle.vx_cvr.specs.Votes.{is_overvoted, write_ins, is_repeated, candidate_of, is_slot, name_of, status_words, indication_of, allocable, votes_of}
 use Rattle.vx_cvr.specs.Report as spec
 use Rattle.vx_report_read.proofs.Sound.{IsSound, AreSound, AreSound-map, AreSound-map_all, AreSound-flat_map}
 
@@ -47,16 +46,32 @@ contest-sound given few = by given.is_yes_no
   where
     by : (b : Bool) → IsSound (if b then spec.measure given else spec.candidate_contest given) 8
     by true = (refl, (tt, (tt, (AreSound-map (spec.answer given) 6 (range_with_len 0 (options_of given)) (λ option. (refl, (tt, (tt, (tt, tt))))), (tt, tt)))))
-    by false = (refl, (tt, (tt, (AreSound-map (spec.candidate_selection given) 6 (range_with_len 0 (options_of given)) (selection-sound given), (tt, (omega arith, tt))))))
+    by false = (
+      refl,
+      (
+        tt,
+        (tt, (AreSound-map (spec.candidate_selection given) 6 (range_with_len 0 (options_of given)) (selection-sound given), (tt, (omega arith, tt)))),
+      ),
+    )
 
 -- a contest with few seats
 abbrev pub HasFewSeats : Contest → Type 0
 HasFewSeats contest = contest.seats ≤ 50
 
 election-sound : (given : Election) → AllByRecursion HasFewSeats given.contests → IsSound (spec.election_object given) 10
-election-sound given few =
-    (refl, (tt, (tt, (AreSound-flat_map spec.candidates_of 8 given.contests candidates-sound,
-    (AreSound-map_all HasFewSeats spec.contest 8 given.contests few contest-sound, (tt, (tt, tt)))))))
+election-sound given few = (
+  refl,
+  (
+    tt,
+    (
+      tt,
+      (
+        AreSound-flat_map spec.candidates_of 8 given.contests candidates-sound,
+        (AreSound-map_all HasFewSeats spec.contest 8 given.contests few contest-sound, (tt, (tt, tt))),
+      ),
+    ),
+  ),
+)
 
 votes-small : (contest : Contest) (final : Final) (option : ℕ) → votes_of contest final option < 2 ^ 64
 votes-small contest final option = by (is_overvoted contest final) (is_repeated contest final option (candidate_of contest final option))
@@ -89,12 +104,28 @@ chosen-small true m n few many = omega (arith, few)
 chosen-small false m n few many = omega (arith, many)
 
 counted-sound : (contest : Contest) (final : Final) → contest.seats ≤ 50 → IsShort final → IsSound (spec.counted contest final) 6
-counted-sound contest final few short =
-    (refl, (tt, (AreSound-map (spec.selected contest final) 4 final.selected (selected-sound contest final),
-    (tt, (chosen-small (is_overvoted contest final) contest.seats 0 (omega (arith, few)) (omega arith),
-    (AreSound-map text 4 (status_words contest final) (λ word. tt),
-    (chosen-small (is_overvoted contest final) 0 (contest.seats - length final.selected) (omega arith) (omega (arith, few)),
-    (small, tt))))))))
+counted-sound contest final few short = (
+  refl,
+  (
+    tt,
+    (
+      AreSound-map (spec.selected contest final) 4 final.selected (selected-sound contest final),
+      (
+        tt,
+        (
+          chosen-small (is_overvoted contest final) contest.seats 0 (omega (arith, few)) (omega arith),
+          (
+            AreSound-map text 4 (status_words contest final) (λ word. tt),
+            (
+              chosen-small (is_overvoted contest final) 0 (contest.seats - length final.selected) (omega arith) (omega (arith, few)),
+              (small, tt),
+            ),
+          ),
+        ),
+      ),
+    ),
+  ),
+)
   where
     small : write_ins contest final < 2 ^ 64
     small = omega (arith, short, length-filter_most (is_slot contest) final.selected)
@@ -105,18 +136,47 @@ seats-few [] place all = omega arith
 seats-few (contest ∷ contests) zero all = all.0
 seats-few (contest ∷ contests) (suc place) all = seats-few contests place all.1
 
-snapshot-sound : (election : Election) (row : ExportSheet) → AllByRecursion HasFewSeats election.contests → HasShort row → IsSound (spec.snapshot election row) 8
-snapshot-sound election row few short =
-    (refl, (tt, (tt, (AreSound-map_all IsShort (spec.counted_in election) 6 row.finals short
-    (λ final is. counted-sound (slice_index_or election.contests final.contest spec.no_contest) final (seats-few election.contests final.contest few) is), (tt, tt)))))
+snapshot-sound : (election : Election) (row : ExportSheet) → AllByRecursion HasFewSeats election.contests → HasShort row
+    → IsSound (spec.snapshot election row) 8
+snapshot-sound election row few short = (
+  refl,
+  (
+    tt,
+    (
+      tt,
+      (
+        AreSound-map_all IsShort (spec.counted_in election) 6 row.finals short
+            (λ final is. counted-sound (slice_index_or election.contests final.contest spec.no_contest) final
+            (seats-few election.contests final.contest few) is),
+        (tt, tt),
+      ),
+    ),
+  ),
+)
 
 sheet-sound : (election : Election) (row : ExportSheet) → AllByRecursion HasFewSeats election.contests → HasShort row → IsSound (spec.sheet election row) 10
 sheet-sound election row few short =
     (refl, (tt, (tt, (tt, (tt, (tt, ((snapshot-sound election row few short, tt), (tt, (tt, (tt, tt))))))))))
 
-pub report-sound : (election : Election) (rows : List ExportSheet) (moment id : List ℕ) → AllByRecursion HasFewSeats election.contests → AllByRecursion HasShort rows
+pub report-sound : (election : Election) (rows : List ExportSheet) (moment id : List ℕ) → AllByRecursion HasFewSeats election.contests
+    → AllByRecursion HasShort rows
     → IsSound (spec.report_over election rows moment id) 12
-report-sound election rows moment id few short =
-    (refl, (tt, (AreSound-map_all HasShort (spec.sheet election) 10 rows short (λ row. sheet-sound election row few),
-    ((election-sound election few, tt), (tt, (((refl, (tt, (tt, (tt, (tt, tt))))), AreSound-map spec.precinct 10 election.precincts (λ named. (refl, (tt, (tt, (tt, (tt, tt))))))),
-    ((tt, tt), (((refl, (tt, (tt, tt))), tt), (tt, tt)))))))))
+report-sound election rows moment id few short = (
+  refl,
+  (
+    tt,
+    (
+      AreSound-map_all HasShort (spec.sheet election) 10 rows short (λ row. sheet-sound election row few),
+      (
+        (election-sound election few, tt),
+        (
+          tt,
+          (
+            ((refl, (tt, (tt, (tt, (tt, tt))))), AreSound-map spec.precinct 10 election.precincts (λ named. (refl, (tt, (tt, (tt, (tt, tt))))))),
+            ((tt, tt), (((refl, (tt, (tt, tt))), tt), (tt, tt))),
+          ),
+        ),
+      ),
+    ),
+  ),
+)

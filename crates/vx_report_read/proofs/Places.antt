@@ -1,7 +1,7 @@
 -- Places of ids in lists of ids that are all different.
-use Rattle.std.proofs.Common.{◌≡◌, ℕ, zero, suc, ◌+◌, ◌<◌, ◌≤◌, Bool, true, false, cond, not, List, [], ◌∷◌, ◌++◌, length, map, refl, sym, ap, subst, ◌∙◌, arith}
-use Rattle.std.specs.Prelude.{Option, Some, None, slice_get, nat_lt, bytes_eq, position}
-use Rattle.std.specs.List.{AllByRecursion, IsDistinct, position_or_len, list_any, prefix_len}
+use Rattle.std.proofs.Common.{◌≡◌, ℕ, zero, suc, ◌+◌, Bool, false, cond, not, List, [], ◌∷◌, ◌++◌, length, map, refl, sym, ap, subst, ◌∙◌, arith}
+use Rattle.std.specs.Prelude.{Some, None, slice_get, nat_lt, bytes_eq}
+use Rattle.std.specs.List.{AllByRecursion, IsDistinct, position_or_len}
 use Rattle.std.proofs.lemmas.Option.{same_Some, slice_get_within}
 use Rattle.std.proofs.lemmas.Slice.Eq.{bytes_eq-Decides}
 use Rattle.vx_base.proofs.Booleans.{is-false, not-both}
@@ -25,7 +25,8 @@ turned xs ys unlike = bytes-other ys xs (λ e. other-bytes xs ys unlike (sym e))
 new-length : (id : List ℕ) (ids : List (List ℕ)) → IsNew id ids → position_or_len (bytes_eq id) ids ≡ length ids
 new-length id [] new = refl
 new-length id (other ∷ ids) new =
-    ap (λ (b : Bool). cond (not b) (1 + position_or_len (bytes_eq id) ids) 0) new.0 ∙ step (position_or_len (bytes_eq id) ids) (length ids) (new-length id ids new.1)
+    ap (λ (b : Bool). cond (not b) (1 + position_or_len (bytes_eq id) ids) 0) new.0
+    ∙ step (position_or_len (bytes_eq id) ids) (length ids) (new-length id ids new.1)
   where
     step : (m n : ℕ) → m ≡ n → 1 + m ≡ suc n
     step m n e = omega (arith, e)
@@ -47,7 +48,8 @@ got-length (other ∷ ids) zero id distinct there =
     ap (λ (b : Bool). cond (not b) (1 + position_or_len (bytes_eq id) ids) 0) ((bytes_eq-Decides id other).1 (sym (same_Some other id there)))
 got-length (other ∷ ids) (suc k) id distinct there =
     let unlike : bytes_eq id other ≡ false = turned other id (each-got (λ (one : List ℕ). bytes_eq other one ≡ false) ids k id distinct.0 there) in
-    ap (λ (b : Bool). cond (not b) (1 + position_or_len (bytes_eq id) ids) 0) unlike ∙ step (position_or_len (bytes_eq id) ids) k (got-length ids k id distinct.1 there)
+    ap (λ (b : Bool). cond (not b) (1 + position_or_len (bytes_eq id) ids) 0) unlike
+    ∙ step (position_or_len (bytes_eq id) ids) k (got-length ids k id distinct.1 there)
   where
     step : (m n : ℕ) → m ≡ n → 1 + m ≡ suc n
     step m n e = omega (arith, e)
@@ -67,20 +69,26 @@ module _ {X : Type 0} where
   each-front P [] back all = tt
   each-front P (y ∷ before) back all = (all.0, each-front P before back all.1)
 
-  named-seam : (P : List ℕ → Type 0) (name : X → List ℕ) (before : List X) (x : X) (back : List X) → AllByRecursion P (map name (before ++ x ∷ back)) → P (name x)
+  named-seam : (P : List ℕ → Type 0) (name : X → List ℕ) (before : List X) (x : X) (back : List X) → AllByRecursion P (map name (before ++ x ∷ back))
+      → P (name x)
   named-seam P name [] x back all = all.0
   named-seam P name (y ∷ before) x back all = named-seam P name before x back all.1
 
   -- the name of an element is none of those before it
-  pub new-name : (name : X → List ℕ) (before : List X) (x : X) (back : List X) → IsDistinct bytes_eq (map name (before ++ x ∷ back)) → IsNew (name x) (map name before)
+  pub new-name : (name : X → List ℕ) (before : List X) (x : X) (back : List X) → IsDistinct bytes_eq (map name (before ++ x ∷ back))
+      → IsNew (name x) (map name before)
   unfolding IsDistinct
   new-name name [] x back distinct = tt
-  new-name name (y ∷ before) x back distinct =
-      (turned (name y) (name x) (named-seam (λ (one : List ℕ). bytes_eq (name y) one ≡ false) name before x back distinct.0), new-name name before x back distinct.1)
+  new-name name (y ∷ before) x back distinct = (
+    turned (name y) (name x) (named-seam (λ (one : List ℕ). bytes_eq (name y) one ≡ false) name before x back distinct.0),
+    new-name name before x back
+        distinct.1,
+  )
 
   -- names that tell apart what others tell apart
   others-told : (name other : X → List ℕ) → ((x y : X) → other x ≡ other y → name x ≡ name y) → (x : X) (ys : List X)
-      → AllByRecursion (λ (one : List ℕ). bytes_eq (name x) one ≡ false) (map name ys) → AllByRecursion (λ (one : List ℕ). bytes_eq (other x) one ≡ false) (map other ys)
+      → AllByRecursion (λ (one : List ℕ). bytes_eq (name x) one ≡ false) (map name ys)
+      → AllByRecursion (λ (one : List ℕ). bytes_eq (other x) one ≡ false) (map other ys)
   others-told name other tells x [] all = tt
   others-told name other tells x (y ∷ ys) all =
       (bytes-other (other x) (other y) (λ e. other-bytes (name x) (name y) all.0 (tells x y e)), others-told name other tells x ys all.1)

@@ -1,5 +1,5 @@
 -- Values whose lines are read back: their numbers are whole, the names of their objects in order, and they don't nest too deep.
-use Rattle.std.proofs.Common.{◌≡◌, ℕ, zero, suc, ◌≤◌, Bool, true, false, ◌&&◌, List, [], ◌∷◌, ◌++◌, map, refl, max, arith}
+use Rattle.std.proofs.Common.{◌≡◌, ℕ, zero, suc, ◌≤◌, Bool, true, false, ◌&&◌, List, [], ◌∷◌, ◌++◌, map, refl, arith}
 use Rattle.std.specs.Prelude.{⊤}
 use Rattle.std.specs.List.{AllByRecursion, flat_map}
 use Rattle.std.specs.Cmp.Lexicographic.{slice_cmp}
@@ -71,7 +71,8 @@ less-from Less h = refl
 less-from Equal h = absurd cc
 less-from Greater h = absurd cc
 
-before-all : (name : List ℕ) (others : List (List ℕ)) → is_before name others ≡ true → AllByRecursion (λ (other : List ℕ). slice_cmp nat_cmp name other ≡ Less) others
+before-all : (name : List ℕ) (others : List (List ℕ)) → is_before name others ≡ true
+    → AllByRecursion (λ (other : List ℕ). slice_cmp nat_cmp name other ≡ Less) others
 before-all name [] h = tt
 before-all name (other ∷ others) h =
     (less-from (slice_cmp nat_cmp name other) (and-left _ _ h), before-all name others (and-right (is_less (slice_cmp nat_cmp name other)) _ h))

@@ -1,15 +1,9 @@
 -- A report is read back as the value that it was written from.
-use Rattle.std.proofs.Common.{◌≡◌, ℕ, List, arith}
-use Rattle.std.specs.Prelude.{Some}
-use Rattle.serde_json.specs.Read.{read}
-use Rattle.vx_election_model.specs.declared.election.Election.{Election}
-use Rattle.vx_election_model.specs.Valid.{IsValid}
-use Rattle.vx_events.specs.declared.event.Event.{Event}
-use Rattle.vx_center.specs.Histories.{IsHistory}
+use Rattle.std.proofs.Common.{arith}
 use Rattle.vx_cvr.specs.Rows.{rows_of}
 use Rattle.vx_cvr.specs.Report.{report_over, report_of}
 use Rattle.vx_json_trip.specs.Trips.{LinesAreReadBack}
-use Rattle.vx_report_read.proofs.Sound.{IsSound, sound-readable, sound-ordered}
+use Rattle.vx_report_read.proofs.Sound.{sound-readable, sound-ordered}
 use Rattle.vx_report_read.proofs.Parts.{report-sound}
 use Rattle.vx_report_read.proofs.RowsOf.{contests-few, rows-short}
 use Rattle.vx_report_read.specs.Exported.{ReportsAreReadBack}

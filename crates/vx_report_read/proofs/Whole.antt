@@ -9,10 +9,8 @@ use Rattle.vx_base.proofs.Lists.{map-map}
 use Rattle.vx_base.specs.Results.{◌>>=◌}
 use Rattle.vx_election_model.specs.declared.election.Election.{Election}
 use Rattle.vx_election_model.specs.Valid.{IsValid}
-use Rattle.vx_events.specs.declared.event.Event.{Event}
 use Rattle.vx_center.specs.declared.rows.ExportSheet.{ExportSheet}
 use Rattle.vx_center.specs.declared.rows.Final.{Final}
-use Rattle.vx_center.specs.Histories.{IsHistory}
 use Rattle.vx_center.specs.Laws.{SheetsHaveOwnKeys}
 use Rattle.vx_cvr.specs.Names.{sheet_name}
 use Rattle.vx_cvr.specs.Rows as cvr
@@ -20,12 +18,9 @@ use Rattle.vx_cvr.specs.Report.{report_over, report_of}
 use Rattle.vx_tally.specs.declared.fault.ReportFault.{ReportFault}
 use Rattle.vx_tally.specs.declared.fault.ReportFault.TheVariants.{NotJson}
 use Rattle.vx_tally.specs.declared.report.Report.{Report}
-use Rattle.vx_tally.specs.declared.report.CvrRecord.{CvrRecord}
-use Rattle.vx_tally.specs.declared.report.RecordContest.{RecordContest}
-use Rattle.vx_tally.specs.declared.report.VoteRow.{VoteRow}
 use Rattle.vx_tally.specs.Reading.{report_in, value_in, report_in_bytes}
 use Rattle.vx_tally.specs.Totals as totals
-use Rattle.vx_report_read.specs.Exported.{ReportsAreReadBack, units_of, contest_of, vote_of, contest_at, counted_in, unit_of, record_of, report_of_rows, ReportsAreRead, exported_vote, exported_by, exported_rows, RowsAreTheExported}
+use Rattle.vx_report_read.specs.Exported.{ReportsAreReadBack, units_of, contest_of, vote_of, contest_at, counted_in, unit_of, record_of, report_of_rows, ReportsAreRead, exported_vote, exported_by, RowsAreTheExported}
 use Rattle.vx_report_read.proofs.Contests.{units-read, contests-read}
 use Rattle.vx_report_read.proofs.Fitting.{IsRow, rows-are}
 use Rattle.vx_report_read.proofs.Members.{bind-ok}
@@ -53,17 +48,20 @@ report-read back precincts keys election kept moment id valid history utf8 =
     let rows = cvr.rows_of election kept in
     bind-ok _ _ (report_over election rows moment id) _
     (value-read (report_of election kept moment id) (report_over election rows moment id) utf8 (back election kept moment id valid history))
-    (over-read election rows moment id precincts valid (rows-are election kept valid history) (rows-few election kept history) (rows-distinct election kept keys history))
+    (over-read election rows moment id precincts valid (rows-are election kept valid history) (rows-few election kept history)
+    (rows-distinct election kept keys history))
 
 -- ---- rows
 
-flat_map-mapped : {X Y Z : Type 0} (f : Y → List Z) (g : X → Y) (h : X → List Z) (xs : List X) → ((x : X) → f (g x) ≡ h x) → flat_map f (map g xs) ≡ flat_map h xs
+flat_map-mapped : {X Y Z : Type 0} (f : Y → List Z) (g : X → Y) (h : X → List Z) (xs : List X) → ((x : X) → f (g x) ≡ h x)
+    → flat_map f (map g xs) ≡ flat_map h xs
 flat_map-mapped f g h [] same = refl
 flat_map-mapped f g h (x ∷ xs) same = ap₂ (λ ys zs. ys ++ zs) (same x) (flat_map-mapped f g h xs same)
 
 record-rows : (election : Election) (row : ExportSheet) → totals.record_rows (record_of election row) ≡ exported_by election row
 record-rows election row =
-    flat_map-mapped (totals.contest_rows (unit_of election row)) (counted_in election) (λ (final : Final). map (exported_vote election row final) final.selected) row.finals
+    flat_map-mapped (totals.contest_rows (unit_of election row)) (counted_in election)
+    (λ (final : Final). map (exported_vote election row final) final.selected) row.finals
     (λ final. map-map (totals.row_of (unit_of election row) final.contest) (vote_of (contest_at election final) final) final.selected)
 
 pub rows-exported : (election : Election) (rows : List ExportSheet) → totals.rows_of (map (record_of election) rows) ≡ flat_map (exported_by election) rows
@@ -83,10 +81,12 @@ given_or (Ok one) other = one
 given_or (Err fault) other = other
 
 same-ok : (r : Result Report ReportFault) (one other : Report) → r ≡ Ok one → r ≡ Ok other → one ≡ other
-same-ok r one other first second = sym (ap (λ (r : Result Report ReportFault). given_or r one) first) ∙ ap (λ (r : Result Report ReportFault). given_or r one) second
+same-ok r one other first second = sym (ap (λ (r : Result Report ReportFault). given_or r one) first)
+    ∙ ap (λ (r : Result Report ReportFault). given_or r one) second
 
 pub rows-read : ReportsAreRead → RowsAreTheExported
 rows-read law election kept moment id report valid history given =
     let read_as = law election kept moment id valid history (is-utf8 (report_of election kept moment id) report given) in
-    let same : report ≡ report_of_rows election (cvr.rows_of election kept) = same-ok (report_in_bytes (report_of election kept moment id)) report (report_of_rows election (cvr.rows_of election kept)) given read_as in
+    let same : report ≡ report_of_rows election (cvr.rows_of election kept) = same-ok (report_in_bytes (report_of election kept moment id)) report
+    (report_of_rows election (cvr.rows_of election kept)) given read_as in
     ap (λ (one : Report). totals.rows_of one.records) same ∙ rows-exported election (cvr.rows_of election kept)
