@@ -12,3 +12,4 @@ pub mod Fitting
 pub mod Contests
 pub mod Records
 pub mod Whole
+pub mod Sums

@@ -53,7 +53,7 @@ report-read back precincts keys election kept moment id valid history utf8 =
 
 -- ---- rows
 
-flat_map-mapped : {X Y Z : Type 0} (f : Y → List Z) (g : X → Y) (h : X → List Z) (xs : List X) → ((x : X) → f (g x) ≡ h x)
+pub flat_map-mapped : {X Y Z : Type 0} (f : Y → List Z) (g : X → Y) (h : X → List Z) (xs : List X) → ((x : X) → f (g x) ≡ h x)
     → flat_map f (map g xs) ≡ flat_map h xs
 flat_map-mapped f g h [] same = refl
 flat_map-mapped f g h (x ∷ xs) same = ap₂ (λ ys zs. ys ++ zs) (same x) (flat_map-mapped f g h xs same)

@@ -3,8 +3,9 @@ ghost use Rattle.vx_report_read.specs.Exported.{
   ReportsAreReadBack,
   RowsAreTheExported,
 };
+ghost use Rattle.vx_report_read.specs.Totals.{TotalsAreTheExported};
 
-use vx_center::sheets_have_own_keys;
+use vx_center::{exports_show_what_was_kept, sheets_have_own_keys};
 use vx_json_trip::lines_are_read_back;
 use vx_styles::each_card_has_its_precinct;
 
@@ -31,4 +32,13 @@ pub fn rows_are_the_exported()
     ensures { RowsAreTheExported }
 {
     reports_are_read();
+}
+
+/// The totals of what it is read as are the sums over the exported contests of the sheets that were
+/// added, and over no contest that waits.
+pub fn totals_are_the_exported()
+    ensures { TotalsAreTheExported }
+{
+    rows_are_the_exported();
+    exports_show_what_was_kept();
 }

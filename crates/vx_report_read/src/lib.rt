@@ -7,4 +7,6 @@
 
 mod laws;
 
-pub use laws::{reports_are_read, reports_are_read_back, rows_are_the_exported};
+pub use laws::{
+    reports_are_read, reports_are_read_back, rows_are_the_exported, totals_are_the_exported,
+};
