@@ -1,0 +1,15 @@
+pub mod Each
+pub mod Sound
+pub mod Parts
+pub mod Kept
+pub mod RowsOf
+pub mod Trip
+pub mod Members
+pub mod Places
+pub mod Names
+pub mod Pairs
+pub mod Fitting
+pub mod Contests
+pub mod Records
+pub mod Whole
+pub mod Sums

@@ -1,0 +1,92 @@
+-- A report is read.
+use Rattle.std.proofs.Common.{◌≡◌, ◌≤◌, ℕ, Bool, true, false, cond, List, [], ◌∷◌, ◌++◌, length, map, refl, sym, ap, ap₂, ◌∙◌}
+use Rattle.std.specs.Prelude.{Option, Some, Result, Ok, Err, ok_or, bytes_eq}
+use Rattle.std.specs.List.{AllByRecursion, IsDistinct, flat_map}
+use Rattle.std.specs.Str.{is_utf8}
+use Rattle.serde_json.specs.Data.{Data}
+use Rattle.serde_json.specs.Read.{read}
+use Rattle.vx_base.proofs.Lists.{map-map}
+use Rattle.vx_base.specs.Results.{◌>>=◌}
+use Rattle.vx_election_model.specs.declared.election.Election.{Election}
+use Rattle.vx_election_model.specs.Valid.{IsValid}
+use Rattle.vx_center.specs.declared.rows.ExportSheet.{ExportSheet}
+use Rattle.vx_center.specs.declared.rows.Final.{Final}
+use Rattle.vx_center.specs.Laws.{SheetsHaveOwnKeys}
+use Rattle.vx_cvr.specs.Names.{sheet_name}
+use Rattle.vx_cvr.specs.Rows as cvr
+use Rattle.vx_cvr.specs.Report.{report_over, report_of}
+use Rattle.vx_tally.specs.declared.fault.ReportFault.{ReportFault}
+use Rattle.vx_tally.specs.declared.fault.ReportFault.TheVariants.{NotJson}
+use Rattle.vx_tally.specs.declared.report.Report.{Report}
+use Rattle.vx_tally.specs.Reading.{report_in, value_in, report_in_bytes}
+use Rattle.vx_tally.specs.Totals as totals
+use Rattle.vx_report_read.specs.Exported.{ReportsAreReadBack, units_of, contest_of, vote_of, contest_at, counted_in, unit_of, record_of, report_of_rows, ReportsAreRead, exported_vote, exported_by, RowsAreTheExported}
+use Rattle.vx_report_read.proofs.Contests.{units-read, contests-read}
+use Rattle.vx_report_read.proofs.Fitting.{IsRow, rows-are}
+use Rattle.vx_report_read.proofs.Members.{bind-ok}
+use Rattle.vx_report_read.proofs.Pairs.{rows-distinct, rows-few}
+use Rattle.vx_report_read.proofs.Records.{PrecinctsAreThere, records-read}
+
+-- the value of a report is read as the report of its rows
+over-read : (election : Election) (rows : List ExportSheet) (moment id : List ℕ) → PrecinctsAreThere → IsValid election → AllByRecursion (IsRow election) rows
+    → length rows ≤ 1000000 → IsDistinct bytes_eq (map (λ (row : ExportSheet). sheet_name row.key) rows)
+    → report_in (report_over election rows moment id) ≡ Ok (report_of_rows election rows)
+unfolding report_in
+over-read election rows moment id law valid are few distinct =
+    bind-ok _ _ (units_of election) _ (units-read election rows moment id valid)
+    (bind-ok _ _ (map contest_of election.contests) _ (contests-read election rows moment id valid)
+    (bind-ok _ _ (map (record_of election) rows) _ (records-read election rows moment id law valid are few distinct) refl))
+
+value-read : (bytes : List ℕ) (value : Data) → is_utf8 bytes ≡ true → read bytes ≡ Some value → value_in bytes ≡ Ok value
+unfolding value_in
+value-read bytes value utf8 there =
+    ap (λ (b : Bool). cond b (ok_or (read bytes) NotJson) (Err NotJson)) utf8 ∙ ap (λ (o : Option Data). ok_or o NotJson) there
+
+pub report-read : ReportsAreReadBack → PrecinctsAreThere → SheetsHaveOwnKeys → ReportsAreRead
+unfolding report_in_bytes
+report-read back precincts keys election kept moment id valid history utf8 =
+    let rows = cvr.rows_of election kept in
+    bind-ok _ _ (report_over election rows moment id) _
+    (value-read (report_of election kept moment id) (report_over election rows moment id) utf8 (back election kept moment id valid history))
+    (over-read election rows moment id precincts valid (rows-are election kept valid history) (rows-few election kept history)
+    (rows-distinct election kept keys history))
+
+-- ---- rows
+
+pub flat_map-mapped : {X Y Z : Type 0} (f : Y → List Z) (g : X → Y) (h : X → List Z) (xs : List X) → ((x : X) → f (g x) ≡ h x)
+    → flat_map f (map g xs) ≡ flat_map h xs
+flat_map-mapped f g h [] same = refl
+flat_map-mapped f g h (x ∷ xs) same = ap₂ (λ ys zs. ys ++ zs) (same x) (flat_map-mapped f g h xs same)
+
+record-rows : (election : Election) (row : ExportSheet) → totals.record_rows (record_of election row) ≡ exported_by election row
+record-rows election row =
+    flat_map-mapped (totals.contest_rows (unit_of election row)) (counted_in election)
+    (λ (final : Final). map (exported_vote election row final) final.selected) row.finals
+    (λ final. map-map (totals.row_of (unit_of election row) final.contest) (vote_of (contest_at election final) final) final.selected)
+
+pub rows-exported : (election : Election) (rows : List ExportSheet) → totals.rows_of (map (record_of election) rows) ≡ flat_map (exported_by election) rows
+rows-exported election rows = flat_map-mapped totals.record_rows (record_of election) (exported_by election) rows (record-rows election)
+
+-- what is read is in UTF-8
+is-utf8 : (bytes : List ℕ) (report : Report) → report_in_bytes bytes ≡ Ok report → is_utf8 bytes ≡ true
+unfolding report_in_bytes value_in
+is-utf8 bytes report given = by (is_utf8 bytes) given
+  where
+    by : (b : Bool) → (cond b (ok_or (read bytes) NotJson) (Err NotJson) >>= report_in) ≡ Ok report → b ≡ true
+    by true given = refl
+    by false given = absurd cc
+
+abbrev given_or : Result Report ReportFault → Report → Report
+given_or (Ok one) other = one
+given_or (Err fault) other = other
+
+same-ok : (r : Result Report ReportFault) (one other : Report) → r ≡ Ok one → r ≡ Ok other → one ≡ other
+same-ok r one other first second = sym (ap (λ (r : Result Report ReportFault). given_or r one) first)
+    ∙ ap (λ (r : Result Report ReportFault). given_or r one) second
+
+pub rows-read : ReportsAreRead → RowsAreTheExported
+rows-read law election kept moment id report valid history given =
+    let read_as = law election kept moment id valid history (is-utf8 (report_of election kept moment id) report given) in
+    let same : report ≡ report_of_rows election (cvr.rows_of election kept) = same-ok (report_in_bytes (report_of election kept moment id)) report
+    (report_of_rows election (cvr.rows_of election kept)) given read_as in
+    ap (λ (one : Report). totals.rows_of one.records) same ∙ rows-exported election (cvr.rows_of election kept)
