@@ -38,8 +38,8 @@ contest_at election groups found path value = do
   id ← id_in value path
   place ← ok_or (place_of election.contests id) (UnknownId path id)
   if is_named groups place || is_among place found then Err (RepeatedId path id)
-    else if fits_group election.contests found place then Ok place
-    else Err (Unlike path)
+      else if fits_group election.contests found place then Ok place
+      else Err (Unlike path)
 
 -- the same in a list
 abbrev pub contest_in : Election → List Group → List ℕ → List ℕ → Data → Result ℕ RankedFault

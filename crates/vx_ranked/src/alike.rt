@@ -12,7 +12,9 @@ pub(crate) fn place_of(contests: &[Contest], id: &str) -> Option<usize>
     ensures place { result ≡ words.place_of contests.now id.now }
     ensures within { IfSome result (λ place. place < length contests.now) }
 {
-    contests.iter().position(|contest| contest.id.as_str() == id)
+    contests
+        .iter()
+        .position(|contest| contest.id.as_str() == id)
 }
 
 /// Whether two lists have the same ids in the same order.

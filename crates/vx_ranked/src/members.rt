@@ -91,5 +91,7 @@ pub(crate) fn is_among(places: &[u32], place: u32) -> bool
 pub(crate) fn is_named(groups: &[Group], place: u32) -> bool
     ensures { result ≡ is_named groups.now place }
 {
-    groups.iter().any(|group| is_among(group.contests.as_slice(), place))
+    groups
+        .iter()
+        .any(|group| is_among(group.contests.as_slice(), place))
 }
