@@ -25,10 +25,11 @@ use Rattle.vx_command.specs.Elections.{election_in, plans_in}
 use Rattle.vx_command.specs.Images.{ScannedImagesAreWhole}
 use Rattle.vx_command.specs.Laws.{TakenElectionsAreValid}
 use Rattle.vx_command.specs.Texts.{broke_off}
+use Rattle.vx_journal.specs.Replay.{replay_of}
 use Rattle.vx_command_count.specs.Margin.{FittingSheetsAreKept, MarkedSheetsSayEachMark, SaysEachMark, header_if_none, key_at}
 use Rattle.vx_words.specs.declared.command.Command.{Command}
 use Rattle.vx_words.specs.Words.{IsSound}
-use Rattle.vx_app.specs.Journals.{AreRuns, IsDoneOf, IsFor, IsRun, Run}
+use Rattle.vx_app.specs.Journals.{IsDoneOf, IsFor, IsRun, Run}
 use Rattle.vx_plane.specs.Plane.{Page}
 use Rattle.vx_count.specs.Turned.{IsWhole}
 use Rattle.vx_election_model.specs.Valid.{IsValid}
@@ -44,11 +45,11 @@ use Rattle.vx_command_center.specs.Histories.{IsHistoryOf}
 use Rattle.vx_command_center.specs.Items.{events_of}
 use Rattle.vx_command_center.specs.Outcome.{center_outcome}
 use Rattle.vx_app.specs.Adding.{AddsWhatFits, FittingSheetsAreInTheirItems}
-use Rattle.vx_headline.specs.Counted.{AddNoOther, CountedBy, Counts, HasRecord, IsItemOf, IsScanned, Shares, events_in_all}
+use Rattle.vx_headline.specs.Counted.{AddNoOther, Counts, HasRecord, IsItemOf, IsScanned, Shares, events_in_all}
 use Rattle.vx_headline.proofs.Centered.{all-records, center-records, scan-there}
 use Rattle.vx_headline.proofs.FirstDone.{IsDoneEvent, first-done, legal-from}
+use Rattle.vx_headline.proofs.Replayed.{front, kept-as}
 use Rattle.vx_headline.proofs.Mixed.{as-many, comes, is-of, total}
-use Rattle.vx_headline.proofs.Runs.{all-add}
 
 pub record CountLaws : Type 0 where
   pub valid : TakenElectionsAreValid
@@ -94,15 +95,6 @@ begins election (header ∷ records) before behind body = record {
   front = records ++ before;
   behind = behind;
   are = ap (λ (some : List (List ℕ)). header ∷ some) (sym (append_assoc records before (body ∷ behind)));
-}
-
--- more records come behind
-more-behind : (left : List (List ℕ)) (body : List ℕ) (now more : List (List ℕ)) → now ≡ left ++ more → StandsBehind left body → StandsBehind now body
-more-behind left body now more are stands = record {
-  header = stands.header;
-  front = stands.front;
-  behind = stands.behind ++ more;
-  are = are ∙ ap (λ (some : List (List ℕ)). some ++ more) stands.are ∙ append_assoc (stands.header ∷ stands.front) (body ∷ stands.behind) more;
 }
 
 -- what holds of all holds of one
@@ -153,10 +145,10 @@ module _ (laws : CountLaws) (election : Election) (key : Key) (sheet : MarkedShe
       record { read = subst Back (sym key_is) back; front = says.0; back = says.1 }
 
   module _ (records : List (List ℕ)) (one : Run) (run : IsRun election records one) (place : ℕ) (s : IsScanned election one key sheet place) where
-    named : election_in (one.files s.name) ≡ Ok election
+    pub named : election_in (one.files s.name) ≡ Ok election
     named = let For : Command → Type 0 = λ command. IsFor command one.files election in subst For s.is_count run.for_it
 
-    scanned-known : IsKnown
+    pub scanned-known : IsKnown
     scanned-known =
         let Sound : Command → Type 0 = λ command. IsSound run.spelled.device command in
         let sound = subst Sound s.is_count run.spelled.sound in
@@ -170,7 +162,7 @@ module _ (laws : CountLaws) (election : Election) (key : Key) (sheet : MarkedShe
       (let same : suc has.before ≡ has.before + 1 = omega arith in ap (slice_get left) same) ∙ has.stands in
       behind-first left has.before (record_of the-event) at
 
-  one-stands : (records : List (List ℕ)) (one : Run) → IsRun election records one → (counts : Counts election records one key sheet) → (broke_off one.answer ≡ false) ⊎ HasRecord one.left key sheet → StandsBehind one.left (record_of the-event)
+  pub one-stands : (records : List (List ℕ)) (one : Run) → IsRun election records one → (counts : Counts election records one key sheet) → (broke_off one.answer ≡ false) ⊎ HasRecord one.left key sheet → StandsBehind one.left (record_of the-event)
   one-stands records one run counts (inr has) =
       let at : slice_get one.left (suc has.before) ≡ Some (record_of the-event) =
       (let same : suc has.before ≡ has.before + 1 = omega arith in ap (slice_get one.left) same) ∙ has.stands in
@@ -197,15 +189,44 @@ module _ (laws : CountLaws) (election : Election) (key : Key) (sheet : MarkedShe
       let Own : Key → Type 0 = λ some. StandsBehind one.left (record_of (Add some (sheet_marked sheet))) in
       subst Own (sym s.key_is) here
 
+  -- an event adds the sheet
+  pub record IsAddedIn (kept : List Event) : Type 0 where
+    pub before : List Event
+    pub more : List Event
+    pub are : kept ≡ before ++ the-event ∷ more
+
   pub record IsCounted (left : List (List ℕ)) : Type 0 where
     pub known : IsKnown
-    pub stands : StandsBehind left (record_of the-event)
+    pub added : (kept : List Event) → replay_of election left ≡ Ok kept → IsAddedIn kept
 
-  one-counted : (records : List (List ℕ)) (one : Run) → IsRun election records one → Counts election records one key sheet → IsCounted one.left
-  one-counted records one run counts = record {
-    known = scanned-known records one run counts.place counts.scanned;
-    stands = one-stands records one run counts counts.whole;
+  -- where its record stands, it does
+  from-record : (left : List (List ℕ)) → IsKnown → StandsBehind left (record_of the-event) → IsCounted left
+  from-record left known stands = record {
+    known = known;
+    added = λ kept replays.
+        (let Replays : List (List ℕ) → Type 0 = λ some. replay_of election some ≡ Ok kept in
+        let seam = kept-as election stands.header stands.front (record_of the-event) stands.behind the-event kept known.read (subst Replays stands.are replays) in
+        record { before = seam.events; more = seam.more; are = seam.is });
   }
+
+  -- and with more records behind
+  pub later-counted : (left more now : List (List ℕ)) → now ≡ left ++ more → IsCounted left → IsCounted now
+  later-counted left more now are it = record {
+    known = it.known;
+    added = λ kept replays.
+        (let Replays : List (List ℕ) → Type 0 = λ some. replay_of election some ≡ Ok kept in
+        let first = front election left more kept (subst Replays are replays) in
+        let here = it.added first.events first.replays in
+        record {
+          before = here.before;
+          more = here.more ++ first.more;
+          are = first.is ∙ ap (λ (some : List Event). some ++ first.more) here.are ∙ append_assoc here.before (the-event ∷ here.more) first.more;
+        });
+  }
+
+  pub one-counted : (records : List (List ℕ)) (one : Run) → IsRun election records one → Counts election records one key sheet → IsCounted one.left
+  one-counted records one run counts =
+      from-record one.left (scanned-known records one run counts.place counts.scanned) (one-stands records one run counts counts.whole)
 
   -- a `center`
   module _ (records : List (List ℕ)) (one : Run) (run : IsRun election records one) (items : List Item) (s : IsItemOf election one key sheet items) where
@@ -271,19 +292,9 @@ module _ (laws : CountLaws) (election : Election) (key : Key) (sheet : MarkedShe
       subst Stands (sym left) (begins election records (map record_of done.front) (map record_of done.back) body)
 
   one-shared : (records : List (List ℕ)) (one : Run) → IsRun election records one → Shares election records one key sheet → IsCounted one.left
-  one-shared records one run shares = record {
-    known = item-known records one run shares.items shares.is_item;
-    stands = item-stands records one run shares shares.whole;
-  }
+  one-shared records one run shares =
+      from-record one.left (item-known records one run shares.items shares.is_item) (item-stands records one run shares shares.whole)
 
-  either-counted : (records : List (List ℕ)) (one : Run) → IsRun election records one → Counts election records one key sheet ⊎ Shares election records one key sheet → IsCounted one.left
+  pub either-counted : (records : List (List ℕ)) (one : Run) → IsRun election records one → Counts election records one key sheet ⊎ Shares election records one key sheet → IsCounted one.left
   either-counted records one run (inl counts) = one-counted records one run counts
   either-counted records one run (inr shares) = one-shared records one run shares
-
-  pub counted : (records : List (List ℕ)) (runs : List Run) (left : List (List ℕ)) → AreRuns election records runs left → CountedBy election records runs key sheet → IsCounted left
-  counted records [] left are h = elim h [ ]
-  counted records (one ∷ runs) left are (inl here) =
-      let it = either-counted records one are.0 here in
-      let further = all-add election one.left runs left are.1 in
-      record { known = it.known; stands = more-behind one.left (record_of the-event) left further.more further.are it.stands }
-  counted records (one ∷ runs) left are (inr later) = counted one.left runs left are.1 later

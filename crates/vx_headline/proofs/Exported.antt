@@ -8,7 +8,6 @@ use Rattle.vx_rules.specs.declared.marks.ContestMarks.{ContestMarks}
 use Rattle.vx_rules.specs.declared.marks.SheetMarks.{SheetMarks}
 use Rattle.vx_rules.specs.Reasons.{is_blank_sheet}
 use Rattle.vx_events.specs.declared.event.Event.{Event}
-use Rattle.vx_events.specs.declared.event.Event.TheVariants.{Add}
 use Rattle.vx_events.specs.declared.key.Key.{Key}
 use Rattle.vx_sheet.specs.Margin.{MarkedSheet, sheet_marked}
 use Rattle.vx_sheet.specs.Sheet.{contest_limit}
@@ -21,15 +20,18 @@ use Rattle.vx_center.specs.Sheets.{Added, sheet_in}
 use Rattle.vx_center.specs.Shown.{ShowsWhatWasKept}
 use Rattle.vx_center.specs.Waiting.{exports_by}
 use Rattle.vx_cvr.specs.Report.{report_of}
+use Rattle.vx_journal.specs.Laws.{JournalsStay}
+use Rattle.vx_command_count.specs.Laws.{CountKeepsJournals}
 use Rattle.vx_command_export.specs.Laws.{ExportsWriteWhatWasKept}
 use Rattle.vx_journal.specs.Replay.{replay_of}
 use Rattle.vx_words.specs.declared.command.Command.{Command}
 use Rattle.vx_app.specs.Journals.{AreRuns, IsDoneOf, IsFor, Run}
 use Rattle.vx_headline.specs.Counted.{AddedBy, HasSheet}
 use Rattle.vx_headline.specs.Exported.{IsExport, MarkedPagesAreExported, StandsMarked, final_if}
-use Rattle.vx_headline.proofs.Counted.{CountLaws, IsCounted, counted}
+use Rattle.vx_headline.proofs.Again.{counted}
+use Rattle.vx_headline.proofs.Counted.{CountLaws, IsCounted}
 use Rattle.vx_headline.proofs.Marked.{once}
-use Rattle.vx_headline.proofs.Replayed.{front, kept-as}
+use Rattle.vx_headline.proofs.Replayed.{front}
 use Rattle.vx_headline.proofs.Rows.{one-row}
 use Rattle.vx_headline.proofs.Runs.{all-add}
 use Rattle.vx_headline.proofs.Sheets.{alone, still-there}
@@ -62,10 +64,8 @@ module _ (laws : CountLaws) (own : SheetsHaveOwnKeys) (election : Election) wher
     stands-marked : (left : List (List ℕ)) → replay_of election left ≡ Ok kept → (key : Key) (sheet : MarkedSheet) → IsCounted laws election key sheet left
         → (added : Added) × StandsMarked election kept key sheet added
     stands-marked left replays key sheet it =
-        let stands = it.stands in
-        let Replays : List (List ℕ) → Type 0 = λ some. replay_of election some ≡ Ok kept in
-        let seam = kept-as election stands.header stands.front _ stands.behind (Add key (sheet_marked sheet)) kept it.known.read (subst Replays stands.are replays) in
-        let only = alone own election seam.events seam.more key (sheet_marked sheet) kept seam.is history in
+        let seam = it.added kept replays in
+        let only = alone own election seam.before seam.more key (sheet_marked sheet) kept seam.are history in
         let added : Added = record { at = _; key = key; sheet = sheet_marked sheet } in (
           added,
           record {
@@ -117,8 +117,8 @@ module _ (laws : CountLaws) (own : SheetsHaveOwnKeys) (election : Election) wher
       let Of : Election → Type 0 = λ some. Wrote left last moment device some in
       subst Of same (record { kept = all.events; are_kept = all.are_kept; history = all.history; report = all.report; shows = all.shows })
 
-pub exports : CountLaws → SheetsHaveOwnKeys → ExportsWriteWhatWasKept → MarkedPagesAreExported
-exports laws own exported election runs left last moment device it =
+pub exports : CountLaws → SheetsHaveOwnKeys → ExportsWriteWhatWasKept → CountKeepsJournals → JournalsStay → MarkedPagesAreExported
+exports laws own exported keeps stays election runs left last moment device it =
     let all = wrote laws own election exported runs left last moment device it in
     record {
       kept = all.kept;
@@ -126,6 +126,6 @@ exports laws own exported election runs left last moment device it =
       history = all.history;
       report = all.report;
       shows = all.shows;
-      marked = λ key sheet by. stands-marked laws own election all.kept all.history left all.are_kept key sheet (counted laws election key sheet [] runs left it.are_runs by);
+      marked = λ key sheet by. stands-marked laws own election all.kept all.history left all.are_kept key sheet (counted laws own exported keeps stays election key sheet [] runs left it.are_runs by);
       first = λ key sheet by. added-still laws own election [] runs left all.kept key sheet it.are_runs all.are_kept by;
     }

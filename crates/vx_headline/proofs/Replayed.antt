@@ -12,7 +12,7 @@ use Rattle.vx_center.specs.Replies.{is_done, reply_of}
 use Rattle.vx_records.specs.Reading.{event_in}
 use Rattle.vx_journal.specs.Replay.{begun_with, kept_with, read_with, replay_from, replay_of, stopped_at, unless_bad}
 
-same-given : {A F : Type 0} (r : Result A F) (x y : A) → r ≡ Ok x → r ≡ Ok y → x ≡ y
+pub same-given : {A F : Type 0} (r : Result A F) (x y : A) → r ≡ Ok x → r ≡ Ok y → x ≡ y
 same-given r x y a b = cc
 
 unstopped : {A : Type 0} (index : ℕ) (read : Result A JournalStop) (x : A) → stopped_at index read ≡ Ok x → read ≡ Ok x
