@@ -32,7 +32,7 @@ use Rattle.vx_headline.proofs.Again.{counted}
 use Rattle.vx_headline.proofs.Counted.{CountLaws, IsCounted}
 use Rattle.vx_headline.proofs.Marked.{once}
 use Rattle.vx_headline.proofs.Replayed.{front}
-use Rattle.vx_headline.proofs.Rows.{one-row}
+use Rattle.vx_headline.proofs.Rows.{one-row, row-added}
 use Rattle.vx_headline.proofs.Runs.{all-add}
 use Rattle.vx_headline.proofs.Sheets.{alone, still-there}
 
@@ -126,6 +126,9 @@ exports laws own exported keeps stays election runs left last moment device it =
       history = all.history;
       report = all.report;
       shows = all.shows;
+      rows = λ n row at.
+          (let it = row-added election all.kept n row at in
+          record { place = it.0; added = it.1; is_added = it.2.0; is_row = it.2.1 });
       marked = λ key sheet by. stands-marked laws own election all.kept all.history left all.are_kept key sheet (counted laws own exported keeps stays election key sheet [] runs left it.are_runs by);
       first = λ key sheet by. added-still laws own election [] runs left all.kept key sheet it.are_runs all.are_kept by;
     }
