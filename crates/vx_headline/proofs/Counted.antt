@@ -88,7 +88,8 @@ behind-first (header ∷ left) n body h =
     record { header = header; front = rest.front; behind = rest.behind; are = ap (λ (some : List (List ℕ)). header ∷ some) rest.are }
 
 -- behind records and the header, if there was none, a list stands behind the first
-begins : (election : Election) (records before behind : List (List ℕ)) (body : List ℕ) → StandsBehind (records ++ (header_if_none election records ++ (before ++ body ∷ behind))) body
+begins : (election : Election) (records before behind : List (List ℕ)) (body : List ℕ)
+    → StandsBehind (records ++ (header_if_none election records ++ (before ++ body ∷ behind))) body
 begins election [] before behind body = record { header = header_of election; front = before; behind = behind; are = refl }
 begins election (header ∷ records) before behind body = record {
   header = header;
@@ -102,7 +103,8 @@ item-at : {X : Type 0} (P : X → Type 0) (xs : List X) → All P xs → (n : �
 item-at P xs all n x at = subst P (get_or_from_slice_get xs n x x at) (all n x (slice_get_within xs n x at))
 
 -- the call of an event, and the element that was mapped
-called : (history : List Entry) (n : ℕ) (event : Event) → slice_get (events_in history) n ≡ Some event → (place : ℕ) × (call : Entry) × ((slice_get history place ≡ Some call) × (call.event ≡ event))
+called : (history : List Entry) (n : ℕ) (event : Event) → slice_get (events_in history) n ≡ Some event
+    → (place : ℕ) × (call : Entry) × ((slice_get history place ≡ Some call) × (call.event ≡ event))
 called [] n event h = absurd cc
 called (call ∷ history) zero event h = (0, call, (refl, same_Some call.event event h))
 called (call ∷ history) (suc n) event h = let rest = called history n event h in (suc rest.0, rest.1, rest.2)
@@ -131,13 +133,16 @@ module _ (laws : CountLaws) (election : Election) (key : Key) (sheet : MarkedShe
     pub back : SaysEachMark (sheet_marked sheet) sheet.back_plan sheet.back_marks
 
   -- so of two images that fit it
-  known : IsValid election → (batch : List ℕ) → is_batch batch ≡ true → (place : ℕ) → key ≡ key_at batch place → (first second : Page) → IsWhole first → IsWhole second → FitsSheet election first second sheet → place + 1 ≤ number_limit → IsKnown
+  known : IsValid election → (batch : List ℕ) → is_batch batch ≡ true → (place : ℕ) → key ≡ key_at batch place → (first second : Page) → IsWhole first
+      → IsWhole second → FitsSheet election first second sheet → place + 1 ≤ number_limit → IsKnown
   known valid batch in_range place key_is first second first_whole second_whole fits numbered =
       let is_read = laws.read election 0 first second sheet valid first_whole second_whole fits in
-      let made : event_of batch (place + 1) (sheet_read election 0 (reading_of election first) (reading_of election second)) ≡ Ok (Add (key_at batch place) (sheet_marked sheet)) =
+      let made : event_of batch (place + 1) (sheet_read election 0 (reading_of election first) (reading_of election second)) ≡ Ok
+      (Add (key_at batch place) (sheet_marked sheet)) =
       ap (event_of batch (place + 1)) is_read
       ∙ ap (λ (b : Bool). cond b (Err Beyond) (Ok (Add (key_at batch place) (sheet_marked sheet)))) (below-no number_limit (place + 1) numbered) in
-      let keepable = laws.keepable election batch (place + 1) 0 first second (Add (key_at batch place) (sheet_marked sheet)) valid in_range (omega arith) made in
+      let keepable = laws.keepable election batch (place + 1) 0 first second (Add (key_at batch place) (sheet_marked sheet)) valid in_range (omega arith)
+      made in
       let back : event_in (record_of (Add (key_at batch place) (sheet_marked sheet))) ≡ Ok (Add (key_at batch place) (sheet_marked sheet)) =
       laws.records.given_back (Add (key_at batch place) (sheet_marked sheet)) keepable.held in
       let Back : Key → Type 0 = λ some. event_in (record_of (Add some (sheet_marked sheet))) ≡ Ok (Add some (sheet_marked sheet)) in
@@ -162,7 +167,8 @@ module _ (laws : CountLaws) (election : Election) (key : Key) (sheet : MarkedShe
       (let same : suc has.before ≡ has.before + 1 = omega arith in ap (slice_get left) same) ∙ has.stands in
       behind-first left has.before (record_of the-event) at
 
-  pub one-stands : (records : List (List ℕ)) (one : Run) → IsRun election records one → (counts : Counts election records one key sheet) → (broke_off one.answer ≡ false) ⊎ HasRecord one.left key sheet → StandsBehind one.left (record_of the-event)
+  pub one-stands : (records : List (List ℕ)) (one : Run) → IsRun election records one → (counts : Counts election records one key sheet)
+      → (broke_off one.answer ≡ false) ⊎ HasRecord one.left key sheet → StandsBehind one.left (record_of the-event)
   one-stands records one run counts (inr has) =
       let at : slice_get one.left (suc has.before) ≡ Some (record_of the-event) =
       (let same : suc has.before ≡ has.before + 1 = omega arith in ap (slice_get one.left) same) ∙ has.stands in
@@ -176,16 +182,19 @@ module _ (laws : CountLaws) (election : Election) (key : Key) (sheet : MarkedShe
       let New : Key → Type 0 = λ some. place_in counts.before some ≡ None in
       let keeps =
       laws.kept s.name s.batch s.scans one.files records one.taken one.taken_now (Some records) (Some one.left) one.answer done election plans.0 counts.before
-      (named records one run place s) plans.1 counts.replays place s.first s.second sheet s.first_is s.second_is s.fits s.numbered (subst New s.key_is counts.is_new.new) in
+      (named records one run place s) plans.1 counts.replays place s.first s.second sheet s.first_is s.second_is s.fits s.numbered
+      (subst New s.key_is counts.is_new.new) in
       let stands = keeps.stands (let room = counts.is_new.room in let few = keeps.few in omega (arith, room, few)) in
       let body = record_of (Add (key_at s.batch place) (sheet_marked sheet)) in
       let list = header_if_none election records ++ (keeps.before ++ keeps.behind) in
-      let all : list ≡ keeps.kept.front = keeps.kept.are ∙ ap (λ (some : List (List ℕ)). keeps.kept.front ++ some) (keeps.kept.whole unbroken) ∙ append-nil keeps.kept.front in
+      let all : list ≡ keeps.kept.front = keeps.kept.are ∙ ap (λ (some : List (List ℕ)). keeps.kept.front ++ some) (keeps.kept.whole unbroken)
+      ∙ append-nil keeps.kept.front in
       let left : one.left ≡ records ++ (header_if_none election records ++ (keeps.before ++ body ∷ stands.0)) =
       same_Some one.left (records ++ keeps.kept.front) keeps.kept.kept
       ∙ ap (λ (some : List (List ℕ)). records ++ some) (sym all)
       ∙ ap (λ (some : List (List ℕ)). records ++ (header_if_none election records ++ (keeps.before ++ some))) stands.1 in
-      let here : StandsBehind one.left body = let Stands : List (List ℕ) → Type 0 = λ some. StandsBehind some body in subst Stands (sym left) (begins election records keeps.before stands.0 body) in
+      let here : StandsBehind one.left body = let Stands : List (List ℕ)
+      → Type 0 = λ some. StandsBehind some body in subst Stands (sym left) (begins election records keeps.before stands.0 body) in
       let Own : Key → Type 0 = λ some. StandsBehind one.left (record_of (Add some (sheet_marked sheet))) in
       subst Own (sym s.key_is) here
 
@@ -205,7 +214,8 @@ module _ (laws : CountLaws) (election : Election) (key : Key) (sheet : MarkedShe
     known = known;
     added = λ kept replays.
         (let Replays : List (List ℕ) → Type 0 = λ some. replay_of election some ≡ Ok kept in
-        let seam = kept-as election stands.header stands.front (record_of the-event) stands.behind the-event kept known.read (subst Replays stands.are replays) in
+        let seam = kept-as election stands.header stands.front (record_of the-event) stands.behind the-event kept known.read
+        (subst Replays stands.are replays) in
         record { before = seam.events; more = seam.more; are = seam.is });
   }
 
@@ -244,11 +254,13 @@ module _ (laws : CountLaws) (election : Election) (key : Key) (sheet : MarkedShe
         (whole (2 * s.place) s.first s.first_is).whole (whole (2 * s.place + 1) s.second s.second_is).whole s.fits s.numbered
 
     -- its event is done in the history
-    item-done : (before : List Event) (history : List Entry) → IsHistoryOf election before items history → place_in before key ≡ None → AddNoOther election items key sheet → length before + events_in_all election items ≤ event_limit
+    item-done : (before : List Event) (history : List Entry) → IsHistoryOf election before items history → place_in before key ≡ None
+        → AddNoOther election items key sheet → length before + events_in_all election items ≤ event_limit
         → IsDoneEvent history the-event
     item-done before history of_items new no_other room =
         let scan = scan-there election one.files s.words 4 0 s.item items s.batch s.file s.bytes s.are_items s.is_scan s.is_file in
-        let adds = item-at (AddsWhatFits election) items (laws.adds s.name s.words one.files election items center-named s.are_items) s.item (Scanned s.batch s.bytes scan.0) scan.1 in
+        let adds = item-at (AddsWhatFits election) items (laws.adds s.name s.words one.files election items center-named s.are_items) s.item
+        (Scanned s.batch s.bytes scan.0) scan.1 in
         let sheets = adds s.place s.first s.second sheet s.first_is s.second_is s.fits s.numbered in
         let lists = map (events_of election) items in
         let list = events_of election (Scanned s.batch s.bytes scan.0) in
@@ -272,7 +284,8 @@ module _ (laws : CountLaws) (election : Election) (key : Key) (sheet : MarkedShe
         no_other from.place from.n item.0 other item.1 (ap (λ (some : List Event). slice_get some from.n) item.2 ∙ from.on))
         call.0 call.1 call.2.0 call.2.1
 
-  item-stands : (records : List (List ℕ)) (one : Run) → IsRun election records one → (shares : Shares election records one key sheet) → (broke_off one.answer ≡ false) ⊎ HasRecord one.left key sheet → StandsBehind one.left (record_of the-event)
+  item-stands : (records : List (List ℕ)) (one : Run) → IsRun election records one → (shares : Shares election records one key sheet)
+      → (broke_off one.answer ≡ false) ⊎ HasRecord one.left key sheet → StandsBehind one.left (record_of the-event)
   item-stands records one run shares (inr has) = has-stands one.left has
   item-stands records one run shares (inl unbroken) =
       let s = shares.is_item in
@@ -284,10 +297,13 @@ module _ (laws : CountLaws) (election : Election) (key : Key) (sheet : MarkedShe
       let done = item-done records one run shares.items s shares.before centers.history of_items shares.new shares.no_other shares.room in
       let body = record_of the-event in
       let left : one.left ≡ records ++ (header_if_none election records ++ (map record_of done.front ++ body ∷ map record_of done.back)) =
-      all-records (center_outcome s.name s.moment s.device s.words one.files records centers.history) one.taken one.taken_now records one.left one.answer centers.done unbroken
+      all-records (center_outcome s.name s.moment s.device s.words one.files records centers.history) one.taken one.taken_now records one.left one.answer
+      centers.done unbroken
       ∙ ap (λ (some : List (List ℕ)). records ++ some)
-      (center-records s.name s.moment s.device s.words one.files records centers.history election plans.0 shares.before shares.items named plans.1 shares.replays s.are_items
-      ∙ ap (λ (some : List (List ℕ)). header_if_none election records ++ some) (ap (map record_of) done.are ∙ map-append record_of done.front (the-event ∷ done.back))) in
+      (center-records s.name s.moment s.device s.words one.files records centers.history election plans.0 shares.before shares.items named plans.1
+      shares.replays s.are_items
+      ∙ ap (λ (some : List (List ℕ)). header_if_none election records ++ some)
+      (ap (map record_of) done.are ∙ map-append record_of done.front (the-event ∷ done.back))) in
       let Stands : List (List ℕ) → Type 0 = λ some. StandsBehind some body in
       subst Stands (sym left) (begins election records (map record_of done.front) (map record_of done.back) body)
 
@@ -295,6 +311,7 @@ module _ (laws : CountLaws) (election : Election) (key : Key) (sheet : MarkedShe
   one-shared records one run shares =
       from-record one.left (item-known records one run shares.items shares.is_item) (item-stands records one run shares shares.whole)
 
-  pub either-counted : (records : List (List ℕ)) (one : Run) → IsRun election records one → Counts election records one key sheet ⊎ Shares election records one key sheet → IsCounted one.left
+  pub either-counted : (records : List (List ℕ)) (one : Run) → IsRun election records one
+      → Counts election records one key sheet ⊎ Shares election records one key sheet → IsCounted one.left
   either-counted records one run (inl counts) = one-counted records one run counts
   either-counted records one run (inr shares) = one-shared records one run shares

@@ -64,7 +64,8 @@ module _ (test : ExportSheet → Bool) where
   in_order-one [] one h = h
   in_order-one (row ∷ rows) one h = by (test row) refl (in_order-one rows one) h
     where
-      by : (b : Bool) → test row ≡ b → (filter test rows ≡ one ∷ [] → filter test (in_order rows) ≡ one ∷ []) → cond b (row ∷ filter test rows) (filter test rows) ≡ one ∷ [] → filter test (placed row (in_order rows)) ≡ one ∷ []
+      by : (b : Bool) → test row ≡ b → (filter test rows ≡ one ∷ [] → filter test (in_order rows) ≡ one ∷ [])
+          → cond b (row ∷ filter test rows) (filter test rows) ≡ one ∷ [] → filter test (placed row (in_order rows)) ≡ one ∷ []
       by true is rest h =
           let same : row ≡ one = cc in
           let none : filter test rows ≡ [] = cc in
@@ -77,8 +78,10 @@ rows-keyed : (election : Election) (kept : List Event) (key : Key) (sheets : Lis
 rows-keyed election kept key [] = refl
 rows-keyed election kept key (added ∷ sheets) = by (has_key key added) (rows-keyed election kept key sheets)
   where
-    by : (b : Bool) → filter (λ (row : ExportSheet). same_key key row.key) (map (row_of election kept) sheets) ≡ map (row_of election kept) (filter (has_key key) sheets)
-        → cond b (row_of election kept added ∷ filter (λ (row : ExportSheet). same_key key row.key) (map (row_of election kept) sheets)) (filter (λ (row : ExportSheet). same_key key row.key) (map (row_of election kept) sheets))
+    by : (b : Bool) → filter (λ (row : ExportSheet). same_key key row.key) (map (row_of election kept) sheets) ≡ map (row_of election kept)
+        (filter (has_key key) sheets)
+        → cond b (row_of election kept added ∷ filter (λ (row : ExportSheet). same_key key row.key) (map (row_of election kept) sheets))
+        (filter (λ (row : ExportSheet). same_key key row.key) (map (row_of election kept) sheets))
         ≡ map (row_of election kept) (cond b (added ∷ filter (has_key key) sheets) (filter (has_key key) sheets))
     by true rest = ap (λ (rows : List ExportSheet). row_of election kept added ∷ rows) rest
     by false rest = rest
@@ -113,7 +116,8 @@ placed-from row (other ∷ others) n one h = by (key_order other.key row.key) n 
     by Equal n h go = first n h
     by Greater n h go = first n h
 
-in_order-from : (rows : List ExportSheet) (n : ℕ) (one : ExportSheet) → slice_get (in_order rows) n ≡ Some one → (place : ℕ) × (slice_get rows place ≡ Some one)
+in_order-from : (rows : List ExportSheet) (n : ℕ) (one : ExportSheet) → slice_get (in_order rows) n ≡ Some one
+    → (place : ℕ) × (slice_get rows place ≡ Some one)
 in_order-from [] n one h = absurd cc
 in_order-from (row ∷ rows) n one h = by (placed-from row (in_order rows) n one h) (in_order-from rows)
   where
@@ -124,7 +128,8 @@ in_order-from (row ∷ rows) n one h = by (placed-from row (in_order rows) n one
     by (inr there) go = let rest = go there.0 one there.1 in (suc rest.0, rest.1)
 
 -- so each is of a sheet that was added
-sheet-of : (election : Election) (kept : List Event) (sheets : List Added) (n : ℕ) (row : ExportSheet) → slice_get (map (row_of election kept) sheets) n ≡ Some row
+sheet-of : (election : Election) (kept : List Event) (sheets : List Added) (n : ℕ) (row : ExportSheet)
+    → slice_get (map (row_of election kept) sheets) n ≡ Some row
     → (place : ℕ) × (added : Added) × ((slice_get sheets place ≡ Some added) × (row ≡ row_of election kept added))
 sheet-of election kept [] n row h = absurd cc
 sheet-of election kept (added ∷ sheets) zero row h = (0, added, (refl, sym (same_Some (row_of election kept added) row h)))
