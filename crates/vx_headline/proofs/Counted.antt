@@ -45,7 +45,7 @@ use Rattle.vx_command_center.specs.Histories.{IsHistoryOf}
 use Rattle.vx_command_center.specs.Items.{events_of}
 use Rattle.vx_command_center.specs.Outcome.{center_outcome}
 use Rattle.vx_app.specs.Adding.{AddsWhatFits, FittingSheetsAreInTheirItems}
-use Rattle.vx_headline.specs.Counted.{AddNoOther, Counts, HasRecord, IsItemOf, IsScanned, Shares, events_in_all}
+use Rattle.vx_headline.specs.Counted.{AddNoOther, Counts, HasRecord, IsItemOf, IsScanned, CenterCounts, events_in_all}
 use Rattle.vx_headline.proofs.Centered.{all-records, center-records, scan-there}
 use Rattle.vx_headline.proofs.FirstDone.{IsDoneEvent, first-done, legal-from}
 use Rattle.vx_headline.proofs.Replayed.{front, kept-as}
@@ -169,10 +169,7 @@ module _ (laws : CountLaws) (election : Election) (key : Key) (sheet : MarkedShe
 
   pub one-stands : (records : List (List ℕ)) (one : Run) → IsRun election records one → (counts : Counts election records one key sheet)
       → (broke_off one.answer ≡ false) ⊎ HasRecord one.left key sheet → StandsBehind one.left (record_of the-event)
-  one-stands records one run counts (inr has) =
-      let at : slice_get one.left (suc has.before) ≡ Some (record_of the-event) =
-      (let same : suc has.before ≡ has.before + 1 = omega arith in ap (slice_get one.left) same) ∙ has.stands in
-      behind-first one.left has.before (record_of the-event) at
+  one-stands records one run counts (inr has) = has-stands one.left has
   one-stands records one run counts (inl unbroken) =
       let s = counts.scanned in
       let place = counts.place in
@@ -193,8 +190,8 @@ module _ (laws : CountLaws) (election : Election) (key : Key) (sheet : MarkedShe
       same_Some one.left (records ++ keeps.kept.front) keeps.kept.kept
       ∙ ap (λ (some : List (List ℕ)). records ++ some) (sym all)
       ∙ ap (λ (some : List (List ℕ)). records ++ (header_if_none election records ++ (keeps.before ++ some))) stands.1 in
-      let here : StandsBehind one.left body = let Stands : List (List ℕ)
-      → Type 0 = λ some. StandsBehind some body in subst Stands (sym left) (begins election records keeps.before stands.0 body) in
+      let Stands : List (List ℕ) → Type 0 = λ some. StandsBehind some body in
+      let here : StandsBehind one.left body = subst Stands (sym left) (begins election records keeps.before stands.0 body) in
       let Own : Key → Type 0 = λ some. StandsBehind one.left (record_of (Add some (sheet_marked sheet))) in
       subst Own (sym s.key_is) here
 
@@ -284,7 +281,7 @@ module _ (laws : CountLaws) (election : Election) (key : Key) (sheet : MarkedShe
         no_other from.place from.n item.0 other item.1 (ap (λ (some : List Event). slice_get some from.n) item.2 ∙ from.on))
         call.0 call.1 call.2.0 call.2.1
 
-  item-stands : (records : List (List ℕ)) (one : Run) → IsRun election records one → (shares : Shares election records one key sheet)
+  item-stands : (records : List (List ℕ)) (one : Run) → IsRun election records one → (shares : CenterCounts election records one key sheet)
       → (broke_off one.answer ≡ false) ⊎ HasRecord one.left key sheet → StandsBehind one.left (record_of the-event)
   item-stands records one run shares (inr has) = has-stands one.left has
   item-stands records one run shares (inl unbroken) =
@@ -307,11 +304,11 @@ module _ (laws : CountLaws) (election : Election) (key : Key) (sheet : MarkedShe
       let Stands : List (List ℕ) → Type 0 = λ some. StandsBehind some body in
       subst Stands (sym left) (begins election records (map record_of done.front) (map record_of done.back) body)
 
-  one-shared : (records : List (List ℕ)) (one : Run) → IsRun election records one → Shares election records one key sheet → IsCounted one.left
+  one-shared : (records : List (List ℕ)) (one : Run) → IsRun election records one → CenterCounts election records one key sheet → IsCounted one.left
   one-shared records one run shares =
       from-record one.left (item-known records one run shares.items shares.is_item) (item-stands records one run shares shares.whole)
 
   pub either-counted : (records : List (List ℕ)) (one : Run) → IsRun election records one
-      → Counts election records one key sheet ⊎ Shares election records one key sheet → IsCounted one.left
+      → Counts election records one key sheet ⊎ CenterCounts election records one key sheet → IsCounted one.left
   either-counted records one run (inl counts) = one-counted records one run counts
   either-counted records one run (inr shares) = one-shared records one run shares

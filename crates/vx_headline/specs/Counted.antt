@@ -102,7 +102,7 @@ AddNoOther election items key sheet =
 -- a `center` counted a sheet over records: the cards of the election can be planned, the key is new and no item adds
 -- another sheet under it, there is room for all events of the items, and the run didn't break off, or not before that
 -- sheet's record; in whichever order the items' events came
-pub record Shares (election : Election) (records : List (List ℕ)) (one : Run) (key : Key) (sheet : MarkedSheet)
+pub record CenterCounts (election : Election) (records : List (List ℕ)) (one : Run) (key : Key) (sheet : MarkedSheet)
     : Type 0 where
   pub items : List Item
   pub is_item : IsItemOf election one key sheet items
@@ -137,7 +137,7 @@ pub record Recounts (election : Election) (records : List (List ℕ)) (one : Run
 abbrev pub CountedBy : Election → List (List ℕ) → List Run → Key → MarkedSheet → Type 0
 CountedBy election records [] key sheet = ⊥
 CountedBy election records (one ∷ runs) key sheet =
-    ((Counts election records one key sheet ⊎ Shares election records one key sheet)
+    ((Counts election records one key sheet ⊎ CenterCounts election records one key sheet)
     ⊎ Recounts election records one runs key sheet)
     ⊎ CountedBy election one.left runs key sheet
 

@@ -16,8 +16,9 @@ use vx_records::records_are_read;
 use vx_sheet::{fitting_sheets_are_read, sheet_events_are_keepable};
 
 /// Of every export that ended well, behind whatever runs for its election: all that it wrote is the report of a
-/// history that the journal keeps. Each sheet that one of the runs counted stands there with exactly its marks, and
-/// each of its contests in its row where it is exported, with the last decisions applied.
+/// history that the journal keeps. Each sheet that a run counted, or two of them of which the first broke off, stands
+/// there with exactly its marks, and each of its contests in its row where it is exported, with the last decisions
+/// applied.
 pub fn marked_pages_are_exported()
     ensures { MarkedPagesAreExported }
 {
