@@ -49,7 +49,8 @@ all-done ends answer left text part whole (inl all) = (all.all, all.no_more.1)
 all-done ends (Ok done) left text part whole (inr broke) = absurd broke
 all-done ends (Err cause) left text part whole (inr broke) = absurd (never-broke cause left text part whole broke)
 
-pub all-records : (outcome : Outcome) (taken taken_now : Taken) (records left : List (List ℕ)) (answer : Answer) → IsDone outcome taken taken_now (Some records) (Some left) answer → broke_off answer ≡ false
+pub all-records : (outcome : Outcome) (taken taken_now : Taken) (records left : List (List ℕ)) (answer : Answer)
+    → IsDone outcome taken taken_now (Some records) (Some left) answer → broke_off answer ≡ false
     → left ≡ records ++ flat_map records_of outcome.acts
 all-records outcome taken taken_now records left answer done whole =
     let all = all-done outcome.ends answer done.left done.text done.records whole done.ends in
@@ -74,14 +75,17 @@ header election true = refl
 header election false = refl
 
 module _ (election : Election) (files : Files) where
-  given-records : (given : Result Item Halt) (taken : Item) (rest : Item → Outcome) → given ≡ Ok taken → flat_map records_of (goes_on given rest).acts ≡ flat_map records_of (rest taken).acts
+  given-records : (given : Result Item Halt) (taken : Item) (rest : Item → Outcome) → given ≡ Ok taken
+      → flat_map records_of (goes_on given rest).acts ≡ flat_map records_of (rest taken).acts
   given-records given taken rest is = ap (λ (some : Result Item Halt). flat_map records_of (goes_on some rest).acts) is
 
-  items-records : (words : List ItemWord) (word before : ℕ) (items : List Item) (rest : List Item → Outcome) → items_taken election files word before words ≡ Ok items
+  items-records : (words : List ItemWord) (word before : ℕ) (items : List Item) (rest : List Item → Outcome)
+      → items_taken election files word before words ≡ Ok items
       → flat_map records_of (items_outcome election files word before words rest).acts ≡ flat_map records_of (rest items).acts
   items-records [] word before items rest is = let same : [] ≡ items = cc in ap (λ (some : List Item). flat_map records_of (rest some).acts) same
   items-records (item ∷ words) word before items rest is =
-      let one = bind_ok (taken_item election word before item (files (name_in item))) (λ taken. items_taken election files (word + 1) (before + possible_of taken) words >>= (λ others. Ok (taken ∷ others))) items is in
+      let one = bind_ok (taken_item election word before item (files (name_in item)))
+      (λ taken. items_taken election files (word + 1) (before + possible_of taken) words >>= (λ others. Ok (taken ∷ others))) items is in
       let others = bind_ok (items_taken election files (word + 1) (before + possible_of one.0) words) (λ others. Ok (one.0 ∷ others)) items one.2 in
       let same : one.0 ∷ others.0 ≡ items = let made = others.2 in cc in
       given-records (taken_item election word before item (files (name_in item))) one.0
@@ -90,11 +94,13 @@ module _ (election : Election) (files : Files) where
       ∙ ap (λ (some : List Item). flat_map records_of (rest some).acts) same
 
   -- the item of a word of a scan
-  scan-of : (word : ℕ) (batch bytes : List ℕ) (pages : List Page) (fault : Option PbmFault) (item : Item) → scan_unless word batch bytes pages fault ≡ Ok item → (sheets : ℕ) × (item ≡ Scan batch bytes sheets)
+  scan-of : (word : ℕ) (batch bytes : List ℕ) (pages : List Page) (fault : Option PbmFault) (item : Item)
+      → scan_unless word batch bytes pages fault ≡ Ok item → (sheets : ℕ) × (item ≡ Scan batch bytes sheets)
   scan-of word batch bytes pages None item is = (length pages / 2, let same : Scan batch bytes (length pages / 2) ≡ item = cc in sym same)
   scan-of word batch bytes pages (Some fault) item is = absurd cc
 
-  one-scan : (word before : ℕ) (batch file bytes : List ℕ) (item : Item) → files file ≡ Some bytes → taken_item election word before (ScanWord batch file) (files file) ≡ Ok item → (sheets : ℕ) × (item ≡ Scan batch bytes sheets)
+  one-scan : (word before : ℕ) (batch file bytes : List ℕ) (item : Item) → files file ≡ Some bytes
+      → taken_item election word before (ScanWord batch file) (files file) ≡ Ok item → (sheets : ℕ) × (item ≡ Scan batch bytes sheets)
   one-scan word before batch file bytes item is taken =
       let two = bind_ok (input_of word input_limit (files file) >>= item_in election word (ScanWord batch file)) (within_limit word before) item taken in
       let one = bind_ok (input_of word input_limit (files file)) (item_in election word (ScanWord batch file)) two.0 two.1 in
@@ -106,17 +112,21 @@ module _ (election : Election) (files : Files) where
       let it : two.0 ≡ item = let given = kept.1 in cc in
       (made.0, sym it ∙ made.1 ∙ ap (λ (some : List ℕ). Scan batch some made.0) (sym same))
 
-  pub scan-there : (words : List ItemWord) (word before n : ℕ) (items : List Item) (batch file bytes : List ℕ) → items_taken election files word before words ≡ Ok items → slice_get words n ≡ Some (ScanWord batch file) → files file ≡ Some bytes
+  pub scan-there : (words : List ItemWord) (word before n : ℕ) (items : List Item) (batch file bytes : List ℕ)
+      → items_taken election files word before words ≡ Ok items → slice_get words n ≡ Some (ScanWord batch file) → files file ≡ Some bytes
       → (sheets : ℕ) × (slice_get items n ≡ Some (Scan batch bytes sheets))
   scan-there [] word before n items batch file bytes is at there = absurd cc
   scan-there (item ∷ words) word before n items batch file bytes is at there =
-      let one = bind_ok (taken_item election word before item (files (name_in item))) (λ taken. items_taken election files (word + 1) (before + possible_of taken) words >>= (λ others. Ok (taken ∷ others))) items is in
+      let one = bind_ok (taken_item election word before item (files (name_in item)))
+      (λ taken. items_taken election files (word + 1) (before + possible_of taken) words >>= (λ others. Ok (taken ∷ others))) items is in
       let others = bind_ok (items_taken election files (word + 1) (before + possible_of one.0) words) (λ others. Ok (one.0 ∷ others)) items one.2 in
       let same : one.0 ∷ others.0 ≡ items = let made = others.2 in cc in
       let Has : List Item → Type 0 = λ some. (sheets : ℕ) × (slice_get some n ≡ Some (Scan batch bytes sheets)) in
-      subst Has same (by n at one.0 one.1 others.0 (λ n at. scan-there words (word + 1) (before + possible_of one.0) n others.0 batch file bytes others.1 at there))
+      subst Has same (by n at one.0 one.1 others.0
+      (λ n at. scan-there words (word + 1) (before + possible_of one.0) n others.0 batch file bytes others.1 at there))
     where
-      by : (n : ℕ) → slice_get (item ∷ words) n ≡ Some (ScanWord batch file) → (first : Item) → taken_item election word before item (files (name_in item)) ≡ Ok first → (others : List Item)
+      by : (n : ℕ) → slice_get (item ∷ words) n ≡ Some (ScanWord batch file) → (first : Item)
+          → taken_item election word before item (files (name_in item)) ≡ Ok first → (others : List Item)
           → ((n : ℕ) → slice_get words n ≡ Some (ScanWord batch file) → (sheets : ℕ) × (slice_get others n ≡ Some (Scan batch bytes sheets)))
           → (sheets : ℕ) × (slice_get (first ∷ others) n ≡ Some (Scan batch bytes sheets))
       by zero at first taken others go =
@@ -126,15 +136,20 @@ module _ (election : Election) (files : Files) where
       by (suc n) at first taken others go = go n at
 
 -- all records of a `center`, by its history
-pub center-records : (name moment device : List ℕ) (words : List ItemWord) (files : Files) (records : List (List ℕ)) (history : List Entry) (election : Election) (plans : List CardPlan) (events : List Event) (items : List Item)
-    → election_in (files name) ≡ Ok election → plans_in election ≡ Ok plans → replay_of election records ≡ Ok events → items_taken election files 4 0 words ≡ Ok items
-    → flat_map records_of (center_outcome name moment device words files records history).acts ≡ header_if_none election records ++ map record_of (done_events history)
+pub center-records : (name moment device : List ℕ) (words : List ItemWord) (files : Files) (records : List (List ℕ)) (history : List Entry)
+    (election : Election) (plans : List CardPlan) (events : List Event) (items : List Item)
+    → election_in (files name) ≡ Ok election → plans_in election ≡ Ok plans → replay_of election records ≡ Ok events
+    → items_taken election files 4 0 words ≡ Ok items
+    → flat_map records_of (center_outcome name moment device words files records history).acts ≡ header_if_none election records ++ map record_of
+    (done_events history)
 center-records name moment device words files records history election plans events items is planned replays are =
     let journal : Journal = record { center = record { election = election; events = events }; is_new = has_none records } in
     let read : journal_in election records ≡ Ok journal = ap (journal_read election (has_none records)) replays in
     let written = written_acts election (events ++ done_events history) history (flat_map (lines_of_item election) items) moment device in
-    ap (λ (given : Result Election Halt). flat_map records_of (goes_on given (λ some. once_planned some (once_read some records (journal_outcome some moment device words files history)))).acts) is
-    ∙ ap (λ (given : Result (List CardPlan) Halt). flat_map records_of (goes_on given (λ some. once_read election records (journal_outcome election moment device words files history))).acts) planned
+    ap (λ (given : Result Election Halt). flat_map records_of
+    (goes_on given (λ some. once_planned some (once_read some records (journal_outcome some moment device words files history)))).acts) is
+    ∙ ap (λ (given : Result (List CardPlan) Halt). flat_map records_of
+    (goes_on given (λ some. once_read election records (journal_outcome election moment device words files history))).acts) planned
     ∙ ap (λ (given : Result Journal Halt). flat_map records_of (goes_on given (journal_outcome election moment device words files history)).acts) read
     ∙ items-records election files words 4 0 items (λ items. work (end_acts election journal moment device items history)) are
     ∙ flat_map-append records_of (begin_acts journal) (append_acts (done_events history) ++ written)

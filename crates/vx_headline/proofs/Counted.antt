@@ -25,10 +25,11 @@ use Rattle.vx_command.specs.Elections.{election_in, plans_in}
 use Rattle.vx_command.specs.Images.{ScannedImagesAreWhole}
 use Rattle.vx_command.specs.Laws.{TakenElectionsAreValid}
 use Rattle.vx_command.specs.Texts.{broke_off}
+use Rattle.vx_journal.specs.Replay.{replay_of}
 use Rattle.vx_command_count.specs.Margin.{FittingSheetsAreKept, MarkedSheetsSayEachMark, SaysEachMark, header_if_none, key_at}
 use Rattle.vx_words.specs.declared.command.Command.{Command}
 use Rattle.vx_words.specs.Words.{IsSound}
-use Rattle.vx_app.specs.Journals.{AreRuns, IsDoneOf, IsFor, IsRun, Run}
+use Rattle.vx_app.specs.Journals.{IsDoneOf, IsFor, IsRun, Run}
 use Rattle.vx_plane.specs.Plane.{Page}
 use Rattle.vx_count.specs.Turned.{IsWhole}
 use Rattle.vx_election_model.specs.Valid.{IsValid}
@@ -44,11 +45,11 @@ use Rattle.vx_command_center.specs.Histories.{IsHistoryOf}
 use Rattle.vx_command_center.specs.Items.{events_of}
 use Rattle.vx_command_center.specs.Outcome.{center_outcome}
 use Rattle.vx_app.specs.Adding.{AddsWhatFits, FittingSheetsAreInTheirItems}
-use Rattle.vx_headline.specs.Counted.{AddNoOther, CountedBy, Counts, HasRecord, IsItemOf, IsScanned, Shares, events_in_all}
+use Rattle.vx_headline.specs.Counted.{AddNoOther, Counts, HasRecord, IsItemOf, IsScanned, CenterCounts, events_in_all}
 use Rattle.vx_headline.proofs.Centered.{all-records, center-records, scan-there}
 use Rattle.vx_headline.proofs.FirstDone.{IsDoneEvent, first-done, legal-from}
+use Rattle.vx_headline.proofs.Replayed.{front, kept-as}
 use Rattle.vx_headline.proofs.Mixed.{as-many, comes, is-of, total}
-use Rattle.vx_headline.proofs.Runs.{all-add}
 
 pub record CountLaws : Type 0 where
   pub valid : TakenElectionsAreValid
@@ -87,7 +88,8 @@ behind-first (header ∷ left) n body h =
     record { header = header; front = rest.front; behind = rest.behind; are = ap (λ (some : List (List ℕ)). header ∷ some) rest.are }
 
 -- behind records and the header, if there was none, a list stands behind the first
-begins : (election : Election) (records before behind : List (List ℕ)) (body : List ℕ) → StandsBehind (records ++ (header_if_none election records ++ (before ++ body ∷ behind))) body
+begins : (election : Election) (records before behind : List (List ℕ)) (body : List ℕ)
+    → StandsBehind (records ++ (header_if_none election records ++ (before ++ body ∷ behind))) body
 begins election [] before behind body = record { header = header_of election; front = before; behind = behind; are = refl }
 begins election (header ∷ records) before behind body = record {
   header = header;
@@ -96,21 +98,13 @@ begins election (header ∷ records) before behind body = record {
   are = ap (λ (some : List (List ℕ)). header ∷ some) (sym (append_assoc records before (body ∷ behind)));
 }
 
--- more records come behind
-more-behind : (left : List (List ℕ)) (body : List ℕ) (now more : List (List ℕ)) → now ≡ left ++ more → StandsBehind left body → StandsBehind now body
-more-behind left body now more are stands = record {
-  header = stands.header;
-  front = stands.front;
-  behind = stands.behind ++ more;
-  are = are ∙ ap (λ (some : List (List ℕ)). some ++ more) stands.are ∙ append_assoc (stands.header ∷ stands.front) (body ∷ stands.behind) more;
-}
-
 -- what holds of all holds of one
 item-at : {X : Type 0} (P : X → Type 0) (xs : List X) → All P xs → (n : ℕ) (x : X) → slice_get xs n ≡ Some x → P x
 item-at P xs all n x at = subst P (get_or_from_slice_get xs n x x at) (all n x (slice_get_within xs n x at))
 
 -- the call of an event, and the element that was mapped
-called : (history : List Entry) (n : ℕ) (event : Event) → slice_get (events_in history) n ≡ Some event → (place : ℕ) × (call : Entry) × ((slice_get history place ≡ Some call) × (call.event ≡ event))
+called : (history : List Entry) (n : ℕ) (event : Event) → slice_get (events_in history) n ≡ Some event
+    → (place : ℕ) × (call : Entry) × ((slice_get history place ≡ Some call) × (call.event ≡ event))
 called [] n event h = absurd cc
 called (call ∷ history) zero event h = (0, call, (refl, same_Some call.event event h))
 called (call ∷ history) (suc n) event h = let rest = called history n event h in (suc rest.0, rest.1, rest.2)
@@ -139,13 +133,16 @@ module _ (laws : CountLaws) (election : Election) (key : Key) (sheet : MarkedShe
     pub back : SaysEachMark (sheet_marked sheet) sheet.back_plan sheet.back_marks
 
   -- so of two images that fit it
-  known : IsValid election → (batch : List ℕ) → is_batch batch ≡ true → (place : ℕ) → key ≡ key_at batch place → (first second : Page) → IsWhole first → IsWhole second → FitsSheet election first second sheet → place + 1 ≤ number_limit → IsKnown
+  known : IsValid election → (batch : List ℕ) → is_batch batch ≡ true → (place : ℕ) → key ≡ key_at batch place → (first second : Page) → IsWhole first
+      → IsWhole second → FitsSheet election first second sheet → place + 1 ≤ number_limit → IsKnown
   known valid batch in_range place key_is first second first_whole second_whole fits numbered =
       let is_read = laws.read election 0 first second sheet valid first_whole second_whole fits in
-      let made : event_of batch (place + 1) (sheet_read election 0 (reading_of election first) (reading_of election second)) ≡ Ok (Add (key_at batch place) (sheet_marked sheet)) =
+      let made : event_of batch (place + 1) (sheet_read election 0 (reading_of election first) (reading_of election second)) ≡ Ok
+      (Add (key_at batch place) (sheet_marked sheet)) =
       ap (event_of batch (place + 1)) is_read
       ∙ ap (λ (b : Bool). cond b (Err Beyond) (Ok (Add (key_at batch place) (sheet_marked sheet)))) (below-no number_limit (place + 1) numbered) in
-      let keepable = laws.keepable election batch (place + 1) 0 first second (Add (key_at batch place) (sheet_marked sheet)) valid in_range (omega arith) made in
+      let keepable = laws.keepable election batch (place + 1) 0 first second (Add (key_at batch place) (sheet_marked sheet)) valid in_range (omega arith)
+      made in
       let back : event_in (record_of (Add (key_at batch place) (sheet_marked sheet))) ≡ Ok (Add (key_at batch place) (sheet_marked sheet)) =
       laws.records.given_back (Add (key_at batch place) (sheet_marked sheet)) keepable.held in
       let Back : Key → Type 0 = λ some. event_in (record_of (Add some (sheet_marked sheet))) ≡ Ok (Add some (sheet_marked sheet)) in
@@ -153,10 +150,10 @@ module _ (laws : CountLaws) (election : Election) (key : Key) (sheet : MarkedShe
       record { read = subst Back (sym key_is) back; front = says.0; back = says.1 }
 
   module _ (records : List (List ℕ)) (one : Run) (run : IsRun election records one) (place : ℕ) (s : IsScanned election one key sheet place) where
-    named : election_in (one.files s.name) ≡ Ok election
+    pub named : election_in (one.files s.name) ≡ Ok election
     named = let For : Command → Type 0 = λ command. IsFor command one.files election in subst For s.is_count run.for_it
 
-    scanned-known : IsKnown
+    pub scanned-known : IsKnown
     scanned-known =
         let Sound : Command → Type 0 = λ command. IsSound run.spelled.device command in
         let sound = subst Sound s.is_count run.spelled.sound in
@@ -170,11 +167,9 @@ module _ (laws : CountLaws) (election : Election) (key : Key) (sheet : MarkedShe
       (let same : suc has.before ≡ has.before + 1 = omega arith in ap (slice_get left) same) ∙ has.stands in
       behind-first left has.before (record_of the-event) at
 
-  one-stands : (records : List (List ℕ)) (one : Run) → IsRun election records one → (counts : Counts election records one key sheet) → (broke_off one.answer ≡ false) ⊎ HasRecord one.left key sheet → StandsBehind one.left (record_of the-event)
-  one-stands records one run counts (inr has) =
-      let at : slice_get one.left (suc has.before) ≡ Some (record_of the-event) =
-      (let same : suc has.before ≡ has.before + 1 = omega arith in ap (slice_get one.left) same) ∙ has.stands in
-      behind-first one.left has.before (record_of the-event) at
+  pub one-stands : (records : List (List ℕ)) (one : Run) → IsRun election records one → (counts : Counts election records one key sheet)
+      → (broke_off one.answer ≡ false) ⊎ HasRecord one.left key sheet → StandsBehind one.left (record_of the-event)
+  one-stands records one run counts (inr has) = has-stands one.left has
   one-stands records one run counts (inl unbroken) =
       let s = counts.scanned in
       let place = counts.place in
@@ -184,28 +179,61 @@ module _ (laws : CountLaws) (election : Election) (key : Key) (sheet : MarkedShe
       let New : Key → Type 0 = λ some. place_in counts.before some ≡ None in
       let keeps =
       laws.kept s.name s.batch s.scans one.files records one.taken one.taken_now (Some records) (Some one.left) one.answer done election plans.0 counts.before
-      (named records one run place s) plans.1 counts.replays place s.first s.second sheet s.first_is s.second_is s.fits s.numbered (subst New s.key_is counts.is_new.new) in
+      (named records one run place s) plans.1 counts.replays place s.first s.second sheet s.first_is s.second_is s.fits s.numbered
+      (subst New s.key_is counts.is_new.new) in
       let stands = keeps.stands (let room = counts.is_new.room in let few = keeps.few in omega (arith, room, few)) in
       let body = record_of (Add (key_at s.batch place) (sheet_marked sheet)) in
       let list = header_if_none election records ++ (keeps.before ++ keeps.behind) in
-      let all : list ≡ keeps.kept.front = keeps.kept.are ∙ ap (λ (some : List (List ℕ)). keeps.kept.front ++ some) (keeps.kept.whole unbroken) ∙ append-nil keeps.kept.front in
+      let all : list ≡ keeps.kept.front = keeps.kept.are ∙ ap (λ (some : List (List ℕ)). keeps.kept.front ++ some) (keeps.kept.whole unbroken)
+      ∙ append-nil keeps.kept.front in
       let left : one.left ≡ records ++ (header_if_none election records ++ (keeps.before ++ body ∷ stands.0)) =
       same_Some one.left (records ++ keeps.kept.front) keeps.kept.kept
       ∙ ap (λ (some : List (List ℕ)). records ++ some) (sym all)
       ∙ ap (λ (some : List (List ℕ)). records ++ (header_if_none election records ++ (keeps.before ++ some))) stands.1 in
-      let here : StandsBehind one.left body = let Stands : List (List ℕ) → Type 0 = λ some. StandsBehind some body in subst Stands (sym left) (begins election records keeps.before stands.0 body) in
+      let Stands : List (List ℕ) → Type 0 = λ some. StandsBehind some body in
+      let here : StandsBehind one.left body = subst Stands (sym left) (begins election records keeps.before stands.0 body) in
       let Own : Key → Type 0 = λ some. StandsBehind one.left (record_of (Add some (sheet_marked sheet))) in
       subst Own (sym s.key_is) here
 
+  -- an event adds the sheet
+  pub record IsAddedIn (kept : List Event) : Type 0 where
+    pub before : List Event
+    pub more : List Event
+    pub are : kept ≡ before ++ the-event ∷ more
+
   pub record IsCounted (left : List (List ℕ)) : Type 0 where
     pub known : IsKnown
-    pub stands : StandsBehind left (record_of the-event)
+    pub added : (kept : List Event) → replay_of election left ≡ Ok kept → IsAddedIn kept
 
-  one-counted : (records : List (List ℕ)) (one : Run) → IsRun election records one → Counts election records one key sheet → IsCounted one.left
-  one-counted records one run counts = record {
-    known = scanned-known records one run counts.place counts.scanned;
-    stands = one-stands records one run counts counts.whole;
+  -- where its record stands, it does
+  from-record : (left : List (List ℕ)) → IsKnown → StandsBehind left (record_of the-event) → IsCounted left
+  from-record left known stands = record {
+    known = known;
+    added = λ kept replays.
+        (let Replays : List (List ℕ) → Type 0 = λ some. replay_of election some ≡ Ok kept in
+        let seam = kept-as election stands.header stands.front (record_of the-event) stands.behind the-event kept known.read
+        (subst Replays stands.are replays) in
+        record { before = seam.events; more = seam.more; are = seam.is });
   }
+
+  -- and with more records behind
+  pub later-counted : (left more now : List (List ℕ)) → now ≡ left ++ more → IsCounted left → IsCounted now
+  later-counted left more now are it = record {
+    known = it.known;
+    added = λ kept replays.
+        (let Replays : List (List ℕ) → Type 0 = λ some. replay_of election some ≡ Ok kept in
+        let first = front election left more kept (subst Replays are replays) in
+        let here = it.added first.events first.replays in
+        record {
+          before = here.before;
+          more = here.more ++ first.more;
+          are = first.is ∙ ap (λ (some : List Event). some ++ first.more) here.are ∙ append_assoc here.before (the-event ∷ here.more) first.more;
+        });
+  }
+
+  pub one-counted : (records : List (List ℕ)) (one : Run) → IsRun election records one → Counts election records one key sheet → IsCounted one.left
+  one-counted records one run counts =
+      from-record one.left (scanned-known records one run counts.place counts.scanned) (one-stands records one run counts counts.whole)
 
   -- a `center`
   module _ (records : List (List ℕ)) (one : Run) (run : IsRun election records one) (items : List Item) (s : IsItemOf election one key sheet items) where
@@ -223,11 +251,13 @@ module _ (laws : CountLaws) (election : Election) (key : Key) (sheet : MarkedShe
         (whole (2 * s.place) s.first s.first_is).whole (whole (2 * s.place + 1) s.second s.second_is).whole s.fits s.numbered
 
     -- its event is done in the history
-    item-done : (before : List Event) (history : List Entry) → IsHistoryOf election before items history → place_in before key ≡ None → AddNoOther election items key sheet → length before + events_in_all election items ≤ event_limit
+    item-done : (before : List Event) (history : List Entry) → IsHistoryOf election before items history → place_in before key ≡ None
+        → AddNoOther election items key sheet → length before + events_in_all election items ≤ event_limit
         → IsDoneEvent history the-event
     item-done before history of_items new no_other room =
         let scan = scan-there election one.files s.words 4 0 s.item items s.batch s.file s.bytes s.are_items s.is_scan s.is_file in
-        let adds = item-at (AddsWhatFits election) items (laws.adds s.name s.words one.files election items center-named s.are_items) s.item (Scanned s.batch s.bytes scan.0) scan.1 in
+        let adds = item-at (AddsWhatFits election) items (laws.adds s.name s.words one.files election items center-named s.are_items) s.item
+        (Scanned s.batch s.bytes scan.0) scan.1 in
         let sheets = adds s.place s.first s.second sheet s.first_is s.second_is s.fits s.numbered in
         let lists = map (events_of election) items in
         let list = events_of election (Scanned s.batch s.bytes scan.0) in
@@ -251,7 +281,8 @@ module _ (laws : CountLaws) (election : Election) (key : Key) (sheet : MarkedShe
         no_other from.place from.n item.0 other item.1 (ap (λ (some : List Event). slice_get some from.n) item.2 ∙ from.on))
         call.0 call.1 call.2.0 call.2.1
 
-  item-stands : (records : List (List ℕ)) (one : Run) → IsRun election records one → (shares : Shares election records one key sheet) → (broke_off one.answer ≡ false) ⊎ HasRecord one.left key sheet → StandsBehind one.left (record_of the-event)
+  item-stands : (records : List (List ℕ)) (one : Run) → IsRun election records one → (shares : CenterCounts election records one key sheet)
+      → (broke_off one.answer ≡ false) ⊎ HasRecord one.left key sheet → StandsBehind one.left (record_of the-event)
   item-stands records one run shares (inr has) = has-stands one.left has
   item-stands records one run shares (inl unbroken) =
       let s = shares.is_item in
@@ -263,27 +294,21 @@ module _ (laws : CountLaws) (election : Election) (key : Key) (sheet : MarkedShe
       let done = item-done records one run shares.items s shares.before centers.history of_items shares.new shares.no_other shares.room in
       let body = record_of the-event in
       let left : one.left ≡ records ++ (header_if_none election records ++ (map record_of done.front ++ body ∷ map record_of done.back)) =
-      all-records (center_outcome s.name s.moment s.device s.words one.files records centers.history) one.taken one.taken_now records one.left one.answer centers.done unbroken
+      all-records (center_outcome s.name s.moment s.device s.words one.files records centers.history) one.taken one.taken_now records one.left one.answer
+      centers.done unbroken
       ∙ ap (λ (some : List (List ℕ)). records ++ some)
-      (center-records s.name s.moment s.device s.words one.files records centers.history election plans.0 shares.before shares.items named plans.1 shares.replays s.are_items
-      ∙ ap (λ (some : List (List ℕ)). header_if_none election records ++ some) (ap (map record_of) done.are ∙ map-append record_of done.front (the-event ∷ done.back))) in
+      (center-records s.name s.moment s.device s.words one.files records centers.history election plans.0 shares.before shares.items named plans.1
+      shares.replays s.are_items
+      ∙ ap (λ (some : List (List ℕ)). header_if_none election records ++ some)
+      (ap (map record_of) done.are ∙ map-append record_of done.front (the-event ∷ done.back))) in
       let Stands : List (List ℕ) → Type 0 = λ some. StandsBehind some body in
       subst Stands (sym left) (begins election records (map record_of done.front) (map record_of done.back) body)
 
-  one-shared : (records : List (List ℕ)) (one : Run) → IsRun election records one → Shares election records one key sheet → IsCounted one.left
-  one-shared records one run shares = record {
-    known = item-known records one run shares.items shares.is_item;
-    stands = item-stands records one run shares shares.whole;
-  }
+  one-shared : (records : List (List ℕ)) (one : Run) → IsRun election records one → CenterCounts election records one key sheet → IsCounted one.left
+  one-shared records one run shares =
+      from-record one.left (item-known records one run shares.items shares.is_item) (item-stands records one run shares shares.whole)
 
-  either-counted : (records : List (List ℕ)) (one : Run) → IsRun election records one → Counts election records one key sheet ⊎ Shares election records one key sheet → IsCounted one.left
+  pub either-counted : (records : List (List ℕ)) (one : Run) → IsRun election records one
+      → Counts election records one key sheet ⊎ CenterCounts election records one key sheet → IsCounted one.left
   either-counted records one run (inl counts) = one-counted records one run counts
   either-counted records one run (inr shares) = one-shared records one run shares
-
-  pub counted : (records : List (List ℕ)) (runs : List Run) (left : List (List ℕ)) → AreRuns election records runs left → CountedBy election records runs key sheet → IsCounted left
-  counted records [] left are h = elim h [ ]
-  counted records (one ∷ runs) left are (inl here) =
-      let it = either-counted records one are.0 here in
-      let further = all-add election one.left runs left are.1 in
-      record { known = it.known; stands = more-behind one.left (record_of the-event) left further.more further.are it.stands }
-  counted records (one ∷ runs) left are (inr later) = counted one.left runs left are.1 later

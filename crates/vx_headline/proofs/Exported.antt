@@ -8,7 +8,6 @@ use Rattle.vx_rules.specs.declared.marks.ContestMarks.{ContestMarks}
 use Rattle.vx_rules.specs.declared.marks.SheetMarks.{SheetMarks}
 use Rattle.vx_rules.specs.Reasons.{is_blank_sheet}
 use Rattle.vx_events.specs.declared.event.Event.{Event}
-use Rattle.vx_events.specs.declared.event.Event.TheVariants.{Add}
 use Rattle.vx_events.specs.declared.key.Key.{Key}
 use Rattle.vx_sheet.specs.Margin.{MarkedSheet, sheet_marked}
 use Rattle.vx_sheet.specs.Sheet.{contest_limit}
@@ -21,16 +20,19 @@ use Rattle.vx_center.specs.Sheets.{Added, sheet_in}
 use Rattle.vx_center.specs.Shown.{ShowsWhatWasKept}
 use Rattle.vx_center.specs.Waiting.{exports_by}
 use Rattle.vx_cvr.specs.Report.{report_of}
+use Rattle.vx_journal.specs.Laws.{JournalsStay}
+use Rattle.vx_command_count.specs.Laws.{CountKeepsJournals}
 use Rattle.vx_command_export.specs.Laws.{ExportsWriteWhatWasKept}
 use Rattle.vx_journal.specs.Replay.{replay_of}
 use Rattle.vx_words.specs.declared.command.Command.{Command}
 use Rattle.vx_app.specs.Journals.{AreRuns, IsDoneOf, IsFor, Run}
 use Rattle.vx_headline.specs.Counted.{AddedBy, HasSheet}
 use Rattle.vx_headline.specs.Exported.{IsExport, MarkedPagesAreExported, StandsMarked, final_if}
-use Rattle.vx_headline.proofs.Counted.{CountLaws, IsCounted, counted}
+use Rattle.vx_headline.proofs.Again.{counted}
+use Rattle.vx_headline.proofs.Counted.{CountLaws, IsCounted}
 use Rattle.vx_headline.proofs.Marked.{once}
-use Rattle.vx_headline.proofs.Replayed.{front, kept-as}
-use Rattle.vx_headline.proofs.Rows.{one-row}
+use Rattle.vx_headline.proofs.Replayed.{front}
+use Rattle.vx_headline.proofs.Rows.{one-row, row-added}
 use Rattle.vx_headline.proofs.Runs.{all-add}
 use Rattle.vx_headline.proofs.Sheets.{alone, still-there}
 
@@ -44,14 +46,16 @@ none-if true = refl
 none-if false = refl
 
 final-own : (election : Election) (kept : List Event) (added : Added) (marks : ContestMarks) (contest : ℕ)
-    → filter (λ (final : Final). final.contest == contest) (final_if election kept added marks) ≡ cond (marks.contest == contest) (final_if election kept added marks) []
+    → filter (λ (final : Final). final.contest == contest) (final_if election kept added marks) ≡ cond (marks.contest == contest)
+    (final_if election kept added marks) []
 final-own election kept added marks contest =
     by (exports_by election (is_blank_sheet added.sheet) (decided_of kept added.key) marks) (slice_get election.contests marks.contest)
   where
     of : Option Contest → List Final
     of found = final_in marks (decisions_on marks.contest (decided_of kept added.key)) found
 
-    by : (b : Bool) (found : Option Contest) → filter (λ (final : Final). final.contest == contest) (cond b (of found) []) ≡ cond (marks.contest == contest) (cond b (of found) []) []
+    by : (b : Bool) (found : Option Contest)
+        → filter (λ (final : Final). final.contest == contest) (cond b (of found) []) ≡ cond (marks.contest == contest) (cond b (of found) []) []
     by true None = sym (none-if (marks.contest == contest))
     by true (Some found) = refl
     by false found = sym (none-if (marks.contest == contest))
@@ -62,10 +66,8 @@ module _ (laws : CountLaws) (own : SheetsHaveOwnKeys) (election : Election) wher
     stands-marked : (left : List (List ℕ)) → replay_of election left ≡ Ok kept → (key : Key) (sheet : MarkedSheet) → IsCounted laws election key sheet left
         → (added : Added) × StandsMarked election kept key sheet added
     stands-marked left replays key sheet it =
-        let stands = it.stands in
-        let Replays : List (List ℕ) → Type 0 = λ some. replay_of election some ≡ Ok kept in
-        let seam = kept-as election stands.header stands.front _ stands.behind (Add key (sheet_marked sheet)) kept it.known.read (subst Replays stands.are replays) in
-        let only = alone own election seam.events seam.more key (sheet_marked sheet) kept seam.is history in
+        let seam = it.added kept replays in
+        let only = alone own election seam.before seam.more key (sheet_marked sheet) kept seam.are history in
         let added : Added = record { at = _; key = key; sheet = sheet_marked sheet } in (
           added,
           record {
@@ -76,12 +78,14 @@ module _ (laws : CountLaws) (own : SheetsHaveOwnKeys) (election : Election) wher
             one_sheet = only;
             one_row = one-row election kept key added only;
             contests = λ place marks there.
-                (once (λ (final : Final). final.contest) (final_if election kept added) sheet (final-own election kept added) 0 contest_limit place marks there).1;
+                (once (λ (final : Final). final.contest) (final_if election kept added) sheet (final-own election kept added) 0 contest_limit place marks
+                there).1;
           },
         )
 
   -- a sheet that was there at some time is there still
-  has-still : (records more left : List (List ℕ)) (kept : List Event) (key : Key) (sheet : SheetMarks) → left ≡ records ++ more → replay_of election left ≡ Ok kept → HasSheet election records key sheet → sheet_in kept key ≡ Some sheet
+  has-still : (records more left : List (List ℕ)) (kept : List Event) (key : Key) (sheet : SheetMarks) → left ≡ records ++ more
+      → replay_of election left ≡ Ok kept → HasSheet election records key sheet → sheet_in kept key ≡ Some sheet
   has-still records more left kept key sheet are replays has =
       let Replays : List (List ℕ) → Type 0 = λ some. replay_of election some ≡ Ok kept in
       let first = front election records more kept (subst Replays are replays) in
@@ -89,7 +93,8 @@ module _ (laws : CountLaws) (own : SheetsHaveOwnKeys) (election : Election) wher
       let In : List Event → Type 0 = λ events. sheet_in events key ≡ Some sheet in
       subst In (ap (λ (some : List Event). some ++ first.more) (sym same) ∙ sym first.is) (still-there has.events first.more key sheet has.there)
 
-  added-still : (records : List (List ℕ)) (runs : List Run) (left : List (List ℕ)) (kept : List Event) (key : Key) (sheet : SheetMarks) → AreRuns election records runs left → replay_of election left ≡ Ok kept → AddedBy election records runs key sheet → sheet_in kept key ≡ Some sheet
+  added-still : (records : List (List ℕ)) (runs : List Run) (left : List (List ℕ)) (kept : List Event) (key : Key) (sheet : SheetMarks)
+      → AreRuns election records runs left → replay_of election left ≡ Ok kept → AddedBy election records runs key sheet → sheet_in kept key ≡ Some sheet
   added-still records [] left kept key sheet are replays has =
       let adds = all-add election records [] left are in
       has-still records adds.more left kept key sheet adds.are replays has
@@ -106,7 +111,8 @@ module _ (laws : CountLaws) (own : SheetsHaveOwnKeys) (election : Election) wher
     pub report : Took last.taken last.taken_now (report_of own_election kept moment device)
     pub shows : ShowsWhatWasKept own_election kept
 
-  wrote : ExportsWriteWhatWasKept → (runs : List Run) (left : List (List ℕ)) (last : Run) (moment device : List ℕ) → IsExport election runs left last moment device → Wrote left last moment device election
+  wrote : ExportsWriteWhatWasKept → (runs : List Run) (left : List (List ℕ)) (last : Run) (moment device : List ℕ)
+      → IsExport election runs left last moment device → Wrote left last moment device election
   wrote exported runs left last moment device it =
       let For : Command → Type 0 = λ command. IsFor command last.files election in
       let named = subst For it.is_export it.is_run.for_it in
@@ -117,8 +123,8 @@ module _ (laws : CountLaws) (own : SheetsHaveOwnKeys) (election : Election) wher
       let Of : Election → Type 0 = λ some. Wrote left last moment device some in
       subst Of same (record { kept = all.events; are_kept = all.are_kept; history = all.history; report = all.report; shows = all.shows })
 
-pub exports : CountLaws → SheetsHaveOwnKeys → ExportsWriteWhatWasKept → MarkedPagesAreExported
-exports laws own exported election runs left last moment device it =
+pub exports : CountLaws → SheetsHaveOwnKeys → ExportsWriteWhatWasKept → CountKeepsJournals → JournalsStay → MarkedPagesAreExported
+exports laws own exported keeps stays election runs left last moment device it =
     let all = wrote laws own election exported runs left last moment device it in
     record {
       kept = all.kept;
@@ -126,6 +132,10 @@ exports laws own exported election runs left last moment device it =
       history = all.history;
       report = all.report;
       shows = all.shows;
-      marked = λ key sheet by. stands-marked laws own election all.kept all.history left all.are_kept key sheet (counted laws election key sheet [] runs left it.are_runs by);
+      rows = λ n row at.
+          (let it = row-added election all.kept n row at in
+          record { place = it.0; added = it.1; is_added = it.2.0; is_row = it.2.1 });
+      marked = λ key sheet by. stands-marked laws own election all.kept all.history left all.are_kept key sheet
+          (counted laws own exported keeps stays election key sheet [] runs left it.are_runs by);
       first = λ key sheet by. added-still laws own election [] runs left all.kept key sheet it.are_runs all.are_kept by;
     }

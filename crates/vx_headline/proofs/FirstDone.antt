@@ -18,7 +18,8 @@ use Rattle.vx_shared.specs.Legal.{done_events, done_of}
 use Rattle.vx_headline.proofs.Sheets.{added-append, same-equal}
 
 -- none passes, and the one behind doesn't either
-none-pushed : {X : Type 0} (test : X → Bool) (n : ℕ) (xs : List X) (x : X) → position_from test n xs ≡ None → test x ≡ false → position_from test n (xs ++ x ∷ []) ≡ None
+none-pushed : {X : Type 0} (test : X → Bool) (n : ℕ) (xs : List X) (x : X) → position_from test n xs ≡ None → test x ≡ false
+    → position_from test n (xs ++ x ∷ []) ≡ None
 none-pushed test n [] x none not = ap (λ (b : Bool). cond b (Some n) None) not
 none-pushed {X} test n (y ∷ xs) x none not = by (test y) (none-pushed test (n + 1) xs x) none
   where
@@ -32,12 +33,15 @@ abbrev pub LegalFrom : Election → List Event → List Entry → Type 0
 LegalFrom election kept [] = Unit {0}
 LegalFrom election kept (call ∷ calls) = (call.reply ≡ reply_of election kept call.event) × LegalFrom election (kept ++ done_of call) calls
 
-pub legal-from : (election : Election) (calls : List Entry) (kept : List Event) → ((place : ℕ) (call : Entry) → slice_get calls place ≡ Some call → call.reply ≡ reply_of election (kept ++ done_events (take place calls)) call.event) → LegalFrom election kept calls
+pub legal-from : (election : Election) (calls : List Entry) (kept : List Event)
+    → ((place : ℕ) (call : Entry) → slice_get calls place ≡ Some call → call.reply ≡ reply_of election (kept ++ done_events (take place calls)) call.event)
+    → LegalFrom election kept calls
 legal-from election [] kept legal = tt
 legal-from election (call ∷ calls) kept legal = (
   legal 0 call refl ∙ ap (λ (events : List Event). reply_of election events call.event) (append-nil kept),
   legal-from election calls (kept ++ done_of call)
-      (λ place one at. legal (suc place) one at ∙ ap (λ (events : List Event). reply_of election events one.event) (sym (append_assoc kept (done_of call) (done_events (take place calls))))),
+      (λ place one at. legal (suc place) one at
+      ∙ ap (λ (events : List Event). reply_of election events one.event) (sym (append_assoc kept (done_of call) (done_events (take place calls))))),
 )
 
 -- an event stands among the done ones
@@ -59,14 +63,18 @@ pushed (y ∷ xs) x = ap suc (pushed xs x)
 
 module _ (election : Election) (key : Key) (sheet : SheetMarks) where
   -- an event that adds nothing under the key
-  still-none : (kept : List Event) (event : Event) → ((n : ℕ) → added_by n event ≡ []) → (b : Bool) → place_in kept key ≡ None → place_in (kept ++ cond b (event ∷ []) []) key ≡ None
+  still-none : (kept : List Event) (event : Event) → ((n : ℕ) → added_by n event ≡ []) → (b : Bool) → place_in kept key ≡ None
+      → place_in (kept ++ cond b (event ∷ []) []) key ≡ None
   still-none kept event none true new =
       ap (position_from (has_key key) 0)
-      (added-append 0 kept (event ∷ []) ∙ ap (λ (some : List Added). sheets_in kept ++ some) (append-nil (added_by (0 + length kept) event) ∙ none (0 + length kept)) ∙ append-nil (sheets_in kept))
+      (added-append 0 kept (event ∷ [])
+      ∙ ap (λ (some : List Added). sheets_in kept ++ some) (append-nil (added_by (0 + length kept) event) ∙ none (0 + length kept))
+      ∙ append-nil (sheets_in kept))
       ∙ new
   still-none kept event none false new = ap (λ (some : List Event). place_in some key) (append-nil kept) ∙ new
 
-  other-key : (kept : List Event) (other : Key) (one : SheetMarks) → same_key key other ≡ false → (b : Bool) → place_in kept key ≡ None → place_in (kept ++ cond b (Add other one ∷ []) []) key ≡ None
+  other-key : (kept : List Event) (other : Key) (one : SheetMarks) → same_key key other ≡ false → (b : Bool) → place_in kept key ≡ None
+      → place_in (kept ++ cond b (Add other one ∷ []) []) key ≡ None
   other-key kept other one not true new =
       ap (position_from (has_key key) 0) (added-append 0 kept (Add other one ∷ []))
       ∙ none-pushed (has_key key) 0 (sheets_in kept) (record { at = 0 + length kept; key = other; sheet = one }) new not
@@ -89,7 +97,8 @@ module _ (election : Election) (key : Key) (sheet : SheetMarks) where
       by false = let size : length (kept ++ []) ≡ length kept = ap length (append-nil kept) in omega (arith, room, size)
 
   -- the first call adds it
-  it-is : (call : Entry) (calls : List Entry) (kept : List Event) → call.reply ≡ reply_of election kept call.event → place_in kept key ≡ None → length kept + suc (length calls) ≤ event_limit
+  it-is : (call : Entry) (calls : List Entry) (kept : List Event) → call.reply ≡ reply_of election kept call.event → place_in kept key ≡ None
+      → length kept + suc (length calls) ≤ event_limit
       → call.event ≡ Add key sheet → IsDoneEvent (call ∷ calls) (Add key sheet)
   it-is call calls kept legal new room same =
       let done : call.reply ≡ Done = legal ∙ ap (reply_of election kept) same ∙ add-done kept new (omega (arith, room)) in
@@ -102,7 +111,8 @@ module _ (election : Election) (key : Key) (sheet : SheetMarks) where
       → (call.event ≡ Add key sheet) ⊎ (place_in (kept ++ done_of call) key ≡ None)
   it-or-other call only kept new = by call.event refl
     where
-      none : (event : Event) → call.event ≡ event → place_in (kept ++ cond (is_done call.reply) (event ∷ []) []) key ≡ None → place_in (kept ++ done_of call) key ≡ None
+      none : (event : Event) → call.event ≡ event → place_in (kept ++ cond (is_done call.reply) (event ∷ []) []) key ≡ None
+          → place_in (kept ++ done_of call) key ≡ None
       none event same h = ap (λ (some : Event). place_in (kept ++ cond (is_done call.reply) (some ∷ []) []) key) same ∙ h
 
       by : (event : Event) → call.event ≡ event → (call.event ≡ Add key sheet) ⊎ (place_in (kept ++ done_of call) key ≡ None)
@@ -116,18 +126,22 @@ module _ (election : Election) (key : Key) (sheet : SheetMarks) where
       by (Claim station other) same = inr (none (Claim station other) same (still-none kept (Claim station other) (λ n. refl) (is_done call.reply) new))
       by (Release station other) same = inr (none (Release station other) same (still-none kept (Release station other) (λ n. refl) (is_done call.reply) new))
       by (Decide station other contest decision) same =
-          inr (none (Decide station other contest decision) same (still-none kept (Decide station other contest decision) (λ n. refl) (is_done call.reply) new))
+          inr (none (Decide station other contest decision) same
+          (still-none kept (Decide station other contest decision) (λ n. refl) (is_done call.reply) new))
 
-  pub first-done : (calls : List Entry) (kept : List Event) → LegalFrom election kept calls → place_in kept key ≡ None → length kept + length calls ≤ event_limit → OnlyIt calls
+  pub first-done : (calls : List Entry) (kept : List Event) → LegalFrom election kept calls → place_in kept key ≡ None
+      → length kept + length calls ≤ event_limit → OnlyIt calls
       → (n : ℕ) (one : Entry) → slice_get calls n ≡ Some one → one.event ≡ Add key sheet → IsDoneEvent calls (Add key sheet)
   first-done [] kept legal new room only n one at is = absurd cc
   first-done (call ∷ calls) kept legal new room only zero one at is =
       it-is call calls kept legal.0 new room (ap (λ (some : Entry). some.event) (same_Some call one at) ∙ is)
   first-done (call ∷ calls) kept legal new room only (suc n) one at is =
       by (it-or-other call (λ other same. only 0 call other refl same) kept new)
-      (λ later. first-done calls (kept ++ done_of call) legal.1 later (shorter kept call (length calls) room) (λ m some other there same. only (suc m) some other there same) n one at is)
+      (λ later. first-done calls (kept ++ done_of call) legal.1 later (shorter kept call (length calls) room)
+      (λ m some other there same. only (suc m) some other there same) n one at is)
     where
-      by : (call.event ≡ Add key sheet) ⊎ (place_in (kept ++ done_of call) key ≡ None) → (place_in (kept ++ done_of call) key ≡ None → IsDoneEvent calls (Add key sheet))
+      by : (call.event ≡ Add key sheet) ⊎ (place_in (kept ++ done_of call) key ≡ None)
+          → (place_in (kept ++ done_of call) key ≡ None → IsDoneEvent calls (Add key sheet))
           → IsDoneEvent (call ∷ calls) (Add key sheet)
       by (inl same) go = it-is call calls kept legal.0 new room same
       by (inr later) go = behind call calls (Add key sheet) (go later)

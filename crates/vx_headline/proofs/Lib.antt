@@ -7,5 +7,6 @@ mod Mixed
 mod FirstDone
 mod Centered
 mod Counted
+mod Again
 mod Exported
 mod Undecided

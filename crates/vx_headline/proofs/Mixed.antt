@@ -22,7 +22,8 @@ apart : (m n : ℕ) → (m == n) ≡ false → m ≡ n → ⊥
 apart m n not same = let yes = equal-yes m n same in cc
 
 -- each event of each list comes
-pub comes : (events : List Event) (lists : List (List Event)) → Interleaving lists events → (p : ℕ) (list : List Event) (m : ℕ) (event : Event) → slice_get lists p ≡ Some list → slice_get list m ≡ Some event → (q : ℕ) × (slice_get events q ≡ Some event)
+pub comes : (events : List Event) (lists : List (List Event)) → Interleaving lists events → (p : ℕ) (list : List Event) (m : ℕ) (event : Event)
+    → slice_get lists p ≡ Some list → slice_get list m ≡ Some event → (q : ℕ) × (slice_get events q ≡ Some event)
 comes [] lists mixed p list m event at on =
     let none : list ≡ [] = sym (get_or_from_slice_get lists p list list at) ∙ mixed p list (slice_get_within lists p list at) in
     let nothing = sym (ap (λ (some : List Event). slice_get some m) none) ∙ on in
@@ -31,7 +32,8 @@ comes (first ∷ events) lists mixed p list m event at on =
     by (p == mixed.0) refl m on (λ p list m event at on. comes events (slice_set lists mixed.0 mixed.1) mixed.2.1 p list m event at on)
   where
     by : (b : Bool) → (p == mixed.0) ≡ b → (m : ℕ) → slice_get list m ≡ Some event
-        → ((p : ℕ) (list : List Event) (m : ℕ) (event : Event) → slice_get (slice_set lists mixed.0 mixed.1) p ≡ Some list → slice_get list m ≡ Some event → (q : ℕ) × (slice_get events q ≡ Some event))
+        → ((p : ℕ) (list : List Event) (m : ℕ) (event : Event) → slice_get (slice_set lists mixed.0 mixed.1) p ≡ Some list → slice_get list m ≡ Some event
+        → (q : ℕ) × (slice_get events q ≡ Some event))
         → (q : ℕ) × (slice_get (first ∷ events) q ≡ Some event)
     by true is m on go =
         let same = equal-from_yes p mixed.0 is in
@@ -39,7 +41,8 @@ comes (first ∷ events) lists mixed p list m event at on =
         head m (ap (λ (some : List Event). slice_get some m) (sym whole) ∙ on) go
       where
         head : (m : ℕ) → slice_get (first ∷ mixed.1) m ≡ Some event
-            → ((p : ℕ) (list : List Event) (m : ℕ) (event : Event) → slice_get (slice_set lists mixed.0 mixed.1) p ≡ Some list → slice_get list m ≡ Some event → (q : ℕ) × (slice_get events q ≡ Some event))
+            → ((p : ℕ) (list : List Event) (m : ℕ) (event : Event) → slice_get (slice_set lists mixed.0 mixed.1) p ≡ Some list
+            → slice_get list m ≡ Some event → (q : ℕ) × (slice_get events q ≡ Some event))
             → (q : ℕ) × (slice_get (first ∷ events) q ≡ Some event)
         head zero on go = (0, on)
         head (suc m) on go =
@@ -57,7 +60,8 @@ pub record IsOf (lists : List (List Event)) (event : Event) : Type 0 where
   pub n : ℕ
   pub on : slice_get list n ≡ Some event
 
-pub is-of : (events : List Event) (lists : List (List Event)) → Interleaving lists events → (q : ℕ) (event : Event) → slice_get events q ≡ Some event → IsOf lists event
+pub is-of : (events : List Event) (lists : List (List Event)) → Interleaving lists events → (q : ℕ) (event : Event) → slice_get events q ≡ Some event
+    → IsOf lists event
 is-of [] lists mixed q event on = absurd cc
 is-of (first ∷ events) lists mixed zero event on = record { place = mixed.0; list = first ∷ mixed.1; at = mixed.2.0; n = 0; on = on }
 is-of (first ∷ events) lists mixed (suc q) event on = back (is-of events (slice_set lists mixed.0 mixed.1) mixed.2.1 q event on)
@@ -69,7 +73,8 @@ is-of (first ∷ events) lists mixed (suc q) event on = back (is-of events (slic
         by true is =
             let same = equal-from_yes it.place mixed.0 is in
             let whole : it.list ≡ mixed.1 =
-            same_Some it.list mixed.1 (sym it.at ∙ ap (slice_get (slice_set lists mixed.0 mixed.1)) same ∙ set-here lists mixed.0 (first ∷ mixed.1) mixed.1 mixed.2.0) in
+            same_Some it.list mixed.1
+            (sym it.at ∙ ap (slice_get (slice_set lists mixed.0 mixed.1)) same ∙ set-here lists mixed.0 (first ∷ mixed.1) mixed.1 mixed.2.0) in
             record {
               place = mixed.0;
               list = first ∷ mixed.1;
@@ -90,7 +95,8 @@ abbrev pub total : List (List Event) → ℕ
 total [] = 0
 total (list ∷ lists) = length list + total lists
 
-one-less : (lists : List (List Event)) (n : ℕ) (event : Event) (more : List Event) → slice_get lists n ≡ Some (event ∷ more) → suc (total (slice_set lists n more)) ≡ total lists
+one-less : (lists : List (List Event)) (n : ℕ) (event : Event) (more : List Event) → slice_get lists n ≡ Some (event ∷ more)
+    → suc (total (slice_set lists n more)) ≡ total lists
 one-less [] n event more h = absurd cc
 one-less (list ∷ lists) zero event more h =
     let size : length list ≡ suc (length more) = ap length (same_Some list (event ∷ more) h) in

@@ -12,7 +12,7 @@ use Rattle.vx_center.specs.Replies.{is_done, reply_of}
 use Rattle.vx_records.specs.Reading.{event_in}
 use Rattle.vx_journal.specs.Replay.{begun_with, kept_with, read_with, replay_from, replay_of, stopped_at, unless_bad}
 
-same-given : {A F : Type 0} (r : Result A F) (x y : A) → r ≡ Ok x → r ≡ Ok y → x ≡ y
+pub same-given : {A F : Type 0} (r : Result A F) (x y : A) → r ≡ Ok x → r ≡ Ok y → x ≡ y
 same-given r x y a b = cc
 
 unstopped : {A : Type 0} (index : ℕ) (read : Result A JournalStop) (x : A) → stopped_at index read ≡ Ok x → read ≡ Ok x
@@ -33,7 +33,8 @@ module _ (election : Election) where
   keeps-one : (kept : List Event) (body : List ℕ) (now : List Event) → read_with election kept body ≡ Ok now → KeepsOne kept body now
   keeps-one kept body now h =
       let event = bind_ok (unless_bad {A = Event} (event_in body)) (kept_with election kept) now h in
-      let fit = chosen-if (fits election event.0) (cond (is_done (reply_of election kept event.0)) (Ok (kept ++ event.0 ∷ [])) (Err (Refused (reply_of election kept event.0)))) Unfit now event.2 in
+      let fit = chosen-if (fits election event.0)
+      (cond (is_done (reply_of election kept event.0)) (Ok (kept ++ event.0 ∷ [])) (Err (Refused (reply_of election kept event.0)))) Unfit now event.2 in
       let done = chosen-if (is_done (reply_of election kept event.0)) (Ok (kept ++ event.0 ∷ [])) (Refused (reply_of election kept event.0)) now fit.1 in
       let same : now ≡ kept ++ event.0 ∷ [] = let is = done.1 in cc in
       record { event = event.0; read = not-bad (event_in body) event.0 event.1; is = same }
@@ -61,7 +62,8 @@ module _ (election : Election) where
     pub first : replay_from election index kept front ≡ Ok middle
     pub rest : replay_from election next middle back ≡ Ok now
 
-  parts : (front back : List (List ℕ)) (index : ℕ) (kept now : List Event) → replay_from election index kept (front ++ back) ≡ Ok now → Parts index kept front back now
+  parts : (front back : List (List ℕ)) (index : ℕ) (kept now : List Event) → replay_from election index kept (front ++ back) ≡ Ok now
+      → Parts index kept front back now
   parts [] back index kept now h = record { middle = kept; next = index; first = refl; rest = h }
   parts (body ∷ front) back index kept now h =
       let step = bind_ok (stopped_at index (read_with election kept body)) (λ some. replay_from election (index + 1) some (front ++ back)) now h in
@@ -80,7 +82,8 @@ module _ (election : Election) where
     pub first : replay_of election front ≡ Ok middle
     pub rest : replay_from election next middle back ≡ Ok now
 
-  begun : (header : List ℕ) (front back : List (List ℕ)) (now : List Event) → replay_of election ((header ∷ front) ++ back) ≡ Ok now → Begun (header ∷ front) back now
+  begun : (header : List ℕ) (front back : List (List ℕ)) (now : List Event) → replay_of election ((header ∷ front) ++ back) ≡ Ok now
+      → Begun (header ∷ front) back now
   begun header front back now h =
       let step = bind_ok (stopped_at 0 (begun_with election header)) (λ some. replay_from election 1 some (front ++ back)) now h in
       let behind = parts front back 1 step.0 now step.2 in
@@ -112,10 +115,12 @@ module _ (election : Election) where
     pub more : List Event
     pub is : now ≡ events ++ event ∷ more
 
-  pub kept-as : (header : List ℕ) (before : List (List ℕ)) (body : List ℕ) (behind : List (List ℕ)) (event : Event) (now : List Event) → event_in body ≡ Ok event → replay_of election ((header ∷ before) ++ body ∷ behind) ≡ Ok now → IsKeptAs (header ∷ before) event now
+  pub kept-as : (header : List ℕ) (before : List (List ℕ)) (body : List ℕ) (behind : List (List ℕ)) (event : Event) (now : List Event)
+      → event_in body ≡ Ok event → replay_of election ((header ∷ before) ++ body ∷ behind) ≡ Ok now → IsKeptAs (header ∷ before) event now
   kept-as header before body behind event now read h =
       let parted = begun header before (body ∷ behind) now h in
-      let step = bind_ok (stopped_at parted.next (read_with election parted.middle body)) (λ some. replay_from election (parted.next + 1) some behind) now parted.rest in
+      let step = bind_ok (stopped_at parted.next (read_with election parted.middle body)) (λ some. replay_from election (parted.next + 1) some behind) now
+      parted.rest in
       let here = keeps-one parted.middle body step.0 (unstopped parted.next (read_with election parted.middle body) step.0 step.1) in
       let same : here.event ≡ event = same-given (event_in body) here.event event here.read read in
       let last = further behind (parted.next + 1) step.0 now step.2 in

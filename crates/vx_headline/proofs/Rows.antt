@@ -1,6 +1,7 @@
 -- A key that one sheet has, one row of the report has: what will be a law of `vx_cvr`.
-use Rattle.std.proofs.Common.{◌≡◌, Bool, true, false, cond, List, [], ◌∷◌, map, refl, ap, ◌∙◌}
-use Rattle.std.specs.Prelude.{filter}
+use Rattle.std.proofs.Common.{◌≡◌, ◌⊎◌, inl, inr, ℕ, zero, suc, Bool, true, false, cond, List, [], ◌∷◌, map, refl, sym, ap, ◌∙◌}
+use Rattle.std.specs.Prelude.{Some, filter, slice_get}
+use Rattle.std.proofs.lemmas.Option.{same_Some}
 use Rattle.std.specs.declared.cmp.Ordering.{Ordering}
 use Rattle.std.specs.declared.cmp.Ordering.TheVariants.{Less, Equal, Greater}
 use Rattle.std.specs.Ordering.{match_ordering}
@@ -63,7 +64,8 @@ module _ (test : ExportSheet → Bool) where
   in_order-one [] one h = h
   in_order-one (row ∷ rows) one h = by (test row) refl (in_order-one rows one) h
     where
-      by : (b : Bool) → test row ≡ b → (filter test rows ≡ one ∷ [] → filter test (in_order rows) ≡ one ∷ []) → cond b (row ∷ filter test rows) (filter test rows) ≡ one ∷ [] → filter test (placed row (in_order rows)) ≡ one ∷ []
+      by : (b : Bool) → test row ≡ b → (filter test rows ≡ one ∷ [] → filter test (in_order rows) ≡ one ∷ [])
+          → cond b (row ∷ filter test rows) (filter test rows) ≡ one ∷ [] → filter test (placed row (in_order rows)) ≡ one ∷ []
       by true is rest h =
           let same : row ≡ one = cc in
           let none : filter test rows ≡ [] = cc in
@@ -76,8 +78,10 @@ rows-keyed : (election : Election) (kept : List Event) (key : Key) (sheets : Lis
 rows-keyed election kept key [] = refl
 rows-keyed election kept key (added ∷ sheets) = by (has_key key added) (rows-keyed election kept key sheets)
   where
-    by : (b : Bool) → filter (λ (row : ExportSheet). same_key key row.key) (map (row_of election kept) sheets) ≡ map (row_of election kept) (filter (has_key key) sheets)
-        → cond b (row_of election kept added ∷ filter (λ (row : ExportSheet). same_key key row.key) (map (row_of election kept) sheets)) (filter (λ (row : ExportSheet). same_key key row.key) (map (row_of election kept) sheets))
+    by : (b : Bool) → filter (λ (row : ExportSheet). same_key key row.key) (map (row_of election kept) sheets) ≡ map (row_of election kept)
+        (filter (has_key key) sheets)
+        → cond b (row_of election kept added ∷ filter (λ (row : ExportSheet). same_key key row.key) (map (row_of election kept) sheets))
+        (filter (λ (row : ExportSheet). same_key key row.key) (map (row_of election kept) sheets))
         ≡ map (row_of election kept) (cond b (added ∷ filter (has_key key) sheets) (filter (has_key key) sheets))
     by true rest = ap (λ (rows : List ExportSheet). row_of election kept added ∷ rows) rest
     by false rest = rest
@@ -87,3 +91,52 @@ pub one-row : (election : Election) (kept : List Event) (key : Key) (added : Add
 one-row election kept key added alone =
     in_order-one (λ (row : ExportSheet). same_key key row.key) (map (row_of election kept) (sheets_in kept)) (row_of election kept added)
     (rows-keyed election kept key (sheets_in kept) ∙ ap (map (row_of election kept)) alone)
+
+-- a row in order is one of the rows
+placed-from : (row : ExportSheet) (rows : List ExportSheet) (n : ℕ) (one : ExportSheet) → slice_get (placed row rows) n ≡ Some one
+    → (row ≡ one) ⊎ ((place : ℕ) × (slice_get rows place ≡ Some one))
+placed-from row [] zero one h = inl (same_Some row one h)
+placed-from row [] (suc n) one h = absurd cc
+placed-from row (other ∷ others) n one h = by (key_order other.key row.key) n h (placed-from row others)
+  where
+    first : (n : ℕ) → slice_get (row ∷ other ∷ others) n ≡ Some one → (row ≡ one) ⊎ ((place : ℕ) × (slice_get (other ∷ others) place ≡ Some one))
+    first zero h = inl (same_Some row one h)
+    first (suc n) h = inr (n, h)
+
+    later : (row ≡ one) ⊎ ((place : ℕ) × (slice_get others place ≡ Some one)) → (row ≡ one) ⊎ ((place : ℕ) × (slice_get (other ∷ others) place ≡ Some one))
+    later (inl same) = inl same
+    later (inr there) = inr (suc there.0, there.1)
+
+    by : (o : Ordering) (n : ℕ)
+        → slice_get (match_ordering o (other ∷ placed row others) (row ∷ other ∷ others) (row ∷ other ∷ others)) n ≡ Some one
+        → ((n : ℕ) (one : ExportSheet) → slice_get (placed row others) n ≡ Some one → (row ≡ one) ⊎ ((place : ℕ) × (slice_get others place ≡ Some one)))
+        → (row ≡ one) ⊎ ((place : ℕ) × (slice_get (other ∷ others) place ≡ Some one))
+    by Less zero h go = inr (0, h)
+    by Less (suc n) h go = later (go n one h)
+    by Equal n h go = first n h
+    by Greater n h go = first n h
+
+in_order-from : (rows : List ExportSheet) (n : ℕ) (one : ExportSheet) → slice_get (in_order rows) n ≡ Some one
+    → (place : ℕ) × (slice_get rows place ≡ Some one)
+in_order-from [] n one h = absurd cc
+in_order-from (row ∷ rows) n one h = by (placed-from row (in_order rows) n one h) (in_order-from rows)
+  where
+    by : (row ≡ one) ⊎ ((place : ℕ) × (slice_get (in_order rows) place ≡ Some one))
+        → ((n : ℕ) (one : ExportSheet) → slice_get (in_order rows) n ≡ Some one → (place : ℕ) × (slice_get rows place ≡ Some one))
+        → (place : ℕ) × (slice_get (row ∷ rows) place ≡ Some one)
+    by (inl same) go = (0, ap Some same)
+    by (inr there) go = let rest = go there.0 one there.1 in (suc rest.0, rest.1)
+
+-- so each is of a sheet that was added
+sheet-of : (election : Election) (kept : List Event) (sheets : List Added) (n : ℕ) (row : ExportSheet)
+    → slice_get (map (row_of election kept) sheets) n ≡ Some row
+    → (place : ℕ) × (added : Added) × ((slice_get sheets place ≡ Some added) × (row ≡ row_of election kept added))
+sheet-of election kept [] n row h = absurd cc
+sheet-of election kept (added ∷ sheets) zero row h = (0, added, (refl, sym (same_Some (row_of election kept added) row h)))
+sheet-of election kept (added ∷ sheets) (suc n) row h = let rest = sheet-of election kept sheets n row h in (suc rest.0, rest.1, rest.2)
+
+pub row-added : (election : Election) (kept : List Event) (n : ℕ) (row : ExportSheet) → slice_get (rows_of election kept) n ≡ Some row
+    → (place : ℕ) × (added : Added) × ((slice_get (sheets_in kept) place ≡ Some added) × (row ≡ row_of election kept added))
+row-added election kept n row h =
+    let at = in_order-from (map (row_of election kept) (sheets_in kept)) n row h in
+    sheet-of election kept (sheets_in kept) at.0 row at.1

@@ -19,12 +19,14 @@ module _ (records left : List (List ℕ)) where
   none : Some left ≡ Some records → Adds records left
   none same = record { more = []; are = same_Some left records same ∙ sym (append-nil records) }
 
-  some : (outcome : Outcome) (taken taken_now : Taken) (answer : Answer) → IsDone outcome taken taken_now (Some records) (Some left) answer → Adds records left
+  some : (outcome : Outcome) (taken taken_now : Taken) (answer : Answer) → IsDone outcome taken taken_now (Some records) (Some left) answer
+      → Adds records left
   some outcome taken taken_now answer done =
       let more = flat_map records_of done.done ++ done.records in
       record { more = more; are = same_Some left (records ++ more) done.kept }
 
-  by : (command : Command) (files : Files) (taken taken_now : Taken) (answer : Answer) → IsDoneOf command files records taken taken_now (Some left) answer → (appends command ≡ false → Some left ≡ Some records) → Adds records left
+  by : (command : Command) (files : Files) (taken taken_now : Taken) (answer : Answer) → IsDoneOf command files records taken taken_now (Some left) answer
+      → (appends command ≡ false → Some left ≡ Some records) → Adds records left
   by (Print name card kind test) files taken taken_now answer done held = none (held refl)
   by (Read name scans) files taken taken_now answer done held = none (held refl)
   by (Check name scans readings) files taken taken_now answer done held = none (held refl)
@@ -38,7 +40,8 @@ module _ (records left : List (List ℕ)) where
 pub one-adds : (election : Election) (records : List (List ℕ)) (one : Run) → IsRun election records one → Adds records one.left
 one-adds election records one run = by records one.left one.command one.files one.taken one.taken_now one.answer run.done run.held
 
-pub all-add : (election : Election) (records : List (List ℕ)) (runs : List Run) (left : List (List ℕ)) → AreRuns election records runs left → Adds records left
+pub all-add : (election : Election) (records : List (List ℕ)) (runs : List Run) (left : List (List ℕ)) → AreRuns election records runs left
+    → Adds records left
 all-add election records [] left are = record { more = []; are = are ∙ sym (append-nil records) }
 all-add election records (one ∷ runs) left are =
     let here = one-adds election records one are.0 in

@@ -27,7 +27,8 @@ same-equal one other h =
     ap₂ (λ (batch : List ℕ) (number : ℕ). record { batch = batch; number = number }) batch number
 
 -- more events add their sheets behind
-pub added-append : (place : ℕ) (events more : List Event) → added_from place (events ++ more) ≡ added_from place events ++ added_from (place + length events) more
+pub added-append : (place : ℕ) (events more : List Event)
+    → added_from place (events ++ more) ≡ added_from place events ++ added_from (place + length events) more
 added-append place [] more =
     let same : place ≡ place + 0 = omega arith in ap (λ n. added_from n more) same
 added-append place (event ∷ events) more =
@@ -52,7 +53,8 @@ within place (Add key sheet ∷ events) zero added h =
 within place (Add key sheet ∷ events) (suc n) added h = one-further place (Add key sheet) events added (within (place + 1) events n added h)
 within place (Claim station key ∷ events) n added h = one-further place (Claim station key) events added (within (place + 1) events n added h)
 within place (Release station key ∷ events) n added h = one-further place (Release station key) events added (within (place + 1) events n added h)
-within place (Decide station key contest decision ∷ events) n added h = one-further place (Decide station key contest decision) events added (within (place + 1) events n added h)
+within place (Decide station key contest decision ∷ events) n added h =
+    one-further place (Decide station key contest decision) events added (within (place + 1) events n added h)
 
 -- none of a list passes
 pub filter-none : {X : Type 0} (test : X → Bool) (xs : List X) → ((n : ℕ) (x : X) → slice_get xs n ≡ Some x → test x ≡ true → ⊥) → filter test xs ≡ []
@@ -78,7 +80,8 @@ pub find-alone : {X : Type 0} (test : X → Bool) (xs : List X) (x : X) → filt
 find-alone test [] x h = absurd cc
 find-alone {X} test (y ∷ xs) x h = by (test y) (find-alone test xs x) h
   where
-    by : (b : Bool) → (filter test xs ≡ x ∷ [] → find test xs ≡ Some x) → cond b (y ∷ filter test xs) (filter test xs) ≡ x ∷ [] → cond b (Some y) (find test xs) ≡ Some x
+    by : (b : Bool) → (filter test xs ≡ x ∷ [] → find test xs ≡ Some x) → cond b (y ∷ filter test xs) (filter test xs) ≡ x ∷ []
+        → cond b (Some y) (find test xs) ≡ Some x
     by true rest h = let same : y ≡ x = cc in ap Some same
     by false rest h = rest h
 

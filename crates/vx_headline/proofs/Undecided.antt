@@ -41,12 +41,14 @@ and-true true h = h
 and-true false h = refl
 
 -- no reason: nothing is marginal, and none is enabled
-module _ (contest : Contest) (states : List State) (blank : Bool) (enabled : ReasonSet) (none : (reason : Reason) → is_reason contest states blank enabled reason ≡ false) where
+module _ (contest : Contest) (states : List State) (blank : Bool) (enabled : ReasonSet)
+    (none : (reason : Reason) → is_reason contest states blank enabled reason ≡ false) where
   not-any : has_any (reasons_of contest states blank enabled) ≡ false
   not-any =
       or-none (test Overvote || test Undervote || test MarginalMark || test BlankBallot) (test WriteIn)
       (or-none (test Overvote || test Undervote || test MarginalMark) (test BlankBallot)
-      (or-none (test Overvote || test Undervote) (test MarginalMark) (or-none (test Overvote) (test Undervote) (none Overvote) (none Undervote)) (none MarginalMark))
+      (or-none (test Overvote || test Undervote) (test MarginalMark) (or-none (test Overvote) (test Undervote) (none Overvote) (none Undervote))
+      (none MarginalMark))
       (none BlankBallot))
       (none WriteIn)
     where
@@ -126,10 +128,12 @@ module _ (contest : Contest) (marks : ContestMarks) where
       ∷ (codes "Undervotes", whole under)
       ∷ (codes "WriteIns", whole (write_ins contest final)) ∷ [])
 
-  in-text : (votes over under : ℕ) → ((option : ℕ) → votes_of contest final option ≡ votes) → overvotes contest final ≡ over → undervotes contest final ≡ under → counted contest final ≡ counted_with votes over under contest final
+  in-text : (votes over under : ℕ) → ((option : ℕ) → votes_of contest final option ≡ votes) → overvotes contest final ≡ over
+      → undervotes contest final ≡ under → counted contest final ≡ counted_with votes over under contest final
   in-text votes over under each is_over is_under =
       ap₂ (λ (selections : List Data) (some : ℕ). shape selections some (undervotes contest final))
-      (map-each (selected contest final) (selected_with votes contest final) final.selected (λ option. ap (λ (some : ℕ). selected_with some contest final option) (each option)))
+      (map-each (selected contest final) (selected_with votes contest final) final.selected
+      (λ option. ap (λ (some : ℕ). selected_with some contest final option) (each option)))
       is_over
       ∙ ap (λ (some : ℕ). shape (map (selected_with votes contest final) final.selected) over some) is_under
 

@@ -102,7 +102,7 @@ AddNoOther election items key sheet =
 -- a `center` counted a sheet over records: the cards of the election can be planned, the key is new and no item adds
 -- another sheet under it, there is room for all events of the items, and the run didn't break off, or not before that
 -- sheet's record; in whichever order the items' events came
-pub record Shares (election : Election) (records : List (List ℕ)) (one : Run) (key : Key) (sheet : MarkedSheet)
+pub record CenterCounts (election : Election) (records : List (List ℕ)) (one : Run) (key : Key) (sheet : MarkedSheet)
     : Type 0 where
   pub items : List Item
   pub is_item : IsItemOf election one key sheet items
@@ -114,11 +114,31 @@ pub record Shares (election : Election) (records : List (List ℕ)) (one : Run) 
   pub room : length before + events_in_all election items ≤ event_limit
   pub whole : (broke_off one.answer ≡ false) ⊎ HasRecord one.left key sheet
 
--- one of these runs did either, the first of which is over records
+-- a `count` scanned a sheet over records, and directly behind it another `count` scanned it again under the same key, as
+-- the same command on the same files does. The first may have broken off anywhere, the second didn't
+pub record Recounts (election : Election) (records : List (List ℕ)) (one : Run) (runs : List Run) (key : Key)
+    (sheet : MarkedSheet) : Type 0 where
+  pub place : ℕ
+  pub scanned : IsScanned election one key sheet place
+  pub again : Run
+  pub further : List Run
+  pub are : runs ≡ again ∷ further
+  pub scanned_again : IsScanned election again key sheet place
+  pub planned : IsOk (plans_in election)
+  pub before : List Event
+  pub replays : replay_of election records ≡ Ok before
+  pub is_new : IsNew before key place
+  pub after : List Event
+  pub replays_after : replay_of election one.left ≡ Ok after
+  pub room : length after + place < event_limit
+  pub whole : broke_off again.answer ≡ false
+
+-- one of these runs counted it, the first of which is over records; or two of them did
 abbrev pub CountedBy : Election → List (List ℕ) → List Run → Key → MarkedSheet → Type 0
 CountedBy election records [] key sheet = ⊥
 CountedBy election records (one ∷ runs) key sheet =
-    (Counts election records one key sheet ⊎ Shares election records one key sheet)
+    ((Counts election records one key sheet ⊎ CenterCounts election records one key sheet)
+    ⊎ Recounts election records one runs key sheet)
     ⊎ CountedBy election one.left runs key sheet
 
 -- records are a journal that keeps a sheet under a key

@@ -6,15 +6,19 @@ ghost use Rattle.vx_headline.specs.Undecided.{UndecidedContestsAreExportedAsMark
 use vx_app::fitting_sheets_are_in_their_items;
 use vx_center::sheets_have_own_keys;
 use vx_command::{scanned_images_are_whole, taken_elections_are_valid};
-use vx_command_count::{fitting_sheets_are_kept, marked_sheets_say_each_mark};
+use vx_command_count::{
+    count_keeps_journals, fitting_sheets_are_kept, marked_sheets_say_each_mark,
+};
 use vx_command_export::exports_write_what_was_kept;
+use vx_journal::journals_stay;
 use vx_pbm::images_are_whole;
 use vx_records::records_are_read;
 use vx_sheet::{fitting_sheets_are_read, sheet_events_are_keepable};
 
 /// Of every export that ended well, behind whatever runs for its election: all that it wrote is the report of a
-/// history that the journal keeps. Each sheet that one of the runs counted stands there with exactly its marks, and
-/// each of its contests in its row where it is exported, with the last decisions applied.
+/// history that the journal keeps. Each sheet that a run counted, or two of them of which the first broke off, stands
+/// there with exactly its marks, and each of its contests in its row where it is exported, with the last decisions
+/// applied.
 pub fn marked_pages_are_exported()
     ensures { MarkedPagesAreExported }
 {
@@ -29,6 +33,8 @@ pub fn marked_pages_are_exported()
     fitting_sheets_are_in_their_items();
     sheets_have_own_keys();
     exports_write_what_was_kept();
+    count_keeps_journals();
+    journals_stay();
 }
 
 /// A contest of such a sheet of which no decision is kept, and for which no reason is enabled, stands in the

@@ -1,8 +1,9 @@
 //! The headline: what stands from the marks on the pages to the bytes that an export writes. There is no work here;
 //! the contracts are laws.
 //!
-//! `specs/Counted.antt` says which sheets runs of the program counted, and `specs/Exported.antt` what an export
-//! behind those runs writes of them. It rests on the laws of the crates below: a scan that fits its page is read as
+//! `specs/Counted.antt` says which sheets runs of the program counted, `specs/Exported.antt` what an export behind
+//! those runs writes of them, and `specs/Undecided.antt` what it writes of their contests without a decision, in the
+//! numbers of the text. It rests on the laws of the crates below: a scan that fits its page is read as
 //! it was marked (`vx_scan_model`, `vx_sheet`), `count` keeps what it read (`vx_command_count`), runs leave
 //! journals (`vx_app`), and `export` writes what a journal keeps (`vx_command_export`, `vx_center`).
 #![tactic(auto)]

@@ -15,4 +15,4 @@ returns c =
       images = c.images_are_whole.ensures;
       adds = c.fitting_sheets_are_in_their_items.ensures;
     } in
-    exports laws c.sheets_have_own_keys.ensures c.exports_write_what_was_kept.ensures
+    exports laws c.sheets_have_own_keys.ensures c.exports_write_what_was_kept.ensures c.count_keeps_journals.ensures c.journals_stay.ensures
