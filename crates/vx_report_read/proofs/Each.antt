@@ -22,6 +22,14 @@ module _ {X : Type 0} where
   each-weaker P Q [] to each = tt
   each-weaker P Q (x ∷ xs) to each = (to x each.0, each-weaker P Q xs to each.1)
 
+  pub each-any : (P : X → Type 0) (xs : List X) → ((x : X) → P x) → AllByRecursion P xs
+  each-any P [] all = tt
+  each-any P (x ∷ xs) all = (all x, each-any P xs all)
+
+  pub each-both : (P Q R : X → Type 0) (xs : List X) → ((x : X) → P x → Q x → R x) → AllByRecursion P xs → AllByRecursion Q xs → AllByRecursion R xs
+  each-both P Q R [] to first second = tt
+  each-both P Q R (x ∷ xs) to first second = (to x first.0 second.0, each-both P Q R xs to first.1 second.1)
+
   pub each-append : (P : X → Type 0) (xs ys : List X) → AllByRecursion P xs → AllByRecursion P ys → AllByRecursion P (xs ++ ys)
   each-append P [] ys first second = second
   each-append P (x ∷ xs) ys first second = (first.0, each-append P xs ys first.1 second)

@@ -119,6 +119,7 @@ final-at election final is =
 pub record IsRow (election : Election) (row : ExportSheet) : Type 0 where
   pub key : is_key row.key ≡ true
   pub card : row.card < length (cards_of election)
+  pub front : row.front < 64
   pub finals : AllByRecursion (IsFinalAt election) row.finals
   pub ascend : ascends_from 0 (map final_number row.finals) ≡ true
   pub few : length row.finals ≤ 500
@@ -147,6 +148,12 @@ sheet-card election sheet fits =
     (and-left (sheet_head election sheet) (is_ascending (contests_of sheet.contests))
     (and-left (sheet_head election sheet && is_ascending (contests_of sheet.contests)) (list_all (is_read election) sheet.contests) fits)))
 
+sheet-front : (election : Election) (sheet : SheetMarks) → is_sheet election sheet ≡ true → nat_lt sheet.front 64 ≡ true
+sheet-front election sheet fits =
+    and-right (nat_lt sheet.card (card_count election.styles) && (sheet.front % 2 == 1)) (nat_lt sheet.front 64)
+    (and-left (sheet_head election sheet) (is_ascending (contests_of sheet.contests))
+    (and-left (sheet_head election sheet && is_ascending (contests_of sheet.contests)) (list_all (is_read election) sheet.contests) fits))
+
 sheet-ascends : (election : Election) (sheet : SheetMarks) → is_sheet election sheet ≡ true → is_ascending (contests_of sheet.contests) ≡ true
 sheet-ascends election sheet fits =
     and-right (sheet_head election sheet) (is_ascending (contests_of sheet.contests))
@@ -157,6 +164,7 @@ added-row : (election : Election) (kept : List Event) → IsValid election → I
 added-row election kept valid history added is = record {
   key = is.0;
   card = omega (arith, length-cards_from 0 election.styles, below-from_yes added.sheet.card (card_count election.styles) card);
+  front = below-from_yes added.sheet.front 64 (sheet-front election added.sheet is.1);
   finals = finals;
   ascend = up;
   few = omega (arith, ascends-room final_number 0 (length election.contests) (row_of election kept added).finals up below (omega arith), valid.contests.few);

@@ -13,3 +13,4 @@ pub mod Contests
 pub mod Records
 pub mod Whole
 pub mod Sums
+pub mod Known
