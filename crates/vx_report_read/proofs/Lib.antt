@@ -14,3 +14,5 @@ pub mod Records
 pub mod Whole
 pub mod Sums
 pub mod Known
+pub mod Written
+pub mod Utf8

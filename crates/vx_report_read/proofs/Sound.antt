@@ -34,7 +34,7 @@ are_plain [] = true
 are_plain (name ∷ others) = are_ascii name && are_plain others
 
 -- a number without a sign
-abbrev IsUnsigned : Num → Type 0
+abbrev pub IsUnsigned : Num → Type 0
 IsUnsigned (unsigned n) = n < 2 ^ 64
 IsUnsigned (negative z) = ⊥
 IsUnsigned (float x) = ⊥

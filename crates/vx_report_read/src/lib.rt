@@ -8,5 +8,6 @@
 mod laws;
 
 pub use laws::{
-    reports_are_read, reports_are_read_back, rows_are_the_exported, totals_are_the_exported,
+    reports_are_read, reports_are_read_back, reports_are_utf8, rows_are_the_exported,
+    totals_are_the_exported,
 };
