@@ -1,5 +1,5 @@
 -- What holds of each element of a list.
-use Rattle.std.proofs.Common.{◌≡◌, ℕ, suc, ◌≤◌, Bool, true, false, cond, List, [], ◌∷◌, ◌++◌, length, map, fold, refl, arith}
+use Rattle.std.proofs.Common.{ap, ◌≡◌, ℕ, suc, ◌≤◌, Bool, true, false, cond, List, [], ◌∷◌, ◌++◌, length, map, fold, refl, arith}
 use Rattle.std.specs.Prelude.{Some, slice_get}
 use Rattle.std.specs.List.{AllByRecursion, All, flat_map, list_all, filter}
 use Rattle.vx_base.proofs.Booleans.{and-left, and-right}
@@ -43,6 +43,10 @@ module _ {X : Type 0} where
       by false rest = omega (arith, rest)
 
 module _ {X Y : Type 0} where
+  pub length-mapped : (f : X → Y) (xs : List X) → length (map f xs) ≡ length xs
+  length-mapped f [] = refl
+  length-mapped f (x ∷ xs) = ap (λ (n : ℕ). suc n) (length-mapped f xs)
+
   pub each-map : (P : Y → Type 0) (f : X → Y) (xs : List X) → AllByRecursion (λ (x : X). P (f x)) xs → AllByRecursion P (map f xs)
   each-map P f [] each = tt
   each-map P f (x ∷ xs) each = (each.0, each-map P f xs each.1)

@@ -34,7 +34,7 @@ use Rattle.vx_cvr.specs.Votes.{is_slot, candidate_in, candidate_of}
 use Rattle.vx_cvr.specs.Report.{no_contest, voted_for}
 use Rattle.vx_tally.specs.Ids.{is_among}
 use Rattle.vx_report_read.specs.Exported.{contest_at}
-use Rattle.vx_report_read.proofs.Each.{each-weaker}
+use Rattle.vx_report_read.proofs.Each.{length-mapped, each-weaker}
 use Rattle.vx_report_read.proofs.Kept.{AreOptions, IsSlotOf, IsFinal, IsAdded, row-finals}
 use Rattle.vx_report_read.proofs.RowsOf.{each-row}
 
@@ -123,10 +123,6 @@ pub record IsRow (election : Election) (row : ExportSheet) : Type 0 where
   pub finals : AllByRecursion (IsFinalAt election) row.finals
   pub ascend : ascends_from 0 (map final_number row.finals) ≡ true
   pub few : length row.finals ≤ 500
-
-length-mapped : {X Y : Type 0} (f : X → Y) (xs : List X) → length (map f xs) ≡ length xs
-length-mapped f [] = refl
-length-mapped f (x ∷ xs) = ap (λ (n : ℕ). suc n) (length-mapped f xs)
 
 -- there are as many cards as the styles have precincts
 length-cards_from : (place : ℕ) (styles : List Style) → length (cards_from place styles) ≡ card_count styles

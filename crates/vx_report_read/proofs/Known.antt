@@ -1,6 +1,6 @@
 -- What the texts of a valid election and of a history's rows have, where those have it that aren't ids.
-use Rattle.std.proofs.Common.{◌≡◌, ℕ, zero, suc, ◌+◌, ◌/◌, ◌<◌, ◌≤◌, ◌^◌, Bool, true, false, ◌&&◌, List, [], ◌∷◌, length, refl, arith}
-use Rattle.std.specs.Prelude.{Option, nat_le, nat_lt, not, ◌==◌, slice_index_or}
+use Rattle.std.proofs.Common.{◌≡◌, ℕ, zero, suc, ◌<◌, ◌≤◌, ◌^◌, true, ◌&&◌, List, [], ◌∷◌, length, refl, arith}
+use Rattle.std.specs.Prelude.{nat_le, nat_lt, not, ◌==◌, slice_index_or}
 use Rattle.std.specs.List.{AllByRecursion, list_all}
 use Rattle.json.proofs.Printed.Utf8.{are_ascii}
 use Rattle.vx_base.proofs.Booleans.{and-both, and-left, and-right}
@@ -13,7 +13,6 @@ use Rattle.vx_election_model.specs.Ids as election
 use Rattle.vx_election_model.specs.Options.{options_of}
 use Rattle.vx_election_model.specs.Valid.{IsNamed, IsStyle, IsValid}
 use Rattle.vx_styles.specs.Cards.{card_at, no_style}
-use Rattle.vx_events.specs.declared.decision.WriteInName.{WriteInName}
 use Rattle.vx_center.specs.declared.rows.ExportSheet.{ExportSheet}
 use Rattle.vx_center.specs.declared.rows.Final.{Final}
 use Rattle.vx_cvr.specs.Votes.{candidate_of}
@@ -31,8 +30,11 @@ ascii-from : (text : List ℕ) → AreCharacters text → are_ascii text ≡ tru
 ascii-from [] are = refl
 ascii-from (b ∷ text) are =
     and-both (nat_lt b 128) (are_ascii text)
-    (below-yes b 128 (omega (arith, at_most-from_yes b 126 (and-right (nat_le 33 b) (nat_le b 126)
-    (and-left (nat_le 33 b && nat_le b 126) (not (b == 44)) (and-left (is_id_character b) (list_all is_id_character text) are))))))
+    (below-yes b 128 (omega (
+      arith,
+      at_most-from_yes b 126 (and-right (nat_le 33 b) (nat_le b 126)
+          (and-left (nat_le 33 b && nat_le b 126) (not (b == 44)) (and-left (is_id_character b) (list_all is_id_character text) are))),
+    )))
     (ascii-from text (and-right (is_id_character b) (list_all is_id_character text) are))
 
 -- the texts of an election that aren't ids
@@ -67,7 +69,8 @@ module _ (P : List ℕ → Type 0) (known : IsKnown P) where
         options = given-options contest is;
       }
 
-  style-has : (styles : List Style) (place : ℕ) → AllByRecursion (λ (style : Style). election.is_id style.id ≡ true) styles → P (slice_index_or styles place no_style).id
+  style-has : (styles : List Style) (place : ℕ) → AllByRecursion (λ (style : Style). election.is_id style.id ≡ true) styles
+      → P (slice_index_or styles place no_style).id
   style-has [] place all = known.plain _ refl
   style-has (style ∷ styles) zero all = id-has style.id all.0
   style-has (style ∷ styles) (suc place) all = style-has styles place all.1
@@ -108,5 +111,6 @@ module _ (P : List ℕ → Type 0) (known : IsKnown P) where
       }
     where
       styles : AllByRecursion (λ (style : Style). election.is_id style.id ≡ true) given.styles
-      styles = each-weaker (IsStyle (length given.parties) (length given.districts) (length given.precincts)) (λ (style : Style). election.is_id style.id ≡ true) given.styles
+      styles = each-weaker (IsStyle (length given.parties) (length given.districts) (length given.precincts))
+          (λ (style : Style). election.is_id style.id ≡ true) given.styles
           (λ style it. it.id) (each-all (IsStyle (length given.parties) (length given.districts) (length given.precincts)) given.styles valid.styles.each)

@@ -1,5 +1,5 @@
 -- Each part of a report is sound, where its texts have something that ASCII has.
-use Rattle.std.proofs.Common.{◌≡◌, ℕ, zero, suc, ◌+◌, ◌-◌, ◌/◌, ◌<◌, ◌≤◌, ◌^◌, Bool, true, false, cond, List, [], ◌∷◌, ◌++◌, length, map, refl, arith, decimal}
+use Rattle.std.proofs.Common.{◌≡◌, ℕ, zero, suc, ◌+◌, ◌-◌, ◌/◌, ◌<◌, ◌≤◌, ◌^◌, Bool, true, false, List, [], ◌∷◌, ◌++◌, length, map, refl, arith, decimal}
 use Rattle.std.specs.Prelude.{Option, None, Some, if◌then◌else◌, codes, slice_index_or, nat_lt, ◌==◌, ⊤}
 use Rattle.std.specs.List.{AllByRecursion, range_with_len}
 use Rattle.json.proofs.Printed.Utf8.{are_ascii}
@@ -17,12 +17,12 @@ use Rattle.vx_events.specs.declared.decision.WriteInName.TheVariants.{Words, Can
 use Rattle.vx_center.specs.declared.rows.ExportSheet.{ExportSheet}
 use Rattle.vx_center.specs.declared.rows.Final.{Final}
 use Rattle.vx_cvr.specs.Json.{text, whole, list, described}
-use Rattle.vx_cvr.specs.Names.{hyphened, candidate_name, selection_name, precinct_name, contest_name, sheet_name, device_name}
+use Rattle.vx_cvr.specs.Names.{hyphened, candidate_name, selection_name, contest_name, sheet_name, device_name}
 use Rattle.vx_cvr.specs.Votes.{is_overvoted, write_ins, is_repeated, candidate_of, is_slot, name_of, status_words, indication, indication_of, allocable, votes_of, is_unnamed}
 use Rattle.vx_cvr.specs.Report as spec
 use Rattle.vx_report_read.specs.Exported.{contest_at}
 use Rattle.vx_report_read.proofs.Each.{length-filter_most}
-use Rattle.vx_report_read.proofs.Sound.{IsSound, AreSound, AreSound-map, AreSound-map_all, AreSound-flat_map_all}
+use Rattle.vx_report_read.proofs.Sound.{IsSound, AreSound, AreSound-map_all, AreSound-flat_map_all}
 
 -- what ASCII has, numbers have, and texts that are joined have
 pub record IsKnown (P : List ℕ → Type 0) : Type 0 where
@@ -103,10 +103,12 @@ module _ (P : List ℕ → Type 0) (known : IsKnown P) where
   hyphened-has first n has small = known.joined first (45 ∷ decimal n) has (known.joined (45 ∷ []) (decimal n) (known.plain _ refl) (known.number n small))
 
   candidate-name-has : (contest : List ℕ) (option : ℕ) → P contest → option < 2 ^ 64 → P (candidate_name contest option)
-  candidate-name-has contest option has small = known.joined (codes "candidate-") (hyphened contest (decimal option)) (known.plain _ refl) (hyphened-has contest option has small)
+  candidate-name-has contest option has small = known.joined (codes "candidate-") (hyphened contest (decimal option)) (known.plain _ refl)
+      (hyphened-has contest option has small)
 
   selection-name-has : (contest : List ℕ) (option : ℕ) → P contest → option < 2 ^ 64 → P (selection_name contest option)
-  selection-name-has contest option has small = known.joined (codes "selection-") (hyphened contest (decimal option)) (known.plain _ refl) (hyphened-has contest option has small)
+  selection-name-has contest option has small = known.joined (codes "selection-") (hyphened contest (decimal option)) (known.plain _ refl)
+      (hyphened-has contest option has small)
 
   candidates-sound : (contest : Contest) → ContestHas P contest → AreSound P (items_of (spec.candidates_of contest)) 8
   candidates-sound contest has = by contest.is_yes_no
@@ -115,7 +117,13 @@ module _ (P : List ℕ → Type 0) (known : IsKnown P) where
       by true = tt
       by false = AreSound-map_all P (λ (m : ℕ). m < 150) (spec.candidate contest) 8 (range_with_len 0 (length contest.choices))
           (range-below 0 (length contest.choices) 150 (omega (arith, has.options)))
-          (λ option below. (refl, (candidate-name-has contest.id option has.id (omega (arith, below)), (known.plain _ refl, ((choice-has contest.choices option has.choices).0, tt)))))
+          (λ option below. (
+            refl,
+            (
+              candidate-name-has contest.id option has.id (omega (arith, below)),
+              (known.plain _ refl, ((choice-has contest.choices option has.choices).0, tt)),
+            ),
+          ))
 
   selection-sound : (contest : Contest) (option : ℕ) → ContestHas P contest → option < 150 → IsSound P (spec.candidate_selection contest option) 6
   selection-sound contest option has below = by (is_slot contest option)
@@ -129,8 +137,13 @@ module _ (P : List ℕ → Type 0) (known : IsKnown P) where
       by false = (refl, (name, (known.plain _ refl, ((candidate-name-has contest.id option has.id (omega (arith, below)), tt), tt))))
 
   answer-sound : (contest : Contest) (option : ℕ) → ContestHas P contest → option < 150 → IsSound P (spec.answer contest option) 6
-  answer-sound contest option has below =
-      (refl, (selection-name-has contest.id option has.id (omega (arith, below)), (known.plain _ refl, ((choice-has contest.choices option has.choices).1, tt))))
+  answer-sound contest option has below = (
+    refl,
+    (
+      selection-name-has contest.id option has.id (omega (arith, below)),
+      (known.plain _ refl, ((choice-has contest.choices option has.choices).1, tt)),
+    ),
+  )
 
   contest-sound : (given : Contest) → ContestHas P given → IsSound P (spec.contest given) 8
   contest-sound given has = by given.is_yes_no
@@ -142,15 +155,49 @@ module _ (P : List ℕ → Type 0) (known : IsKnown P) where
       below = range-below 0 (options_of given) 150 (omega (arith, has.options))
 
       by : (b : Bool) → IsSound P (if b then spec.measure given else spec.candidate_contest given) 8
-      by true = (refl, (name, (known.plain _ refl, (AreSound-map_all P (λ (m : ℕ). m < 150) (spec.answer given) 6 (range_with_len 0 (options_of given)) below
-          (λ option is. answer-sound given option has is), (has.title, tt)))))
-      by false = (refl, (name, (known.plain _ refl, (AreSound-map_all P (λ (m : ℕ). m < 150) (spec.candidate_selection given) 6 (range_with_len 0 (options_of given)) below
-          (λ option is. selection-sound given option has is), (has.title, (omega (arith, has.seats), tt))))))
+      by true = (
+        refl,
+        (
+          name,
+          (
+            known.plain _ refl,
+            (
+              AreSound-map_all P (λ (m : ℕ). m < 150) (spec.answer given) 6 (range_with_len 0 (options_of given)) below
+                  (λ option is. answer-sound given option has is),
+              (has.title, tt),
+            ),
+          ),
+        ),
+      )
+      by false = (
+        refl,
+        (
+          name,
+          (
+            known.plain _ refl,
+            (
+              AreSound-map_all P (λ (m : ℕ). m < 150) (spec.candidate_selection given) 6 (range_with_len 0 (options_of given)) below
+                  (λ option is. selection-sound given option has is),
+              (has.title, (omega (arith, has.seats), tt)),
+            ),
+          ),
+        ),
+      )
 
   election-sound : (given : Election) → ElectionHas P given → IsSound P (spec.election_object given) 10
-  election-sound given has =
-      (refl, (known.plain _ refl, (known.plain _ refl, (AreSound-flat_map_all P (ContestHas P) spec.candidates_of 8 given.contests has.contests candidates-sound,
-      (AreSound-map_all P (ContestHas P) spec.contest 8 given.contests has.contests contest-sound, (known.plain _ refl, (has.title, tt)))))))
+  election-sound given has = (
+    refl,
+    (
+      known.plain _ refl,
+      (
+        known.plain _ refl,
+        (
+          AreSound-flat_map_all P (ContestHas P) spec.candidates_of 8 given.contests has.contests candidates-sound,
+          (AreSound-map_all P (ContestHas P) spec.contest 8 given.contests has.contests contest-sound, (known.plain _ refl, (has.title, tt))),
+        ),
+      ),
+    ),
+  )
 
   indication-has : (state : State) → P (indication state)
   indication-has Marked = known.plain _ refl
@@ -168,7 +215,8 @@ module _ (P : List ℕ → Type 0) (known : IsKnown P) where
   status-has : (contest : Contest) (final : Final) → AllByRecursion P (status_words contest final)
   status-has contest final = by (is_overvoted contest final) (length final.selected == 0) (nat_lt (length final.selected) contest.seats)
     where
-      by : (a b c : Bool) → AllByRecursion P (if a then codes "overvoted" ∷ [] else (if b then codes "not-indicated" ∷ [] else (if c then codes "undervoted" ∷ [] else [])))
+      by : (a b c : Bool) →
+          AllByRecursion P (if a then codes "overvoted" ∷ [] else (if b then codes "not-indicated" ∷ [] else (if c then codes "undervoted" ∷ [] else [])))
       by true b c = (known.plain _ refl, tt)
       by false true c = (known.plain _ refl, tt)
       by false false true = (known.plain _ refl, tt)
@@ -192,9 +240,16 @@ module _ (P : List ℕ → Type 0) (known : IsKnown P) where
       by None is = (refl, (known.plain _ refl, (indicated, (allocable-has contest final option, (votes, tt)))))
       by (Some (Words words)) is =
           (refl, (known.plain _ refl, ((refl, (known.plain _ refl, (is, tt))), (indicated, (allocable-has contest final option, (votes, tt))))))
-      by (Some (Candidate number)) is =
-          (refl, (known.plain _ refl, ((refl, (known.plain _ refl, ((choice-has contest.choices number has.choices).0, tt))),
-          (indicated, (allocable-has contest final option, (votes, tt))))))
+      by (Some (Candidate number)) is = (
+        refl,
+        (
+          known.plain _ refl,
+          (
+            (refl, (known.plain _ refl, ((choice-has contest.choices number has.choices).0, tt))),
+            (indicated, (allocable-has contest final option, (votes, tt))),
+          ),
+        ),
+      )
 
   slot-has : (contest : Contest) (final : Final) (option : ℕ) → AllByRecursion (NameHas P) final.names → NameHas P (name_of contest final option)
   slot-has contest final option all = by (is_slot contest option)
@@ -205,20 +260,42 @@ module _ (P : List ℕ → Type 0) (known : IsKnown P) where
 
   selected-sound : (contest : Contest) (final : Final) (option : ℕ) → ContestHas P contest → AllByRecursion (NameHas P) final.names
       → spec.voted_for option (candidate_of contest final option) < 2 ^ 64 → IsSound P (spec.selected contest final option) 4
-  selected-sound contest final option has names small =
-      (refl, (known.plain _ refl, (selection-name-has contest.id (spec.voted_for option (candidate_of contest final option)) has.id small,
-      ((position-sound contest final option has (slot-has contest final option names), tt), tt))))
+  selected-sound contest final option has names small = (
+    refl,
+    (
+      known.plain _ refl,
+      (
+        selection-name-has contest.id (spec.voted_for option (candidate_of contest final option)) has.id small,
+        ((position-sound contest final option has (slot-has contest final option names), tt), tt),
+      ),
+    ),
+  )
 
   counted-sound : (election : Election) (final : Final) → ContestHas P (contest_at election final) → FinalHas P election final
       → IsSound P (spec.counted_in election final) 6
-  counted-sound election final given has =
-      (refl, (known.plain _ refl, (AreSound-map_all P (λ (option : ℕ). spec.voted_for option (candidate_of contest final option) < 2 ^ 64) (spec.selected contest final) 4 final.selected
-      has.voted (λ option small. selected-sound contest final option given has.names small),
-      (known.joined (codes "contest-") contest.id (known.plain _ refl) given.id,
-      (chosen-small (is_overvoted contest final) contest.seats 0 (omega (arith, given.seats)) (omega arith),
-      (AreSound-map_all P P text 4 (status_words contest final) (status-has contest final) (λ word is. is),
-      (chosen-small (is_overvoted contest final) 0 (contest.seats - length final.selected) (omega arith) (omega (arith, given.seats)),
-      (small, tt))))))))
+  counted-sound election final given has = (
+    refl,
+    (
+      known.plain _ refl,
+      (
+        AreSound-map_all P (λ (option : ℕ). spec.voted_for option (candidate_of contest final option) < 2 ^ 64) (spec.selected contest final) 4 final.selected
+            has.voted (λ option small. selected-sound contest final option given has.names small),
+        (
+          known.joined (codes "contest-") contest.id (known.plain _ refl) given.id,
+          (
+            chosen-small (is_overvoted contest final) contest.seats 0 (omega (arith, given.seats)) (omega arith),
+            (
+              AreSound-map_all P P text 4 (status_words contest final) (status-has contest final) (λ word is. is),
+              (
+                chosen-small (is_overvoted contest final) 0 (contest.seats - length final.selected) (omega arith) (omega (arith, given.seats)),
+                (small, tt),
+              ),
+            ),
+          ),
+        ),
+      ),
+    ),
+  )
     where
       contest : Contest
       contest = contest_at election final
@@ -243,18 +320,47 @@ module _ (P : List ℕ → Type 0) (known : IsKnown P) where
   sheet-name-has election row has = hyphened-has row.key.batch row.key.number has.batch has.number
 
   snapshot-sound : (election : Election) (row : ExportSheet) → ElectionHas P election → RowHas P election row → IsSound P (spec.snapshot election row) 8
-  snapshot-sound election row given has =
-      (refl, (known.joined (codes "snapshot-") (sheet_name row.key) (known.plain _ refl) (sheet-name-has election row has),
-      (known.plain _ refl, (AreSound-map_all P (FinalHas P election) (spec.counted_in election) 6 row.finals has.finals
-      (λ final is. counted-sound election final (contest-has election.contests final.contest given.contests) is), (kind-has row.finals, tt)))))
+  snapshot-sound election row given has = (
+    refl,
+    (
+      known.joined (codes "snapshot-") (sheet_name row.key) (known.plain _ refl) (sheet-name-has election row has),
+      (
+        known.plain _ refl,
+        (
+          AreSound-map_all P (FinalHas P election) (spec.counted_in election) 6 row.finals has.finals
+              (λ final is. counted-sound election final (contest-has election.contests final.contest given.contests) is),
+          (kind-has row.finals, tt),
+        ),
+      ),
+    ),
+  )
 
   sheet-sound : (election : Election) (row : ExportSheet) → ElectionHas P election → RowHas P election row → IsSound P (spec.sheet election row) 10
-  sheet-sound election row given has =
-      (refl, (known.plain _ refl, (known.number ((row.front + 1) / 2) has.leaf, (has.style,
-      (known.joined (codes "precinct-") (spec.precinct_at election row.card).id (known.plain _ refl) has.precinct, (has.batch,
-      ((snapshot-sound election row given has, tt),
-      (known.joined (codes "snapshot-") (sheet_name row.key) (known.plain _ refl) (sheet-name-has election row has),
-      (known.plain _ refl, (sheet-name-has election row has, tt))))))))))
+  sheet-sound election row given has = (
+    refl,
+    (
+      known.plain _ refl,
+      (
+        known.number ((row.front + 1) / 2) has.leaf,
+        (
+          has.style,
+          (
+            known.joined (codes "precinct-") (spec.precinct_at election row.card).id (known.plain _ refl) has.precinct,
+            (
+              has.batch,
+              (
+                (snapshot-sound election row given has, tt),
+                (
+                  known.joined (codes "snapshot-") (sheet_name row.key) (known.plain _ refl) (sheet-name-has election row has),
+                  (known.plain _ refl, (sheet-name-has election row has, tt)),
+                ),
+              ),
+            ),
+          ),
+        ),
+      ),
+    ),
+  )
 
   precinct-sound : (named : Named) → NamedHas P named → IsSound P (spec.precinct named) 10
   precinct-sound named has =
@@ -262,12 +368,28 @@ module _ (P : List ℕ → Type 0) (known : IsKnown P) where
 
   pub report-sound : (election : Election) (rows : List ExportSheet) (moment id : List ℕ) → ElectionHas P election → AllByRecursion (RowHas P election) rows
       → P moment → P id → IsSound P (spec.report_over election rows moment id) 12
-  report-sound election rows moment id given all at by =
-      (refl, (known.plain _ refl, (AreSound-map_all P (RowHas P election) (spec.sheet election) 10 rows all (λ row. sheet-sound election row given),
-      ((election-sound election given, tt), (at,
-      (((refl, (known.plain _ refl, (known.plain _ refl, (given.title, (known.plain _ refl, tt))))),
-      AreSound-map_all P (NamedHas P) spec.precinct 10 election.precincts given.precincts precinct-sound),
-      ((device, tt), (((refl, (device, (known.plain _ refl, tt))), tt), (known.plain _ refl, tt)))))))))
+  report-sound election rows moment id given all at by = (
+    refl,
+    (
+      known.plain _ refl,
+      (
+        AreSound-map_all P (RowHas P election) (spec.sheet election) 10 rows all (λ row. sheet-sound election row given),
+        (
+          (election-sound election given, tt),
+          (
+            at,
+            (
+              (
+                (refl, (known.plain _ refl, (known.plain _ refl, (given.title, (known.plain _ refl, tt))))),
+                AreSound-map_all P (NamedHas P) spec.precinct 10 election.precincts given.precincts precinct-sound,
+              ),
+              ((device, tt), (((refl, (device, (known.plain _ refl, tt))), tt), (known.plain _ refl, tt))),
+            ),
+          ),
+        ),
+      ),
+    ),
+  )
     where
       device : P (device_name id)
       device = known.joined (codes "device-") id (known.plain _ refl) by

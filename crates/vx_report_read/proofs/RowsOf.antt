@@ -1,25 +1,20 @@
 -- What the rows of a report are.
-use Rattle.std.proofs.Common.{◌≡◌, ℕ, ◌≤◌, Bool, true, false, List, [], ◌∷◌, length, map, ap, subst, arith}
+use Rattle.std.proofs.Common.{◌≤◌, Bool, true, false, List, [], ◌∷◌, length, map, ap, arith}
 use Rattle.std.specs.Ordering.{match_ordering}
 use Rattle.std.specs.declared.cmp.Ordering.{Ordering}
 use Rattle.std.specs.declared.cmp.Ordering.TheVariants.{Less, Equal, Greater}
-use Rattle.std.specs.Prelude.{Some, slice_get}
 use Rattle.std.specs.List.{AllByRecursion}
-use Rattle.std.proofs.lemmas.Option.{slice_get_within, get_or_from_slice_get}
-use Rattle.vx_base.proofs.Booleans.{either-le}
 use Rattle.vx_election_model.specs.declared.contest.Contest.{Contest}
 use Rattle.vx_election_model.specs.declared.election.Election.{Election}
-use Rattle.vx_election_model.specs.Options.{options_of}
-use Rattle.vx_election_model.specs.Valid.{IsContest, HasChoices, IsValid}
+use Rattle.vx_election_model.specs.Valid.{HasChoices}
 use Rattle.vx_events.specs.declared.event.Event.{Event}
 use Rattle.vx_center.specs.declared.rows.ExportSheet.{ExportSheet}
-use Rattle.vx_center.specs.declared.rows.Final.{Final}
 use Rattle.vx_center.specs.Exports.{key_order, row_of}
 use Rattle.vx_center.specs.Histories.{IsHistory}
 use Rattle.vx_center.specs.Sheets.{Added, sheets_in}
 use Rattle.vx_cvr.specs.Rows.{placed, in_order, rows_of}
-use Rattle.vx_report_read.proofs.Each.{each-all, each-weaker, each-map}
-use Rattle.vx_report_read.proofs.Kept.{IsFinal, IsAdded, sheets-are, row-finals}
+use Rattle.vx_report_read.proofs.Each.{each-weaker, each-map}
+use Rattle.vx_report_read.proofs.Kept.{IsAdded, sheets-are}
 
 -- what holds of each row holds of each in order
 module _ (P : ExportSheet → Type 0) where

@@ -98,7 +98,8 @@ module _ (P : List ℕ → Type 0) where
   pub AreSound-flat_map_all : {X : Type 0} (Q : X → Type 0) (make : X → List Data) (n : ℕ) (xs : List X) → AllByRecursion Q xs
       → ((x : X) → Q x → AreSound (items_of (make x)) n) → AreSound (items_of (flat_map make xs)) n
   AreSound-flat_map_all Q make n [] all each = tt
-  AreSound-flat_map_all Q make n (x ∷ xs) all each = AreSound-append n (make x) (flat_map make xs) (each x all.0) (AreSound-flat_map_all Q make n xs all.1 each)
+  AreSound-flat_map_all Q make n (x ∷ xs) all each = AreSound-append n (make x) (flat_map make xs) (each x all.0)
+      (AreSound-flat_map_all Q make n xs all.1 each)
 
   mutual
     sound-whole : (d : Data) (n : ℕ) → IsSound d n → HasWholeNumbers d

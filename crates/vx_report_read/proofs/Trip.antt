@@ -1,18 +1,14 @@
 -- A report is read back as the value that it was written from.
-use Rattle.std.proofs.Common.{◌≡◌, ℕ, List, arith}
+use Rattle.std.proofs.Common.{ℕ, List, arith}
 use Rattle.std.specs.Prelude.{⊤, Option, Some, None}
 use Rattle.std.specs.List.{AllByRecursion}
-use Rattle.vx_election_model.specs.declared.choice.Choice.{Choice}
 use Rattle.vx_election_model.specs.declared.contest.Contest.{Contest}
 use Rattle.vx_election_model.specs.declared.election.Election.{Election}
 use Rattle.vx_election_model.specs.declared.named.Named.{Named}
-use Rattle.vx_election_model.specs.Valid.{IsValid}
 use Rattle.vx_events.specs.declared.decision.WriteInName.{WriteInName}
 use Rattle.vx_events.specs.declared.decision.WriteInName.TheVariants.{Words, Candidate}
-use Rattle.vx_events.specs.declared.event.Event.{Event}
 use Rattle.vx_center.specs.declared.rows.ExportSheet.{ExportSheet}
 use Rattle.vx_center.specs.declared.rows.Final.{Final}
-use Rattle.vx_center.specs.Histories.{IsHistory}
 use Rattle.vx_cvr.specs.Rows.{rows_of}
 use Rattle.vx_cvr.specs.Report.{report_over, report_of}
 use Rattle.vx_json_trip.specs.Trips.{LinesAreReadBack}
@@ -20,7 +16,7 @@ use Rattle.vx_report_read.proofs.Each.{each-any, each-weaker}
 use Rattle.vx_report_read.proofs.Fitting.{IsRow, rows-are}
 use Rattle.vx_report_read.proofs.Known.{TextsHave, NamesHave, election-has, row-has}
 use Rattle.vx_report_read.proofs.Parts.{IsKnown, NameHas, ChoiceHas, RowHas, report-sound}
-use Rattle.vx_report_read.proofs.Sound.{IsSound, sound-readable, sound-ordered}
+use Rattle.vx_report_read.proofs.Sound.{sound-readable, sound-ordered}
 use Rattle.vx_report_read.specs.Exported.{ReportsAreReadBack}
 
 -- that they are texts is all that is asked of texts here
@@ -50,7 +46,8 @@ pub report-read_back : LinesAreReadBack → ReportsAreReadBack
 unfolding report_of
 report-read_back law election kept moment id valid history =
     let rows = rows_of election kept in
-    let have = each-weaker (IsRow election) (RowHas Any election) rows (λ row is. row-has Any any-known election row valid is (any-names row)) (rows-are election kept valid history) in
+    let have = each-weaker (IsRow election) (RowHas Any election) rows (λ row is. row-has Any any-known election row valid is (any-names row))
+    (rows-are election kept valid history) in
     let sound = report-sound Any any-known election rows moment id (election-has Any any-known election valid (any-texts election)) have tt tt in
     let value = report_over election rows moment id in
     law value (sound-readable Any value 12 (omega arith) sound) (sound-ordered Any value 12 sound)

@@ -1,8 +1,6 @@
 -- A report whose texts are UTF-8 is.
-use Rattle.std.proofs.Common.{◌≡◌, ℕ, zero, suc, ◌<◌, Bool, true, false, ◌&&◌, List, [], ◌∷◌, ◌++◌, length, refl, arith, decimal, IsUtf8}
-use Rattle.std.specs.Prelude.{All}
+use Rattle.std.proofs.Common.{◌≡◌, ℕ, zero, suc, Bool, true, false, List, [], ◌∷◌, ◌++◌, refl, decimal, IsUtf8}
 use Rattle.std.specs.List.{AllByRecursion}
-use Rattle.std.specs.Str.{is_utf8}
 use Rattle.std.proofs.lemmas.Fmt.{IsAscii-decimal}
 use Rattle.std.proofs.lemmas.Str.{IsUtf8-append, IsUtf8-nil, IsUtf8-from_ascii, is_utf8-from_IsUtf8}
 use Rattle.json.specs.Print.{quoted}
@@ -45,7 +43,8 @@ mutual
   text-utf8 (array ds) zero h = absurd h
   text-utf8 (array ds) (suc n) h = behind 91 (items_text false ds) refl (items-utf8 ds n false h)
   text-utf8 (object ms) zero h = absurd h
-  text-utf8 (object ms) (suc n) h = behind 123 (members_text false ms) refl (members-utf8 ms n false (and-right (are_ordered (names ms)) (are_plain (names ms)) h.0) h.1)
+  text-utf8 (object ms) (suc n) h = behind 123 (members_text false ms) refl
+      (members-utf8 ms n false (and-right (are_ordered (names ms)) (are_plain (names ms)) h.0) h.1)
 
   items-utf8 : (ds : Items) (n : ℕ) (later : Bool) → AreSound IsUtf8 ds n → IsUtf8 (items_text later ds)
   items-utf8 no_items n later h = IsUtf8-are_ascii (93 ∷ []) refl
@@ -58,7 +57,8 @@ mutual
   members-utf8 (member k d ms) n later plain h =
       let rest = members-utf8 ms n true (and-right (are_ascii k) (are_plain (names ms)) plain) h.1 in
       IsUtf8-append (comma_if later) (quoted k ++ 58 ∷ (compact_text d ++ members_text true ms)) (comma-utf8 later)
-      (IsUtf8-append (quoted k) (58 ∷ (compact_text d ++ members_text true ms)) (IsUtf8-quoted k (IsUtf8-are_ascii k (and-left (are_ascii k) (are_plain (names ms)) plain)))
+      (IsUtf8-append (quoted k) (58 ∷ (compact_text d ++ members_text true ms))
+      (IsUtf8-quoted k (IsUtf8-are_ascii k (and-left (are_ascii k) (are_plain (names ms)) plain)))
       (behind 58 (compact_text d ++ members_text true ms) refl (IsUtf8-append (compact_text d) (members_text true ms) (text-utf8 d n h.0) rest)))
 
 known : IsKnown IsUtf8
@@ -81,7 +81,7 @@ unfolding report_of
 report-utf8 election kept moment id valid history texts written at by =
     let rows = rows_of election kept in
     let have = each-both (IsRow election) (NamesHave IsUtf8) (RowHas IsUtf8 election) rows (λ row is names. row-has IsUtf8 known election row valid is names)
-      (rows-are election kept valid history) (rows-words IsUtf8 election kept history written) in
+    (rows-are election kept valid history) (rows-words IsUtf8 election kept history written) in
     let sound = report-sound IsUtf8 known election rows moment id (election-has IsUtf8 known election valid (texts-utf8 election texts)) have at by in
     let value = report_over election rows moment id in
     is_utf8-from_IsUtf8 (compact_text value ++ 10 ∷ [])

@@ -1,7 +1,7 @@
 -- What the words have that were written into slots.
-use Rattle.std.proofs.Common.{◌≡◌, ℕ, Bool, true, false, cond, ◌==◌, List, [], ◌∷◌, map, refl}
+use Rattle.std.proofs.Common.{◌≡◌, ℕ, Bool, true, false, cond, ◌==◌, List, [], ◌∷◌}
 use Rattle.std.specs.Prelude.{⊤, Option, Some, None, slice_get}
-use Rattle.std.specs.List.{AllByRecursion, flat_map, range_with_len}
+use Rattle.std.specs.List.{AllByRecursion, range_with_len}
 use Rattle.vx_election_model.specs.declared.contest.Contest.{Contest}
 use Rattle.vx_election_model.specs.declared.election.Election.{Election}
 use Rattle.vx_rules.specs.declared.marks.ContestMarks.{ContestMarks}
@@ -15,13 +15,12 @@ use Rattle.vx_events.specs.declared.event.Event.{Event}
 use Rattle.vx_events.specs.declared.event.Event.TheVariants.{Add, Claim, Release, Decide}
 use Rattle.vx_events.specs.declared.key.Key.{Key}
 use Rattle.vx_center.specs.declared.decided.Decided.{Decided}
-use Rattle.vx_center.specs.declared.rows.ExportSheet.{ExportSheet}
 use Rattle.vx_center.specs.declared.rows.Final.{Final}
 use Rattle.vx_center.specs.Decisions.{decided_by, decided_of, of_contest, decisions_on, name_after, name_of}
-use Rattle.vx_center.specs.Exports.{final_in, final_if_exported, finals_by, row_of}
+use Rattle.vx_center.specs.Exports.{final_in, final_if_exported, finals_by}
 use Rattle.vx_center.specs.Finals.{slots_of}
 use Rattle.vx_center.specs.Histories.{IsHistory}
-use Rattle.vx_center.specs.Sheets.{Added, same_key}
+use Rattle.vx_center.specs.Sheets.{same_key}
 use Rattle.vx_center.specs.Waiting.{exports_by}
 use Rattle.vx_cvr.specs.Rows.{rows_of}
 use Rattle.vx_report_read.proofs.Each.{each-at, each-any, each-weaker, each-map, each-flat_map, fold-keeps}
@@ -81,7 +80,8 @@ module _ (P : List ℕ → Type 0) where
   slot-words : (slot : ℕ) (decisions : List Decision) → AllByRecursion WordsHave decisions → NameHas P (name_of slot decisions)
   slot-words slot decisions all = fold-keeps (NameHas P) WordsHave (name_after slot) decisions None step tt all
     where
-      if-that : (b : Bool) (before : Option WriteInName) (name : WriteInName) → NameHas P before → NameHas P (Some name) → NameHas P (cond b (Some name) before)
+      if-that : (b : Bool) (before : Option WriteInName) (name : WriteInName) → NameHas P before → NameHas P (Some name)
+          → NameHas P (cond b (Some name) before)
       if-that true before name was is = is
       if-that false before name was is = was
 
@@ -95,15 +95,19 @@ module _ (P : List ℕ → Type 0) where
       → AllByRecursion (λ (final : Final). AllByRecursion (NameHas P) final.names) (finals_by election sheet decided)
   finals-words election sheet decided all =
       each-flat_map (λ (final : Final). AllByRecursion (NameHas P) final.names) (final_if_exported election (is_blank_sheet sheet) decided) sheet.contests
-      (each-any (λ (marks : ContestMarks). AllByRecursion (λ (final : Final). AllByRecursion (NameHas P) final.names) (final_if_exported election (is_blank_sheet sheet) decided marks))
+      (each-any (λ (marks : ContestMarks). AllByRecursion (λ (final : Final). AllByRecursion (NameHas P) final.names)
+      (final_if_exported election (is_blank_sheet sheet) decided marks))
       sheet.contests (λ marks. by marks (exports_by election (is_blank_sheet sheet) decided marks)))
     where
-      inside : (marks : ContestMarks) (o : Option Contest) → AllByRecursion (λ (final : Final). AllByRecursion (NameHas P) final.names) (final_in marks (decisions_on marks.contest decided) o)
+      inside : (marks : ContestMarks) (o : Option Contest)
+          → AllByRecursion (λ (final : Final). AllByRecursion (NameHas P) final.names) (final_in marks (decisions_on marks.contest decided) o)
       inside marks None = tt
-      inside marks (Some contest) =
-          (each-map (NameHas P) (λ slot. name_of slot (decisions_on marks.contest decided)) (range_with_len 0 (slots_of contest))
-          (each-any (λ (slot : ℕ). NameHas P (name_of slot (decisions_on marks.contest decided))) (range_with_len 0 (slots_of contest))
-          (λ slot. slot-words slot (decisions_on marks.contest decided) (decisions-words marks.contest decided all))), tt)
+      inside marks (Some contest) = (
+        each-map (NameHas P) (λ slot. name_of slot (decisions_on marks.contest decided)) (range_with_len 0 (slots_of contest))
+            (each-any (λ (slot : ℕ). NameHas P (name_of slot (decisions_on marks.contest decided))) (range_with_len 0 (slots_of contest))
+            (λ slot. slot-words slot (decisions_on marks.contest decided) (decisions-words marks.contest decided all))),
+        tt,
+      )
 
       by : (marks : ContestMarks) (b : Bool) → AllByRecursion (λ (final : Final). AllByRecursion (NameHas P) final.names)
           (cond b (final_in marks (decisions_on marks.contest decided) (slice_get election.contests marks.contest)) [])
@@ -112,4 +116,5 @@ module _ (P : List ℕ → Type 0) where
 
   pub rows-words : (election : Election) (kept : List Event) → IsHistory election kept → AreWritten kept → AllByRecursion (NamesHave P) (rows_of election kept)
   rows-words election kept history are =
-      each-row (NamesHave P) election kept history (λ added is. finals-words election added.sheet (decided_of kept added.key) (decided-words kept added.key are))
+      each-row (NamesHave P) election kept history
+      (λ added is. finals-words election added.sheet (decided_of kept added.key) (decided-words kept added.key are))
