@@ -20,15 +20,11 @@ use Rattle.vx_tally.specs.Ids.{place_in}
 use Rattle.vx_tally.specs.Members.{list_limit, id_member}
 use Rattle.vx_tally.specs.Contests.{contest_ids, selection_ids, own_id_in, own_ids_in, units_in, election_path, contest_at, contest_in, contest_list_in, contests_in}
 use Rattle.vx_report_read.specs.Exported.{units_of, selections_of, contest_of}
-use Rattle.vx_report_read.proofs.Each.{each-all, each-weaker, each-append}
+use Rattle.vx_report_read.proofs.Each.{length-mapped, each-all, each-weaker, each-append}
 use Rattle.vx_report_read.proofs.Members.{bind-ok, id-member, list-member, first-member, walk}
 use Rattle.vx_report_read.proofs.Names.{scope-id, precinct-id, contest-id, selection-id, precinct-same, contest-same, selection-same}
 use Rattle.vx_report_read.proofs.Places.{IsNew, bytes-other, other-bytes, new-place, got-place, each-seam, each-front, new-name, told-apart}
 use Rattle.vx_report_read.proofs.RowsOf.{few-choices}
-
-pub length-mapped : {X Y : Type 0} (f : X → Y) (xs : List X) → length (map f xs) ≡ length xs
-length-mapped f [] = refl
-length-mapped f (x ∷ xs) = ap (λ (n : ℕ). suc n) (length-mapped f xs)
 
 length-range : (a n : ℕ) → length (range_with_len a n) ≡ n
 length-range a zero = refl

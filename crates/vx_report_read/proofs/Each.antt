@@ -1,5 +1,5 @@
 -- What holds of each element of a list.
-use Rattle.std.proofs.Common.{◌≡◌, ℕ, suc, ◌≤◌, Bool, true, false, cond, List, [], ◌∷◌, ◌++◌, length, map, fold, refl, arith}
+use Rattle.std.proofs.Common.{ap, ◌≡◌, ℕ, suc, ◌≤◌, Bool, true, false, cond, List, [], ◌∷◌, ◌++◌, length, map, fold, refl, arith}
 use Rattle.std.specs.Prelude.{Some, slice_get}
 use Rattle.std.specs.List.{AllByRecursion, All, flat_map, list_all, filter}
 use Rattle.vx_base.proofs.Booleans.{and-left, and-right}
@@ -22,6 +22,14 @@ module _ {X : Type 0} where
   each-weaker P Q [] to each = tt
   each-weaker P Q (x ∷ xs) to each = (to x each.0, each-weaker P Q xs to each.1)
 
+  pub each-any : (P : X → Type 0) (xs : List X) → ((x : X) → P x) → AllByRecursion P xs
+  each-any P [] all = tt
+  each-any P (x ∷ xs) all = (all x, each-any P xs all)
+
+  pub each-both : (P Q R : X → Type 0) (xs : List X) → ((x : X) → P x → Q x → R x) → AllByRecursion P xs → AllByRecursion Q xs → AllByRecursion R xs
+  each-both P Q R [] to first second = tt
+  each-both P Q R (x ∷ xs) to first second = (to x first.0 second.0, each-both P Q R xs to first.1 second.1)
+
   pub each-append : (P : X → Type 0) (xs ys : List X) → AllByRecursion P xs → AllByRecursion P ys → AllByRecursion P (xs ++ ys)
   each-append P [] ys first second = second
   each-append P (x ∷ xs) ys first second = (first.0, each-append P xs ys first.1 second)
@@ -35,6 +43,10 @@ module _ {X : Type 0} where
       by false rest = omega (arith, rest)
 
 module _ {X Y : Type 0} where
+  pub length-mapped : (f : X → Y) (xs : List X) → length (map f xs) ≡ length xs
+  length-mapped f [] = refl
+  length-mapped f (x ∷ xs) = ap (λ (n : ℕ). suc n) (length-mapped f xs)
+
   pub each-map : (P : Y → Type 0) (f : X → Y) (xs : List X) → AllByRecursion (λ (x : X). P (f x)) xs → AllByRecursion P (map f xs)
   each-map P f [] each = tt
   each-map P f (x ∷ xs) each = (each.0, each-map P f xs each.1)

@@ -34,7 +34,7 @@ use Rattle.vx_cvr.specs.Votes.{is_slot, candidate_in, candidate_of}
 use Rattle.vx_cvr.specs.Report.{no_contest, voted_for}
 use Rattle.vx_tally.specs.Ids.{is_among}
 use Rattle.vx_report_read.specs.Exported.{contest_at}
-use Rattle.vx_report_read.proofs.Each.{each-weaker}
+use Rattle.vx_report_read.proofs.Each.{length-mapped, each-weaker}
 use Rattle.vx_report_read.proofs.Kept.{AreOptions, IsSlotOf, IsFinal, IsAdded, row-finals}
 use Rattle.vx_report_read.proofs.RowsOf.{each-row}
 
@@ -119,13 +119,10 @@ final-at election final is =
 pub record IsRow (election : Election) (row : ExportSheet) : Type 0 where
   pub key : is_key row.key ≡ true
   pub card : row.card < length (cards_of election)
+  pub front : row.front < 64
   pub finals : AllByRecursion (IsFinalAt election) row.finals
   pub ascend : ascends_from 0 (map final_number row.finals) ≡ true
   pub few : length row.finals ≤ 500
-
-length-mapped : {X Y : Type 0} (f : X → Y) (xs : List X) → length (map f xs) ≡ length xs
-length-mapped f [] = refl
-length-mapped f (x ∷ xs) = ap (λ (n : ℕ). suc n) (length-mapped f xs)
 
 -- there are as many cards as the styles have precincts
 length-cards_from : (place : ℕ) (styles : List Style) → length (cards_from place styles) ≡ card_count styles
@@ -147,6 +144,12 @@ sheet-card election sheet fits =
     (and-left (sheet_head election sheet) (is_ascending (contests_of sheet.contests))
     (and-left (sheet_head election sheet && is_ascending (contests_of sheet.contests)) (list_all (is_read election) sheet.contests) fits)))
 
+sheet-front : (election : Election) (sheet : SheetMarks) → is_sheet election sheet ≡ true → nat_lt sheet.front 64 ≡ true
+sheet-front election sheet fits =
+    and-right (nat_lt sheet.card (card_count election.styles) && (sheet.front % 2 == 1)) (nat_lt sheet.front 64)
+    (and-left (sheet_head election sheet) (is_ascending (contests_of sheet.contests))
+    (and-left (sheet_head election sheet && is_ascending (contests_of sheet.contests)) (list_all (is_read election) sheet.contests) fits))
+
 sheet-ascends : (election : Election) (sheet : SheetMarks) → is_sheet election sheet ≡ true → is_ascending (contests_of sheet.contests) ≡ true
 sheet-ascends election sheet fits =
     and-right (sheet_head election sheet) (is_ascending (contests_of sheet.contests))
@@ -157,6 +160,7 @@ added-row : (election : Election) (kept : List Event) → IsValid election → I
 added-row election kept valid history added is = record {
   key = is.0;
   card = omega (arith, length-cards_from 0 election.styles, below-from_yes added.sheet.card (card_count election.styles) card);
+  front = below-from_yes added.sheet.front 64 (sheet-front election added.sheet is.1);
   finals = finals;
   ascend = up;
   few = omega (arith, ascends-room final_number 0 (length election.contests) (row_of election kept added).finals up below (omega arith), valid.contests.few);

@@ -31,7 +31,7 @@ use Rattle.vx_center.specs.Histories.{IsHistory}
 use Rattle.vx_center.specs.Replies.{event_limit, on_sheet, if_held, selections_reply, unless_marginal, name_reply, has_slot, slot_reply, naming_reply, decision_reply, on_contest, reply_of}
 use Rattle.vx_center.specs.Sheets.{Added, same_key, added_by, added_from, sheets_in, sheet_in, marks_on}
 use Rattle.vx_center.specs.Waiting.{exports_by}
-use Rattle.vx_report_read.proofs.Each.{each-at, each-test, each-weaker, each-append, each-map, each-flat_map, fold-keeps}
+use Rattle.vx_report_read.proofs.Each.{each-at, each-test, each-weaker, each-append, each-map, each-flat_map, each-any, fold-keeps}
 
 -- options that may be selected in a contest
 pub record AreOptions (contest : Contest) (options : List ℕ) : Type 0 where
@@ -209,10 +209,6 @@ slot-named contest slot decisions are = fold-keeps (IsSlotOf contest) (IsDecisio
     step before RuledOvervote was is = was
     step before AcceptRead was is = was
     step before (NameWriteIn other name) was is = if-that (other == slot) before name was is
-
-each-any : {X : Type 0} (P : X → Type 0) (xs : List X) → ((x : X) → P x) → AllByRecursion P xs
-each-any P [] all = tt
-each-any P (x ∷ xs) all = (all x, each-any P xs all)
 
 -- options that pass are below the number of states
 passing-below : (passes : State → Bool) (number : ℕ) (states : List State) (most : ℕ) → number + length states ≤ most

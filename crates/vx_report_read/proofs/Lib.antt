@@ -13,3 +13,6 @@ pub mod Contests
 pub mod Records
 pub mod Whole
 pub mod Sums
+pub mod Known
+pub mod Written
+pub mod Utf8

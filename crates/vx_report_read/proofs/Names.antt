@@ -15,7 +15,7 @@ use Rattle.vx_cvr.specs.Names.{hyphened, precinct_name, contest_name, selection_
 use Rattle.vx_tally.specs.Ids.{is_id_character, is_id}
 
 -- characters that are admitted
-abbrev AreCharacters : List ℕ → Type 0
+abbrev pub AreCharacters : List ℕ → Type 0
 AreCharacters text = list_all is_id_character text ≡ true
 
 all-append : (xs ys : List ℕ) → AreCharacters xs → AreCharacters ys → AreCharacters (xs ++ ys)
@@ -62,11 +62,11 @@ made-id text some few are =
     (and-both (nat_le 1 (length text)) (nat_le (length text) 256) (at_most-yes 1 (length text) some) (at_most-yes (length text) 256 few)) are
 
 -- an id of the election
-record IsShortId (id : List ℕ) : Type 0 where
-  few : length id ≤ 64
-  are : AreCharacters id
+pub record IsShortId (id : List ℕ) : Type 0 where
+  pub few : length id ≤ 64
+  pub are : AreCharacters id
 
-short-id : (id : List ℕ) → election.is_id id ≡ true → IsShortId id
+pub short-id : (id : List ℕ) → election.is_id id ≡ true → IsShortId id
 unfolding election.is_id
 short-id id is =
     record {
@@ -144,13 +144,13 @@ pub selection-same : (a b : List ℕ) (m n : ℕ) → m < 2 ^ 64 → n < 2 ^ 64 
 selection-same a b m n few many same = hyphened-same a b m n few many (ap (drop 10) same)
 
 -- a key's name
-record IsShortKey (key : Key) : Type 0 where
-  some : 1 ≤ length key.batch
-  few : length key.batch ≤ 64
-  are : AreCharacters key.batch
-  small : key.number < 2 ^ 64
+pub record IsShortKey (key : Key) : Type 0 where
+  pub some : 1 ≤ length key.batch
+  pub few : length key.batch ≤ 64
+  pub are : AreCharacters key.batch
+  pub small : key.number < 2 ^ 64
 
-short-key : (key : Key) → is_key key ≡ true → IsShortKey key
+pub short-key : (key : Key) → is_key key ≡ true → IsShortKey key
 short-key key is =
     let batch = and-left (is_batch key.batch) _ is in
     let size = and-left (nat_le 1 (length key.batch) && nat_le (length key.batch) 32) (list_all is_batch_character key.batch) batch in

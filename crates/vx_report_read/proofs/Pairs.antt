@@ -19,7 +19,7 @@ use Rattle.vx_center.specs.Replies.{event_limit, reply_with_room}
 use Rattle.vx_center.specs.Sheets.{Added, added_by, added_from, sheets_in}
 use Rattle.vx_cvr.specs.Names.{sheet_name}
 use Rattle.vx_cvr.specs.Rows.{placed, in_order, rows_of}
-use Rattle.vx_report_read.proofs.Each.{each-weaker, each-append}
+use Rattle.vx_report_read.proofs.Each.{length-mapped, each-weaker, each-append}
 use Rattle.vx_report_read.proofs.Kept.{IsAdded, sheets-are}
 use Rattle.vx_report_read.proofs.Names.{sheet-same}
 use Rattle.vx_report_read.proofs.Places.{bytes-other, turned}
@@ -160,10 +160,6 @@ length-placed row (other ∷ others) = by (key_order other.key row.key) (length-
 length-in_order : (rows : List ExportSheet) → length (in_order rows) ≡ length rows
 length-in_order [] = refl
 length-in_order (row ∷ rows) = length-placed row (in_order rows) ∙ ap (λ (n : ℕ). suc n) (length-in_order rows)
-
-length-mapped : {X Y : Type 0} (f : X → Y) (xs : List X) → length (map f xs) ≡ length xs
-length-mapped f [] = refl
-length-mapped f (x ∷ xs) = ap (λ (n : ℕ). suc n) (length-mapped f xs)
 
 added-few : (place : ℕ) (events : List Event) → length (added_from place events) ≤ length events
 added-few place [] = omega arith

@@ -1,26 +1,20 @@
 -- What the rows of a report are.
-use Rattle.std.proofs.Common.{◌≡◌, ℕ, ◌≤◌, Bool, true, false, List, [], ◌∷◌, length, map, ap, subst, arith}
+use Rattle.std.proofs.Common.{◌≤◌, Bool, true, false, List, [], ◌∷◌, length, map, ap, arith}
 use Rattle.std.specs.Ordering.{match_ordering}
 use Rattle.std.specs.declared.cmp.Ordering.{Ordering}
 use Rattle.std.specs.declared.cmp.Ordering.TheVariants.{Less, Equal, Greater}
-use Rattle.std.specs.Prelude.{Some, slice_get}
 use Rattle.std.specs.List.{AllByRecursion}
-use Rattle.std.proofs.lemmas.Option.{slice_get_within, get_or_from_slice_get}
-use Rattle.vx_base.proofs.Booleans.{either-le}
 use Rattle.vx_election_model.specs.declared.contest.Contest.{Contest}
 use Rattle.vx_election_model.specs.declared.election.Election.{Election}
-use Rattle.vx_election_model.specs.Options.{options_of}
-use Rattle.vx_election_model.specs.Valid.{IsContest, HasChoices, IsValid}
+use Rattle.vx_election_model.specs.Valid.{HasChoices}
 use Rattle.vx_events.specs.declared.event.Event.{Event}
 use Rattle.vx_center.specs.declared.rows.ExportSheet.{ExportSheet}
-use Rattle.vx_center.specs.declared.rows.Final.{Final}
 use Rattle.vx_center.specs.Exports.{key_order, row_of}
 use Rattle.vx_center.specs.Histories.{IsHistory}
 use Rattle.vx_center.specs.Sheets.{Added, sheets_in}
 use Rattle.vx_cvr.specs.Rows.{placed, in_order, rows_of}
-use Rattle.vx_report_read.proofs.Each.{each-all, each-weaker, each-map}
-use Rattle.vx_report_read.proofs.Kept.{IsFinal, IsAdded, sheets-are, row-finals}
-use Rattle.vx_report_read.proofs.Parts.{IsShort, HasShort, HasFewSeats}
+use Rattle.vx_report_read.proofs.Each.{each-weaker, each-map}
+use Rattle.vx_report_read.proofs.Kept.{IsAdded, sheets-are}
 
 -- what holds of each row holds of each in order
 module _ (P : ExportSheet → Type 0) where
@@ -46,38 +40,7 @@ module _ (P : ExportSheet → Type 0) where
       (each-map P (row_of election kept) (sheets_in kept)
       (each-weaker (IsAdded election) (λ (added : Added). P (row_of election kept added)) (sheets_in kept) of_added (sheets-are election kept history)))
 
+-- a valid contest has at most 100 choices
 pub few-choices : (is_yes_no : Bool) (contest : Contest) → HasChoices is_yes_no contest → length contest.choices ≤ 100
 few-choices true contest has = let two = ap length has.answers.2 in omega (arith, two)
 few-choices false contest has = has.few
-
--- a valid contest has at most 50 seats and 150 options
-pub contests-few : (election : Election) → IsValid election → AllByRecursion HasFewSeats election.contests
-contests-few election valid =
-    each-weaker (IsContest (length election.parties) (length election.districts)) HasFewSeats election.contests (λ contest is. is.seats.1)
-    (each-all (IsContest (length election.parties) (length election.districts)) election.contests valid.contests.each)
-
-pub few-options : (election : Election) (number : ℕ) (contest : Contest) → IsValid election → slice_get election.contests number ≡ Some contest
-    → (contest.seats ≤ 50) × (options_of contest ≤ 150)
-few-options election number contest valid there =
-    let is = subst (IsContest (length election.parties) (length election.districts)) (get_or_from_slice_get election.contests number contest contest there)
-    (valid.contests.each number contest (slice_get_within election.contests number contest there)) in (
-      is.seats.1,
-      omega (
-        arith,
-        few-choices contest.is_yes_no contest is.choices,
-        is.seats.1,
-        either-le contest.write_ins contest.seats 0 50 is.seats.1
-            (omega arith),
-      ),
-    )
-
-final-short : (election : Election) (final : Final) → IsValid election → IsFinal election final → IsShort final
-final-short election final valid is =
-    let few = few-options election final.contest is.contest valid is.there in
-    omega (arith, is.options.few, few.0, few.1)
-
-pub rows-short : (election : Election) (kept : List Event) → IsValid election → IsHistory election kept → AllByRecursion HasShort (rows_of election kept)
-rows-short election kept valid history =
-    each-row HasShort election kept history
-    (λ added is. each-weaker (IsFinal election) IsShort (row_of election kept added).finals (λ final. final-short election final valid)
-    (row-finals election kept added history is))

@@ -1,6 +1,6 @@
 -- Sums over the rows of an exported report, in whatever order its sheets stand.
-use Rattle.std.proofs.Common.{◌≡◌, ℕ, suc, ◌+◌, Bool, List, [], ◌∷◌, ◌++◌, map, refl, sym, ap, ap₂, ◌∙◌, arith, append_assoc}
-use Rattle.std.specs.Prelude.{filter, sum_by, Ok}
+use Rattle.std.proofs.Common.{◌≡◌, ℕ, ◌+◌, Bool, List, [], ◌∷◌, ◌++◌, map, refl, sym, ap, ◌∙◌, arith}
+use Rattle.std.specs.Prelude.{filter, sum_by}
 use Rattle.std.specs.List.{flat_map}
 use Rattle.std.specs.Ordering.{match_ordering}
 use Rattle.std.specs.declared.cmp.Ordering.{Ordering}
@@ -9,7 +9,6 @@ use Rattle.std.proofs.lemmas.Grind.{flat_map-append}
 use Rattle.std.proofs.lemmas.List.Elements.{filter-append}
 use Rattle.std.proofs.lemmas.List.Sums.{sum_by-append}
 use Rattle.vx_election_model.specs.declared.election.Election.{Election}
-use Rattle.vx_rules.specs.declared.marks.ContestMarks.{ContestMarks}
 use Rattle.vx_events.specs.declared.event.Event.{Event}
 use Rattle.vx_center.specs.declared.rows.ExportSheet.{ExportSheet}
 use Rattle.vx_center.specs.declared.rows.Final.{Final}
@@ -19,12 +18,10 @@ use Rattle.vx_center.specs.Histories.{IsHistory}
 use Rattle.vx_center.specs.Sheets.{Added, sheets_in}
 use Rattle.vx_center.specs.Shown.{finals_with}
 use Rattle.vx_center.specs.Waiting.{exports}
-use Rattle.vx_cvr.specs.Rows as cvr
 use Rattle.vx_cvr.specs.Rows.{placed, in_order}
-use Rattle.vx_tally.specs.declared.report.Report.{Report}
-use Rattle.vx_tally.specs.Totals.{Row, votes_of, is_for, is_for_in, total_of, total_in_of, rows_of}
+use Rattle.vx_tally.specs.Totals.{Row, votes_of, is_for, is_for_in, total_of, total_in_of}
 use Rattle.vx_report_read.specs.Exported.{exported_vote, exported_by, exported_rows, RowsAreTheExported}
-use Rattle.vx_report_read.specs.Totals.{rows_with, rows_on, kept_rows, AreTotalsOver, TotalsAreTheExported}
+use Rattle.vx_report_read.specs.Totals.{rows_on, kept_rows, TotalsAreTheExported}
 use Rattle.vx_report_read.proofs.Whole.{flat_map-mapped}
 
 votes-append : (test : Row → Bool) (xs ys : List Row) → votes_of test (xs ++ ys) ≡ votes_of test xs + votes_of test ys
@@ -79,7 +76,8 @@ kept-sum : (test : Row → Bool) (election : Election) (kept : List Event) → H
 kept-sum test election kept law history =
     sum-in_order test (exported_by election) (map (row_of election kept) (sheets_in kept))
     ∙ ap (votes_of test)
-    (flat_map-mapped (exported_by election) (row_of election kept) (rows_on election kept) (sheets_in kept) (λ added. sheet-rows election kept added law history))
+    (flat_map-mapped (exported_by election) (row_of election kept) (rows_on election kept) (sheets_in kept)
+    (λ added. sheet-rows election kept added law history))
 
 pub totals-read : HistoriesAreShown → RowsAreTheExported → TotalsAreTheExported
 unfolding total_of total_in_of
@@ -87,5 +85,6 @@ totals-read shown law election kept moment id report valid history given =
     let rows = law election kept moment id report valid history given in
     record {
       all = λ contest selection. ap (votes_of (is_for contest selection)) rows ∙ kept-sum (is_for contest selection) election kept shown history;
-      each = λ unit contest selection. ap (votes_of (is_for_in unit contest selection)) rows ∙ kept-sum (is_for_in unit contest selection) election kept shown history;
+      each = λ unit contest selection. ap (votes_of (is_for_in unit contest selection)) rows
+          ∙ kept-sum (is_for_in unit contest selection) election kept shown history;
     }

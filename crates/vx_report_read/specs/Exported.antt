@@ -85,7 +85,8 @@ report_of_rows election rows = record {
   records = map (record_of election) rows;
 }
 
--- the report of a history is read, as that of the history's rows
+-- the report of a history is read, as that of the history's rows. That its bytes are UTF-8 is asked, since neither what a valid
+-- election is nor what a history is says it of titles and names: `specs/Texts.antt`
 abbrev pub ReportsAreRead : Type 0
 ReportsAreRead =
     (election : Election) (kept : List Event) (moment id : List ℕ) → IsValid election → IsHistory election kept

@@ -3,6 +3,7 @@ ghost use Rattle.vx_report_read.specs.Exported.{
   ReportsAreReadBack,
   RowsAreTheExported,
 };
+ghost use Rattle.vx_report_read.specs.Texts.{ReportsAreUtf8};
 ghost use Rattle.vx_report_read.specs.Totals.{TotalsAreTheExported};
 
 use vx_center::{exports_show_what_was_kept, sheets_have_own_keys};
@@ -15,6 +16,13 @@ pub fn reports_are_read_back()
 {
     lines_are_read_back();
 }
+
+/// The report of a history is UTF-8, where the texts of the election are, the words that were written
+/// into slots, the moment and the device's id. Each of them is a `Text` or a `str` at run time, and so
+/// is UTF-8 by its type; that a valid election or a history has no other isn't said by what they are.
+pub fn reports_are_utf8()
+    ensures { ReportsAreUtf8 }
+{}
 
 /// The report of a history is read, where its bytes are UTF-8: as its units, its contests with their
 /// selections, and a record for each of the history's sheets.
