@@ -1,4 +1,4 @@
-use Rattle.std.proofs.Common.{refl, rules, get_or}
+use Rattle.std.proofs.Common.{rules, get_or}
 use Rattle.vx_ranked.proofs.Ranked.{turn-took}
 use Rattle.vx_ranked.proofs.ranking.ranking_of.Goals as goal
 
