@@ -1,2 +1,5 @@
 pub mod Bytes
 pub mod Each
+pub mod Gathered
+pub mod Looked
+pub mod Ranked

@@ -4,3 +4,4 @@ pub mod Alike
 pub mod Members
 pub mod Splits
 pub mod Reading
+pub mod Rankings

@@ -10,9 +10,12 @@ mod alike;
 mod fault;
 mod groups;
 mod members;
+mod ranking;
 mod reading;
+mod sheets;
 mod splits;
 
 pub use fault::RankedFault;
 pub use groups::{Group, Groups};
 pub use reading::read_ranked;
+pub use sheets::{SheetRankings, SheetRankingsList, rank_sheets};

@@ -1,0 +1,15 @@
+use Rattle.std.proofs.Common.{◌∙◌}
+use Rattle.vx_ranked.proofs.Looked.{found-row, some-row, is-some, of-some}
+use Rattle.vx_ranked.proofs.sheets.finals_of.Goals as goal
+
+pub unwrap-requires : goal.unwrap-requires
+unwrap-requires c =
+    is-some c.row_of.result _ _ c.row_of.ensures
+    (some-row c.args.center.now.election c.args.center.now.events c.args.rows.now c.requires.rows c.args._index c.args.key.now c.args._sheet.now c.requires.there)
+
+pub returns : goal.returns
+returns c =
+    let found = of-some c.row_of.result _ _ c.unwrap.result c.row_of.ensures c.unwrap.ensures in
+    c.as_slice.ensures
+    ∙ found-row c.args.center.now.election c.args.center.now.events c.args.rows.now c.requires.rows c.args._index c.args.key.now c.args._sheet.now c.requires.there
+    c.events-kept.ensures.history c.sheets_have_own_keys.ensures c.unwrap.result.now found.0 found.1

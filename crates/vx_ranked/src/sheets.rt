@@ -1,0 +1,203 @@
+//! The rankings of the sheets of a count.
+
+ghost use Rattle.std.specs.Prelude.{◌≡◌, ◌+◌, ◌<◌, ◌≤◌, ◌^◌, ◌++◌, All, Contains, MatchOption, IfOk, OnOk, Some, true, false, if◌then◌else◌, flat_map, count_by, length, map, slice_get};
+ghost use Rattle.vx_center.specs.Exports.{AreExportRows};
+ghost use Rattle.vx_center.specs.Sheets.{added_by, same_key};
+ghost use Rattle.vx_ranked.specs.declared.groups.Group.{Group};
+ghost use Rattle.vx_ranked.specs.Rankings as words;
+ghost use Rattle.vx_ranked.specs.Rankings.{rankings_by, rankings_on, waits_on, finals_of, group_ranked};
+
+use crate::groups::Group;
+use crate::ranking::{is_waiting, ranking_by};
+use std::alloc::Global;
+use std::cmp::Ordering;
+use vx_base::{ListOf, OutOfMemory};
+use vx_center::{Center, Event, ExportSheet, Final, Key, sheets_have_own_keys};
+use vx_rounds::Rankings;
+use vx_rules::SheetMarks;
+
+/// What the sheets of a count rank in a group.
+#[derive(Debug, Drop)]
+pub struct SheetRankings {
+    /// The rankings of the sheets that have one, in the order of adding.
+    pub rankings: Rankings,
+    /// How many sheets wait: a contest of the group on them isn't exported.
+    pub waiting: u64,
+}
+
+/// What the sheets of a count rank in each of some groups.
+pub type SheetRankingsList = ListOf<SheetRankings>;
+
+fn has_key(row: &ExportSheet, key: &Key) -> bool
+    ensures { result ≡ same_key row.now.key key.now }
+{
+    row.key.batch.as_str() == key.batch.as_str() && row.key.number == key.number
+}
+
+/// The order of keys: the batch's bytes, then the number.
+fn key_order(one: &Key, other: &Key) -> Ordering {
+    let (batch, other_batch) = (
+        one.batch.as_str().as_bytes(),
+        other.batch.as_str().as_bytes(),
+    );
+    batch.cmp(&other_batch).then(one.number.cmp(&other.number))
+}
+
+/// Where the row of a key stands among rows in the order of their keys. It is no promise.
+fn likely_place(rows: &[ExportSheet], key: &Key) -> usize {
+    match rows.binary_search_by(|row| key_order(&row.key, key)) {
+        Ok(place) => place,
+        Err(place) => place,
+    }
+}
+
+/// The first row of a key, by a look at each.
+fn first_row<'r>(rows: &'r [ExportSheet], key: &Key) -> Option<&'r ExportSheet>
+    ensures { MatchOption result
+        (All (λ (row : _). same_key row.key key.now ≡ false) rows.now)
+        (λ row. Contains rows.now row.now × (same_key row.now.key key.now ≡ true)) }
+{
+    for row in rows {
+        if has_key(row, key) {
+            return Some(row);
+        }
+    }
+    None
+}
+
+/// The row of a key. The likely place has it wherever the rows are in the order of their keys.
+fn row_of<'r>(rows: &'r [ExportSheet], key: &Key) -> Option<&'r ExportSheet>
+    ensures { MatchOption result
+        (All (λ (row : _). same_key row.key key.now ≡ false) rows.now)
+        (λ row. Contains rows.now row.now × (same_key row.now.key key.now ≡ true)) }
+{
+    match rows.get(likely_place(rows, key)) {
+        Some(row) if has_key(row, key) => Some(row),
+        _ => first_row(rows, key),
+    }
+}
+
+/// The exported contests of the sheet that the event at a place adds.
+fn finals_of<'r>(
+    center: &Center<'_>,
+    rows: &'r [ExportSheet],
+    _index: usize,
+    key: &Key,
+    _sheet: &SheetMarks,
+) -> &'r [Final]
+    requires rows { AreExportRows center.now.election center.now.events rows.now }
+    requires there { slice_get center.now.events _index ≡ Some (Event.Add key.now _sheet.now) }
+    ensures { result.now ≡ finals_of center.now.election center.now.events
+        (record { at = _index; key = key.now; sheet = _sheet.now }) }
+{
+    sheets_have_own_keys();
+    let _kept = center.events();
+    row_of(rows, key).unwrap().finals.as_slice()
+}
+
+impl SheetRankings {
+    /// No sheets yet; takes no memory.
+    fn new(alloc: Global) -> SheetRankings
+        ensures { result ≡ words.none_ranked }
+    {
+        SheetRankings {
+            rankings: Rankings::new(alloc),
+            waiting: 0,
+        }
+    }
+
+    /// Takes a sheet with those exported contests.
+    fn take_sheet(
+        &mut self,
+        alloc: Global,
+        contests: &[u32],
+        sheet: &SheetMarks,
+        finals: &[Final],
+    ) -> Result<(), OutOfMemory>
+        requires { self.old.waiting + 1 < 2 ^ 64 }
+        ensures rankings { OnOk result (self.new.rankings
+            ≡ self.old.rankings ++ rankings_by contests.now sheet.now finals.now) }
+        ensures waiting { OnOk result (self.new.waiting ≡ self.old.waiting
+            + (if words.is_waiting contests.now sheet.now finals.now then 1 else 0)) }
+    {
+        if is_waiting(contests, sheet, finals) {
+            self.waiting += 1;
+        } else if let Some(ranking) = ranking_by(alloc, contests, sheet, finals)? {
+            self.rankings.push(ranking)?;
+        }
+        Ok(())
+    }
+
+    /// Takes the sheet that the event at a place adds, if it does.
+    fn take_event(
+        &mut self,
+        alloc: Global,
+        center: &Center<'_>,
+        rows: &[ExportSheet],
+        contests: &[u32],
+        index: usize,
+        event: &Event,
+    ) -> Result<(), OutOfMemory>
+        requires rows { AreExportRows center.now.election center.now.events rows.now }
+        requires there { slice_get center.now.events index ≡ Some event.now }
+        requires room { self.old.waiting ≤ index }
+        requires few { index + 1 < 2 ^ 64 }
+        ensures rankings { OnOk result (self.new.rankings ≡ self.old.rankings
+            ++ flat_map (rankings_on center.now.election center.now.events contests.now)
+            (added_by index event.now)) }
+        ensures waiting { OnOk result (self.new.waiting ≡ self.old.waiting
+            + count_by (waits_on center.now.election center.now.events contests.now)
+            (added_by index event.now)) }
+        ensures room { OnOk result (self.new.waiting ≤ index + 1) }
+    {
+        match event {
+            Event::Add { key, sheet } => {
+                let finals = finals_of(center, rows, index, key, sheet);
+                self.take_sheet(alloc, contests, sheet, finals)
+            }
+            Event::Claim { .. } | Event::Release { .. } | Event::Decide { .. } => Ok(()),
+        }
+    }
+}
+
+/// What the sheets rank in a group.
+fn rank_group(
+    alloc: Global,
+    center: &Center<'_>,
+    rows: &[ExportSheet],
+    contests: &[u32],
+) -> Result<SheetRankings, OutOfMemory>
+    requires { AreExportRows center.now.election center.now.events rows.now }
+    ensures { IfOk result (λ ranked. ranked
+        ≡ words.contests_ranked center.now.election center.now.events contests.now) }
+{
+    let mut ranked = SheetRankings::new(alloc);
+    for (index, event) in center.events().as_slice().iter().enumerate() {
+        ranked.take_event(alloc, center, rows, contests, index, event)?;
+    }
+    Ok(ranked)
+}
+
+/// What the sheets of a count rank in each of some groups, by the events that were kept.
+/// A sheet of a group waits, and has no ranking, where one of the group's contests on it isn't
+/// exported. Time is in proportion to the groups and the events, and memory to the sheets.
+pub fn rank_sheets(
+    alloc: Global,
+    center: &Center<'_>,
+    groups: &[Group],
+) -> Result<SheetRankingsList, OutOfMemory>
+    ensures { IfOk result (λ ranked. ranked
+        ≡ map (group_ranked center.now.election center.now.events) groups.now) }
+{
+    let rows = center.export_rows(alloc)?;
+    let mut ranked = SheetRankingsList::new(alloc);
+    for group in groups {
+        ranked.push(rank_group(
+            alloc,
+            center,
+            rows.as_slice(),
+            group.contests.as_slice(),
+        )?)?;
+    }
+    Ok(ranked)
+}
