@@ -7,11 +7,13 @@
 //! break off, are those of `vx_command`; the bits of a grayscale page are `bits_of` of `vx_gray`.
 #![tactic(auto)]
 
+mod laws;
 mod reading;
 mod scans;
 mod status;
 mod top;
 mod writing;
 
+pub use laws::bitmaps_are_written;
 pub use status::{GrayMessage, GrayStatus};
 pub use top::run_gray;
