@@ -66,3 +66,15 @@ BitmapsFit =
     → slice_get (grays_in files 1 scans) place ≡ Some gray → FitsGray election gray printed plan marks
     → (page : Page) × (slice_get (bitmaps_of (bitmaps_text (grays_in files 1 scans))).pages place ≡ Some page)
     × Fits election page printed plan marks
+
+-- a `gray` wrote the bitmaps of its images: read back they are the bits of the images, and each image that fits a printed
+-- page with some marks is read back as one that does
+pub record WritesBitmaps (scans : List (List ℕ)) (files : Files) (taken taken_now : Taken) (status : GrayStatus) : Type 0 where
+  pub wrote : Wrote (bitmaps_text (grays_in files 1 scans)) taken taken_now (answer_of status)
+  pub read_back :
+      bitmaps_of (bitmaps_text (grays_in files 1 scans)) ≡ record { pages = map bits_of (grays_in files 1 scans); fault = None }
+  pub fit :
+      (place : ℕ) (gray : Gray) (election : Election) (printed : PrintedPage) (plan : PagePlan) (marks : List Bool)
+      → slice_get (grays_in files 1 scans) place ≡ Some gray → FitsGray election gray printed plan marks
+      → (page : Page) × (slice_get (bitmaps_of (bitmaps_text (grays_in files 1 scans))).pages place ≡ Some page)
+      × Fits election page printed plan marks
