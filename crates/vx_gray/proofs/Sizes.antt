@@ -44,31 +44,42 @@ header_sides text header e =
     let v : d.0.0 ≡ header.height = ap (λ r. (sides r).1) h.2 in
     (omega arith, omega arith)
 
-bounds_test : (big fits : Bool) (found header : Header) (maxval size : PgmFault) → cond big (Err maxval) (cond fits (Ok found) (Err size)) ≡ Ok header → (fits ≡ true) × (found ≡ header)
+bounds_test : (big fits : Bool) (found header : Header) (maxval size : PgmFault) → cond big (Err maxval) (cond fits (Ok found) (Err size)) ≡ Ok header
+    → (fits ≡ true) × (found ≡ header)
 bounds_test true fits found header maxval size e = absurd cc
 bounds_test false true found header maxval size e = (refl, cc)
 bounds_test false false found header maxval size e = absurd cc
 
-bounds_sized : (at : ℕ) (text : List ℕ) (read : Result Header ℕ) (header : Header) → header_at text ≡ read → in_bounds at read ≡ Ok header → IsSized header.width header.height
+bounds_sized : (at : ℕ) (text : List ℕ) (read : Result Header ℕ) (header : Header) → header_at text ≡ read → in_bounds at read ≡ Ok header
+    → IsSized header.width header.height
 bounds_sized at text (Err offset) header is e = absurd cc
 bounds_sized at text (Ok found) header is e =
     let t = bounds_test _ _ found header _ _ e in
     let fits = and_parts (nat_le found.width 4096) (nat_le found.height 4096) t.0 in
     let above = header_sides text found is in
     subst (λ (h : Header). IsSized h.width h.height) t.1
-    (record { width_above = above.0; width_below = leb-true found.width 4096 fits.0; height_above = above.1; height_below = leb-true found.height 4096 fits.1 })
+    (record {
+      width_above = above.0;
+      width_below = leb-true found.width 4096 fits.0;
+      height_above = above.1;
+      height_below = leb-true found.height 4096
+          fits.1;
+    })
 
-raster_test : (short : Bool) (fault : PgmFault) (page : Gray) (size : ℕ) (found : Gray × ℕ) → cond short (Err fault) (Ok (page, size)) ≡ Ok found → page ≡ found.0
+raster_test : (short : Bool) (fault : PgmFault) (page : Gray) (size : ℕ) (found : Gray × ℕ) → cond short (Err fault) (Ok (page, size)) ≡ Ok found
+    → page ≡ found.0
 raster_test true fault page size found e = absurd cc
 raster_test false fault page size found e = cc
 
 image_sized : (at : ℕ) (text : List ℕ) (found : Gray × ℕ) → image_at at text ≡ Ok found → IsSizedGray found.0
 unfolding image_at raster
 image_sized at text found e =
-    let a : (h : Header) × (in_bounds at (header_at text) ≡ Ok h) × (raster h text ≡ Ok found) = bind_ok (in_bounds at (header_at text)) (λ header. raster header text) found e in
+    let a : (h : Header) × (in_bounds at (header_at text) ≡ Ok h) × (raster h text ≡ Ok found) = bind_ok (in_bounds at (header_at text))
+    (λ header. raster header text) found e in
     subst IsSizedGray (raster_test _ _ _ _ found a.2) (bounds_sized at text (header_at text) a.0 refl a.1)
 
-choices : (none raw : Bool) (bad : PgmFault) (image : Result (Option (Gray × Unread)) PgmFault) (found : Gray × Unread) → cond none (Ok None) (cond raw image (Err bad)) ≡ Ok (Some found) → image ≡ Ok (Some found)
+choices : (none raw : Bool) (bad : PgmFault) (image : Result (Option (Gray × Unread)) PgmFault) (found : Gray × Unread)
+    → cond none (Ok None) (cond raw image (Err bad)) ≡ Ok (Some found) → image ≡ Ok (Some found)
 choices true raw bad image found e = absurd cc
 choices false true bad image found e = e
 choices false false bad image found e = absurd cc
@@ -78,7 +89,8 @@ page_in other (Ok (Some found)) = found.0
 page_in other (Ok None) = other
 page_in other (Err fault) = other
 
-stepped : (old : Unread) (read : Result (Gray × ℕ) PgmFault) (found : Gray × Unread) → (read >>= step_over old) ≡ Ok (Some found) → (image : Gray × ℕ) × (read ≡ Ok image) × (image.0 ≡ found.0)
+stepped : (old : Unread) (read : Result (Gray × ℕ) PgmFault) (found : Gray × Unread) → (read >>= step_over old) ≡ Ok (Some found)
+    → (image : Gray × ℕ) × (read ≡ Ok image) × (image.0 ≡ found.0)
 unfolding page_in
 stepped old (Ok image) found e = (image, refl, ap (page_in image.0) e)
 stepped old (Err fault) found e = absurd cc
@@ -86,10 +98,13 @@ stepped old (Err fault) found e = absurd cc
 next_sized : (unread : Unread) (found : Gray × Unread) → next_of unread ≡ Ok (Some found) → IsSizedGray found.0
 unfolding next_of
 next_sized unread found e =
-    let s = stepped unread (image_at unread.at unread.text) found (choices (length unread.text == 0) (is_raw unread.text) (BadMagic unread.at) (image_at unread.at unread.text >>= step_over unread) found e) in
+    let s = stepped unread (image_at unread.at unread.text) found
+    (choices (length unread.text == 0) (is_raw unread.text) (BadMagic unread.at) (image_at unread.at unread.text >>= step_over unread) found e) in
     subst IsSizedGray s.2 (image_sized unread.at unread.text s.0 s.1)
 
-onwards_sized : (images : Unread → Images) (r : Result (Option (Gray × Unread)) PgmFault) → ((found : Gray × Unread) → r ≡ Ok (Some found) → IsSizedGray found.0) → ((new : Unread) → All IsSizedGray (images new).pages) → All IsSizedGray (onwards images r).pages
+onwards_sized : (images : Unread → Images) (r : Result (Option (Gray × Unread)) PgmFault)
+    → ((found : Gray × Unread) → r ≡ Ok (Some found) → IsSizedGray found.0) → ((new : Unread) → All IsSizedGray (images new).pages) → All IsSizedGray
+    (onwards images r).pages
 onwards_sized images (Ok (Some found)) first others = All-cons IsSizedGray found.0 (images found.1).pages (first found refl) (others found.1)
 onwards_sized images (Ok None) first others = All-nil IsSizedGray
 onwards_sized images (Err fault) first others = All-nil IsSizedGray

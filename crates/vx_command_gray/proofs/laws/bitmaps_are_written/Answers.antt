@@ -24,7 +24,8 @@ pub returns-clause-fit : goal.returns-clause-fit
 returns-clause-fit c files scans place gray election printed plan marks at fits = (
   bits_of gray,
   ap (λ (images : Images). slice_get images.pages place)
-      (reads-bits c.raw_images_join.ensures c.what_is_written_reads_back.ensures (grays_in files 1 scans) (grays-sized c.images_are_sized.ensures files 1 scans))
+      (reads-bits c.raw_images_join.ensures c.what_is_written_reads_back.ensures (grays_in files 1 scans)
+      (grays-sized c.images_are_sized.ensures files 1 scans))
       ∙ (slice_get-map bits_of (grays_in files 1 scans) place ∙ ap (option_map bits_of) at),
   c.bits_fit.ensures.fit election gray printed plan marks fits,
 )
