@@ -1,4 +1,5 @@
 pub mod Packs
+pub mod Sizes
 pub mod Steps
 pub mod Tops
 pub mod Walks

@@ -11,7 +11,9 @@ use Rattle.vx_gray.specs.Light.{IsIn, IsOf, IsNear, IsLit, Shows, shown, FallsNe
 use Rattle.vx_gray.proofs.Tops.{greatest_bound, greatest_reached, value_inside, value_beside, value_under}
 
 -- a bound of the values near a tile is one of their greatest
-top_bound : (gray : Gray) (across down bound : ℕ) → ((u v : ℕ) → near_start across ≤ u → u < near_start across + near_size across → near_start down ≤ v → v < near_start down + near_size down → value_at gray u v ≤ bound) → top_of gray across down ≤ bound
+top_bound : (gray : Gray) (across down bound : ℕ)
+    → ((u v : ℕ) → near_start across ≤ u → u < near_start across + near_size across → near_start down ≤ v → v < near_start down + near_size down →
+    value_at gray u v ≤ bound) → top_of gray across down ≤ bound
 unfolding top_of
 top_bound gray across down bound each =
     greatest_bound (near_size across) bound (λ i. column_top gray (near_start down) (near_size down) (near_start across + i))
@@ -24,15 +26,20 @@ unfolding top_of
 top_reached gray across down u v near =
     let left : near_start across + (u - near_start across) ≡ u = omega (arith, near.left, near.right) in
     let top : near_start down + (v - near_start down) ≡ v = omega (arith, near.above, near.below) in
-    let inner : value_at gray (near_start across + (u - near_start across)) (near_start down + (v - near_start down)) ≤ column_top gray (near_start down) (near_size down) (near_start across + (u - near_start across)) =
-    greatest_reached (near_size down) (v - near_start down) (λ j. value_at gray (near_start across + (u - near_start across)) (near_start down + j)) (omega (arith, near.above, near.below)) in
+    let inner : value_at gray (near_start across + (u - near_start across)) (near_start down + (v - near_start down)) ≤ column_top gray
+    (near_start down) (near_size down) (near_start across + (u - near_start across)) =
+    greatest_reached (near_size down) (v - near_start down) (λ j. value_at gray (near_start across + (u - near_start across)) (near_start down + j))
+    (omega (arith, near.above, near.below)) in
     let outer : column_top gray (near_start down) (near_size down) (near_start across + (u - near_start across)) ≤ top_of gray across down =
-    greatest_reached (near_size across) (u - near_start across) (λ i. column_top gray (near_start down) (near_size down) (near_start across + i)) (omega (arith, near.left, near.right)) in
-    let same : value_at gray (near_start across + (u - near_start across)) (near_start down + (v - near_start down)) ≡ value_at gray u v = ap₂ (value_at gray) left top in
+    greatest_reached (near_size across) (u - near_start across) (λ i. column_top gray (near_start down) (near_size down) (near_start across + i))
+    (omega (arith, near.left, near.right)) in
+    let same : value_at gray (near_start across + (u - near_start across)) (near_start down + (v - near_start down)) ≡ value_at gray u v = ap₂
+    (value_at gray) left top in
     omega arith
 
 -- near a tile that is lit no value is above twice its light, in the frame or outside it
-near_bound : (gray : Gray) (scan : Page) (across down light u v : ℕ) → IsLit gray scan across down light → IsNear across down u v → value_at gray u v ≤ 2 * light
+near_bound : (gray : Gray) (scan : Page) (across down light u v : ℕ) → IsLit gray scan across down light → IsNear across down u v
+    → value_at gray u v ≤ 2 * light
 near_bound gray scan across down light u v lit near = elim (cases_lt u gray.width) [
   | inl l ↦ elim (cases_lt v gray.height) [
     | inl k ↦ lit.near u v (record { column = l; row = k }) near
@@ -42,20 +49,25 @@ near_bound gray scan across down light u v lit near = elim (cases_lt u gray.widt
 ]
 
 -- a place is dark where the scan is dark
-lit_pixel : (gray : Gray) (scan : Page) (u v light : ℕ) → IsIn gray.width gray.height u v → IsLit gray scan (tile_of u) (tile_of v) light → nat_lt (2 * value_at gray u v) (top_of gray (tile_of u) (tile_of v)) ≡ dark_at scan (pos u) (pos v)
+lit_pixel : (gray : Gray) (scan : Page) (u v light : ℕ) → IsIn gray.width gray.height u v → IsLit gray scan (tile_of u) (tile_of v) light
+    → nat_lt (2 * value_at gray u v) (top_of gray (tile_of u) (tile_of v)) ≡ dark_at scan (pos u) (pos v)
 lit_pixel gray scan u v light inside lit =
     let across : ℕ = tile_of u in
     let down : ℕ = tile_of v in
     let here : IsOf across down u v = record { column = refl; row = refl } in
     let high : top_of gray across down ≤ 2 * light =
     top_bound gray across down (2 * light)
-    (λ x y a b c d. near_bound gray scan across down light x y lit (record { left = omega arith; right = omega arith; above = omega arith; below = omega arith })) in
+    (λ x y a b c d. near_bound gray scan across down light x y lit
+    (record { left = omega arith; right = omega arith; above = omega arith; below = omega arith })) in
     let low : light ≤ top_of gray across down =
-    (let reached : value_at gray lit.some.0 lit.some.1 ≤ top_of gray across down = top_reached gray across down lit.some.0 lit.some.1 lit.some.3 in omega (arith, lit.some.4)) in
+    (let reached : value_at gray lit.some.0 lit.some.1 ≤ top_of gray across down = top_reached gray across down lit.some.0 lit.some.1 lit.some.3 in
+    omega (arith, lit.some.4)) in
     let with : (t : Bool) → dark_at scan (pos u) (pos v) ≡ t → nat_lt (2 * value_at gray u v) (top_of gray across down) ≡ t =
     λ t. elim t as (λ s. dark_at scan (pos u) (pos v) ≡ s → nat_lt (2 * value_at gray u v) (top_of gray across down) ≡ s) [
-      | true ↦ λ e. let dark : 2 * value_at gray u v < light = lit.darker u v inside here e in lt-ltb (2 * value_at gray u v) (top_of gray across down) (omega arith)
-      | false ↦ λ e. let bright : light ≤ value_at gray u v = lit.lighter u v inside here e in le-ltb (2 * value_at gray u v) (top_of gray across down) (omega arith)
+      | true ↦ λ e. let dark : 2 * value_at gray u v < light = lit.darker u v inside here e in lt-ltb (2 * value_at gray u v)
+          (top_of gray across down) (omega arith)
+      | false ↦ λ e. let bright : light ≤ value_at gray u v = lit.lighter u v inside here e in le-ltb (2 * value_at gray u v)
+          (top_of gray across down) (omega arith)
     ] in
     with (dark_at scan (pos u) (pos v)) refl
 
@@ -71,7 +83,8 @@ bits_shown gray scan whole shows =
     ∙ sym whole)
 
 -- the value of a scan that is shown
-shown_value : (scan : Page) (paper ink : ℕ → ℕ → ℕ) (u v : ℕ) → IsIn scan.width scan.height u v → value_at (shown scan paper ink) u v ≡ cond (dark_at scan (pos u) (pos v)) (ink u v) (paper u v)
+shown_value : (scan : Page) (paper ink : ℕ → ℕ → ℕ) (u v : ℕ) → IsIn scan.width scan.height u v
+    → value_at (shown scan paper ink) u v ≡ cond (dark_at scan (pos u) (pos v)) (ink u v) (paper u v)
 unfolding shown
 shown_value scan paper ink u v inside =
     let at : ℕ = v * scan.width + u in
@@ -80,14 +93,17 @@ shown_value scan paper ink u v inside =
     let column : at % scan.width ≡ u = omega (arith, parts, ap (λ n. n * scan.width) row) in
     let within : at < scan.height * scan.width = omega (arith, mul-add-lt v scan.width u scan.height inside.row inside.column) in
     value_inside (shown scan paper ink) u v inside.column inside.row
-    ∙ (get_or-map-range_with_len (λ n. cond (dark_at scan (pos (n % scan.width)) (pos (n / scan.width))) (ink (n % scan.width) (n / scan.width)) (paper (n % scan.width) (n / scan.width))) 0 (scan.height * scan.width) at at 0 within (omega arith)
+    ∙ (get_or-map-range_with_len (λ n. cond (dark_at scan (pos (n % scan.width)) (pos (n / scan.width))) (ink (n % scan.width) (n / scan.width))
+    (paper (n % scan.width) (n / scan.width))) 0 (scan.height * scan.width) at at 0 within (omega arith)
     ∙ ap₂ (λ x y. cond (dark_at scan (pos x) (pos y)) (ink x y) (paper x y)) column row)
 
 either_bound : (t : Bool) (a b light : ℕ) → a ≤ 2 * light → b ≤ 2 * light → cond t a b ≤ 2 * light
 either_bound true a b light h k = h
 either_bound false a b light h k = k
 
-shown_lit : (scan : Page) (paper ink : ℕ → ℕ → ℕ) (across down light : ℕ) → FallsNear scan.width scan.height paper ink across down light → ((x : ℕ) × (y : ℕ) × IsIn scan.width scan.height x y × IsNear across down x y × (dark_at scan (pos x) (pos y) ≡ false)) → IsLit (shown scan paper ink) scan across down light
+shown_lit : (scan : Page) (paper ink : ℕ → ℕ → ℕ) (across down light : ℕ) → FallsNear scan.width scan.height paper ink across down light
+    → ((x : ℕ) × (y : ℕ) × IsIn scan.width scan.height x y × IsNear across down x y × (dark_at scan (pos x) (pos y) ≡ false)) → IsLit
+    (shown scan paper ink) scan across down light
 unfolding shown
 shown_lit scan paper ink across down light falls place = record {
   least = falls.least;
@@ -109,7 +125,8 @@ shown_lit scan paper ink across down light falls place = record {
 }
 
 -- a scan with a light place near each tile is shown where the light falls slowly
-pub slowly_shown : (scan : Page) (paper ink : ℕ → ℕ → ℕ) → HasLightNear scan → FallsSlowly scan.width scan.height paper ink → Shows (shown scan paper ink) scan
+pub slowly_shown : (scan : Page) (paper ink : ℕ → ℕ → ℕ) → HasLightNear scan → FallsSlowly scan.width scan.height paper ink
+    → Shows (shown scan paper ink) scan
 unfolding shown
 slowly_shown scan paper ink light falls = record {
   width_is = refl;

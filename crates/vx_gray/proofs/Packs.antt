@@ -13,17 +13,30 @@ use Rattle.vx_gray.specs.Packing.{below, row_below}
 use Rattle.vx_gray.proofs.Tops.{row_value}
 
 -- bytes of rows with the same pixels in eight places
-pub packed_byte-same : (one other : List Bool) (k m : ℕ) → ((i : ℕ) → i < 8 → get_or one (8 * k + i) false ≡ get_or other (8 * m + i) false) → packed_byte one k ≡ packed_byte other m
+pub packed_byte-same : (one other : List Bool) (k m : ℕ) → ((i : ℕ) → i < 8 → get_or one (8 * k + i) false ≡ get_or other (8 * m + i) false)
+    → packed_byte one k ≡ packed_byte other m
 packed_byte-same one other k m same =
-    let first : get_or one (8 * k) false ≡ get_or other (8 * m) false = ap (λ n. get_or one n false) (omega arith) ∙ (same 0 (omega arith) ∙ ap (λ n. get_or other n false) (omega arith)) in
-    rw (first, same 1 (omega arith), same 2 (omega arith), same 3 (omega arith), same 4 (omega arith), same 5 (omega arith), same 6 (omega arith), same 7 (omega arith)) refl
+    let first : get_or one (8 * k) false ≡ get_or other (8 * m) false = ap (λ n. get_or one n false) (omega arith)
+    ∙ (same 0 (omega arith) ∙ ap (λ n. get_or other n false) (omega arith)) in
+    rw (
+      first,
+      same 1 (omega arith),
+      same 2 (omega arith),
+      same 3 (omega arith),
+      same 4 (omega arith),
+      same 5 (omega arith),
+      same 6
+          (omega arith),
+      same 7 (omega arith),
+    ) refl
 
 -- a part of a row, in its first n places
 pub part_at : {X : Type 0} (n start : ℕ) (row : List X) (i : ℕ) (d : X) → i < n → get_or (take n (drop start row)) i d ≡ get_or row (start + i) d
 part_at n start row i d h = get_or-take n (drop start row) i d h ∙ get_or-drop start row i d
 
 -- the same where the part ends with the row
-pub part_or_past : {X : Type 0} (n start : ℕ) (row : List X) (i : ℕ) (d : X) → (n ≤ i → length row ≤ start + i) → get_or (take n (drop start row)) i d ≡ get_or row (start + i) d
+pub part_or_past : {X : Type 0} (n start : ℕ) (row : List X) (i : ℕ) (d : X) → (n ≤ i → length row ≤ start + i)
+    → get_or (take n (drop start row)) i d ≡ get_or row (start + i) d
 part_or_past n start row i d past = elim (cases_lt i n) [
   | inl h ↦ part_at n start row i d h
   | inr h ↦
@@ -42,7 +55,8 @@ length-below half [] = refl
 length-below half (value ∷ rest) = ap (λ n. suc n) (length-below half rest)
 
 -- the byte of eight pixels of a tile's row, or of the last ones
-pub packed_byte-part : (half k end : ℕ) (pixels : List ℕ) → end ≡ min (8 * k + 8) (length pixels) → packed_byte (below half (take (end - 8 * k) (drop (8 * k) pixels))) 0 ≡ packed_byte (below half pixels) k
+pub packed_byte-part : (half k end : ℕ) (pixels : List ℕ) → end ≡ min (8 * k + 8) (length pixels)
+    → packed_byte (below half (take (end - 8 * k) (drop (8 * k) pixels))) 0 ≡ packed_byte (below half pixels) k
 packed_byte-part half k end pixels ends =
     ap (λ row. packed_byte row 0) (below-part half (end - 8 * k) (8 * k) pixels)
     ∙ packed_byte-same (take (end - 8 * k) (drop (8 * k) (below half pixels))) (below half pixels) 0 k
@@ -51,7 +65,8 @@ packed_byte-part half k end pixels ends =
     ∙ part_or_past (end - 8 * k) (8 * k) (below half pixels) i false (λ past. omega (arith, length-below half pixels)))
 
 -- one byte more
-pub bytes_more : (front before after : List ℕ) (row : List Bool) (k byte : ℕ) → before ≡ front ++ map (packed_byte row) (range_with_len 0 k) → after ≡ before ++ byte ∷ [] → byte ≡ packed_byte row k → after ≡ front ++ map (packed_byte row) (range_with_len 0 (k + 1))
+pub bytes_more : (front before after : List ℕ) (row : List Bool) (k byte : ℕ) → before ≡ front ++ map (packed_byte row) (range_with_len 0 k)
+    → after ≡ before ++ byte ∷ [] → byte ≡ packed_byte row k → after ≡ front ++ map (packed_byte row) (range_with_len 0 (k + 1))
 bytes_more front before after row k byte is_before is_after is =
     is_after
     ∙ (ap (λ s. s ++ byte ∷ []) is_before
@@ -77,29 +92,38 @@ pub length-row_below : (halves pixels : List ℕ) → length (row_below halves p
 length-row_below halves pixels = length-map-range_with_len (λ u. nat_lt (get_or pixels u 0) (get_or halves (u / 64) 0)) 0 (length pixels)
 
 -- a pixel of a tile is below the tile's number
-tile_pixel : (halves pixels : List ℕ) (across end i : ℕ) → end ≡ min (64 * (across + 1)) (length pixels) → i < 64 → get_or (below (get_or halves across 0) (take (end - 64 * across) (drop (64 * across) pixels))) i false ≡ get_or (row_below halves pixels) (64 * across + i) false
+tile_pixel : (halves pixels : List ℕ) (across end i : ℕ) → end ≡ min (64 * (across + 1)) (length pixels) → i < 64
+    → get_or (below (get_or halves across 0) (take (end - 64 * across) (drop (64 * across) pixels))) i false ≡ get_or (row_below halves pixels)
+    (64 * across + i) false
 tile_pixel halves pixels across end i ends h =
     let part : List ℕ = take (end - 64 * across) (drop (64 * across) pixels) in
-    let long : length (below (get_or halves across 0) part) ≡ end - 64 * across = omega (arith, length-below (get_or halves across 0) part, length-take (end - 64 * across) (drop (64 * across) pixels), length-drop (64 * across) pixels) in
+    let long : length (below (get_or halves across 0) part) ≡ end - 64 * across = omega
+    (arith, length-below (get_or halves across 0) part, length-take (end - 64 * across) (drop (64 * across) pixels), length-drop (64 * across) pixels) in
     elim (cases_lt i (end - 64 * across)) [
       | inl l ↦
           get_or-map (λ value. nat_lt value (get_or halves across 0)) part i 0 false (omega (arith, length-below (get_or halves across 0) part))
           ∙ (ap (λ value. nat_lt value (get_or halves across 0)) (part_at (end - 64 * across) (64 * across) pixels i 0 l)
           ∙ (ap (λ a. nat_lt (get_or pixels (64 * across + i) 0) (get_or halves a 0)) (omega arith)
-          ∙ sym (get_or-map-range_with_len (λ u. nat_lt (get_or pixels u 0) (get_or halves (u / 64) 0)) 0 (length pixels) (64 * across + i) (64 * across + i) false (omega arith) (omega arith))))
+          ∙ sym (get_or-map-range_with_len (λ u. nat_lt (get_or pixels u 0) (get_or halves (u / 64) 0)) 0 (length pixels) (64 * across + i)
+          (64 * across + i) false (omega arith) (omega arith))))
       | inr l ↦
           get_or_past (below (get_or halves across 0) part) i false (omega arith)
           ∙ sym (get_or_past (row_below halves pixels) (64 * across + i) false (omega (arith, length-row_below halves pixels)))
     ]
 
 -- the bytes of a tile's row follow those of the tiles before it
-pub tile_more : (front before after halves pixels : List ℕ) (across end half : ℕ) → half ≡ get_or halves across 0 → end ≡ min (64 * (across + 1)) (length pixels) → 64 * across ≤ end → before ≡ front ++ map (packed_byte (row_below halves pixels)) (range_with_len 0 (min (8 * across) (stride_of (length pixels)))) → after ≡ before ++ packed_row (below half (take (end - 64 * across) (drop (64 * across) pixels))) → after ≡ front ++ map (packed_byte (row_below halves pixels)) (range_with_len 0 (min (8 * (across + 1)) (stride_of (length pixels))))
+pub tile_more : (front before after halves pixels : List ℕ) (across end half : ℕ) → half ≡ get_or halves across 0
+    → end ≡ min (64 * (across + 1)) (length pixels) → 64 * across ≤ end → before ≡ front ++ map (packed_byte (row_below halves pixels))
+    (range_with_len 0 (min (8 * across) (stride_of (length pixels)))) → after ≡ before ++ packed_row
+    (below half (take (end - 64 * across) (drop (64 * across) pixels))) → after ≡ front ++ map (packed_byte (row_below halves pixels))
+    (range_with_len 0 (min (8 * (across + 1)) (stride_of (length pixels))))
 unfolding packed_row
 tile_more front before after halves pixels across end half is ends order is_before is_after =
     let part : List ℕ = take (end - 64 * across) (drop (64 * across) pixels) in
     let row : List Bool = row_below halves pixels in
     let tile : List Bool = below (get_or halves across 0) part in
-    let long : length tile ≡ end - 64 * across = omega (arith, length-below (get_or halves across 0) part, length-take (end - 64 * across) (drop (64 * across) pixels), length-drop (64 * across) pixels) in
+    let long : length tile ≡ end - 64 * across = omega
+    (arith, length-below (get_or halves across 0) part, length-take (end - 64 * across) (drop (64 * across) pixels), length-drop (64 * across) pixels) in
     let so_far : min (8 * across) (stride_of (length pixels)) ≡ 8 * across = omega arith in
     let whole : 8 * across + stride_of (length tile) ≡ min (8 * (across + 1)) (stride_of (length pixels)) = omega arith in
     let bytes : packed_row tile ≡ map (λ k. packed_byte row (8 * across + k)) (range_with_len 0 (stride_of (length tile))) =
@@ -125,7 +149,8 @@ half_test value top =
     (λ e. let l : 2 * value < top = ltb-true (2 * value) top e in lt-ltb value ((top + 1) / 2) (omega arith))
 
 -- a row of the page's bits
-pub row_of_bits : (gray : Gray) (down v : ℕ) (halves row : List ℕ) → AreHalves gray down halves → v / 64 ≡ down → v < gray.height → length row ≡ gray.width → row ≡ take gray.width (drop (v * gray.width) gray.values) → row_below halves row ≡ get_or (bits_of gray).rows v []
+pub row_of_bits : (gray : Gray) (down v : ℕ) (halves row : List ℕ) → AreHalves gray down halves → v / 64 ≡ down → v < gray.height
+    → length row ≡ gray.width → row ≡ take gray.width (drop (v * gray.width) gray.values) → row_below halves row ≡ get_or (bits_of gray).rows v []
 row_of_bits gray down v halves row are tile inside long is =
     ap (λ n. map (λ u. nat_lt (get_or row u 0) (get_or halves (u / 64) 0)) (range_with_len 0 n)) long
     ∙ (map-same (λ u. nat_lt (get_or row u 0) (get_or halves (u / 64) 0)) (λ u. dark_in gray (pos u) (pos v)) gray.width
@@ -137,7 +162,8 @@ row_of_bits gray down v halves row are tile inside long is =
     ∙ sym (row_at gray.width gray.height v (dark_in gray) inside))
 
 -- one row more
-pub row_more : (before after : List ℕ) (rows : List (List Bool)) (row : List Bool) (v : ℕ) → v < length rows → before ≡ flat_map packed_row (take v rows) → after ≡ before ++ packed_row row → row ≡ get_or rows v [] → after ≡ flat_map packed_row (take (v + 1) rows)
+pub row_more : (before after : List ℕ) (rows : List (List Bool)) (row : List Bool) (v : ℕ) → v < length rows
+    → before ≡ flat_map packed_row (take v rows) → after ≡ before ++ packed_row row → row ≡ get_or rows v [] → after ≡ flat_map packed_row (take (v + 1) rows)
 row_more before after rows row v inside is_before is_after is =
     is_after
     ∙ (ap (λ s. s ++ packed_row row) is_before

@@ -23,18 +23,22 @@ next_raw : (unread : Unread) → length unread.text ≢ 0 → is_raw unread.text
 unfolding next_of
 next_raw unread some raw = rw (ne_eqb (length unread.text) 0 some, raw) refl
 
-pub next_image : (unread : Unread) (page : Gray) (size : ℕ) → length unread.text ≢ 0 → is_raw unread.text ≡ true → image_at unread.at unread.text ≡ Ok (page, size) → next_of unread ≡ Ok (Some (page, record { at = unread.at + size; text = drop size unread.text }))
+pub next_image : (unread : Unread) (page : Gray) (size : ℕ) → length unread.text ≢ 0 → is_raw unread.text ≡ true
+    → image_at unread.at unread.text ≡ Ok (page, size) → next_of unread ≡ Ok (Some (page, record { at = unread.at + size; text = drop size unread.text }))
 next_image unread page size some raw e = next_raw unread some raw ∙ ap (λ r. r >>= step_over unread) e
 
-pub next_fault : (unread : Unread) (fault : PgmFault) → length unread.text ≢ 0 → is_raw unread.text ≡ true → image_at unread.at unread.text ≡ Err fault → next_of unread ≡ Err fault
+pub next_fault : (unread : Unread) (fault : PgmFault) → length unread.text ≢ 0 → is_raw unread.text ≡ true
+    → image_at unread.at unread.text ≡ Err fault → next_of unread ≡ Err fault
 next_fault unread fault some raw e = next_raw unread some raw ∙ ap (λ r. r >>= step_over unread) e
 
 -- the same of bytes that were read up to an offset, by what the code reads of them
-pub found_image : (bytes text : List ℕ) (at size : ℕ) (page : Gray) → text ≡ drop at bytes → length (drop at bytes) ≢ 0 → is_raw (drop at bytes) ≡ true → Ok (page, size) ≡ image_at at text → next_of (unread_from bytes at) ≡ Ok (Some (page, unread_from bytes (at + size)))
+pub found_image : (bytes text : List ℕ) (at size : ℕ) (page : Gray) → text ≡ drop at bytes → length (drop at bytes) ≢ 0
+    → is_raw (drop at bytes) ≡ true → Ok (page, size) ≡ image_at at text → next_of (unread_from bytes at) ≡ Ok (Some (page, unread_from bytes (at + size)))
 found_image bytes text at size page is some raw e =
     next_image (unread_from bytes at) page size some raw (ap (image_at at) (sym is) ∙ sym e)
     ∙ ap (λ rest. Ok (Some (page, record { at = at + size; text = rest }))) (drop-drop size at bytes)
 
-pub found_fault : (bytes text : List ℕ) (at : ℕ) (fault : PgmFault) → text ≡ drop at bytes → length (drop at bytes) ≢ 0 → is_raw (drop at bytes) ≡ true → Err fault ≡ image_at at text → next_of (unread_from bytes at) ≡ Err fault
+pub found_fault : (bytes text : List ℕ) (at : ℕ) (fault : PgmFault) → text ≡ drop at bytes → length (drop at bytes) ≢ 0
+    → is_raw (drop at bytes) ≡ true → Err fault ≡ image_at at text → next_of (unread_from bytes at) ≡ Err fault
 found_fault bytes text at fault is some raw e =
     next_fault (unread_from bytes at) fault some raw (ap (image_at at) (sym is) ∙ sym e)

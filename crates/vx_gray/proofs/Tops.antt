@@ -70,23 +70,28 @@ column_beside gray first (suc rows) u h =
     ap₂ max (column_beside gray first rows u h) (value_beside gray u (first + rows) h)
 
 -- rows under the frame don't count
-pub column-cut : (gray : Gray) (first rows all u : ℕ) → rows ≤ all → rows ≡ min (first + all) gray.height - first → column_top gray first all u ≡ column_top gray first rows u
+pub column-cut : (gray : Gray) (first rows all u : ℕ) → rows ≤ all → rows ≡ min (first + all) gray.height - first
+    → column_top gray first all u ≡ column_top gray first rows u
 column-cut gray first rows all u within is =
     greatest-cut_at rows all (λ j. value_at gray u (first + j)) within
     (λ i a b. value_under gray u (first + i) (omega arith))
 
 -- a row's values are those of the page
-pub row_value : (gray : Gray) (v u : ℕ) → u < gray.width → v < gray.height → get_or (take gray.width (drop (v * gray.width) gray.values)) u 0 ≡ value_at gray u v
+pub row_value : (gray : Gray) (v u : ℕ) → u < gray.width → v < gray.height
+    → get_or (take gray.width (drop (v * gray.width) gray.values)) u 0 ≡ value_at gray u v
 row_value gray v u h k =
     get_or-take gray.width (drop (v * gray.width) gray.values) u 0 h
     ∙ get_or-drop (v * gray.width) gray.values u 0
     ∙ sym (value_inside gray u v h k)
 
 -- the greatest of a tile's columns and its neighbours', cut at the frame
-pub top_is : (gray : Gray) (down across start end : ℕ) (tops : List ℕ) → AreColumnTops gray (near_start down) (near_size down) tops → start ≡ near_start across → end ≡ min (64 * (across + 2)) gray.width → start ≤ end → greatest (length (take (end - start) (drop start tops))) (λ i. get_or (take (end - start) (drop start tops)) i 0) ≡ top_of gray across down
+pub top_is : (gray : Gray) (down across start end : ℕ) (tops : List ℕ) → AreColumnTops gray (near_start down) (near_size down) tops
+    → start ≡ near_start across → end ≡ min (64 * (across + 2)) gray.width → start ≤ end → greatest (length (take (end - start) (drop start tops)))
+    (λ i. get_or (take (end - start) (drop start tops)) i 0) ≡ top_of gray across down
 unfolding top_of
 top_is gray down across start end tops are starts ends order =
-    let long : length (take (end - start) (drop start tops)) ≡ end - start = omega (arith, length-take (end - start) (drop start tops), length-drop start tops, are.size) in
+    let long : length (take (end - start) (drop start tops)) ≡ end - start = omega
+    (arith, length-take (end - start) (drop start tops), length-drop start tops, are.size) in
     let column : ℕ → ℕ = λ i. column_top gray (near_start down) (near_size down) (near_start across + i) in
     ap (λ n. greatest n (λ i. get_or (take (end - start) (drop start tops)) i 0)) long
     ∙ (greatest-same (end - start) (λ i. get_or (take (end - start) (drop start tops)) i 0) column
@@ -99,32 +104,39 @@ top_is gray down across start end tops are starts ends order =
     (λ i a b. column_beside gray (near_start down) (near_size down) (near_start across + i) (omega arith))))
 
 -- the tops of a row more
-pub tops_more : (gray : Gray) (first v n : ℕ) (old seen row new : List ℕ) → first ≤ v → v < gray.height → AreColumnTops gray first (v - first) old → seen ≡ old → row ≡ take gray.width (drop (v * gray.width) gray.values) → length new ≡ length seen → n ≡ length old → IsRaised seen row new → AreColumnTops gray first (v + 1 - first) (take n (new ++ drop (length new) old))
+pub tops_more : (gray : Gray) (first v n : ℕ) (old seen row new : List ℕ) → first ≤ v → v < gray.height → AreColumnTops gray first (v - first) old
+    → seen ≡ old → row ≡ take gray.width
+    (drop (v * gray.width) gray.values) → length new ≡ length seen → n ≡ length old → IsRaised seen row new → AreColumnTops gray first
+    (v + 1 - first) (take n (new ++ drop (length new) old))
 tops_more gray first v n old seen row new order inside are same is long all raised =
     let one : v + 1 - first ≡ v - first + 1 = omega arith in
     let here : first + (v - first) ≡ v = omega arith in
-    subst (AreColumnTops gray first (v + 1 - first)) (sym (ap (λ k. take k (new ++ drop (length new) old)) (all ∙ sym (long ∙ ap length same)) ∙ take-append_seam new (drop (length new) old)))
+    subst (AreColumnTops gray first (v + 1 - first)) (sym (ap (λ k. take k (new ++ drop (length new) old)) (all ∙ sym (long ∙ ap length same))
+    ∙ take-append_seam new (drop (length new) old)))
     (record {
       size = long ∙ ap length same ∙ are.size;
       values = λ u.
           raised u
           ∙ (ap₂ max (ap (λ s. get_or s u 0) same ∙ are.values u) (elim (cases_lt u gray.width) [
             | inl h ↦ ap (λ r. get_or r u 0) is ∙ row_value gray v u h inside
-            | inr h ↦ get_or_past row u 0 (omega (arith, ap length is, length-take gray.width (drop (v * gray.width) gray.values))) ∙ sym (value_beside gray u v h)
+            | inr h ↦ get_or_past row u 0 (omega (arith, ap length is, length-take gray.width (drop (v * gray.width) gray.values)))
+                ∙ sym (value_beside gray u v h)
           ] ∙ ap (value_at gray u) (sym here))
           ∙ (sym (greatest_more (v - first) (λ j. value_at gray u (first + j)))
           ∙ ap (λ k. column_top gray first k u) (sym one)));
     })
 
 -- the tops of all rows of a band and its neighbours, cut at the frame
-pub tops_all : (gray : Gray) (first all v : ℕ) (tops : List ℕ) → v - first ≡ min (first + all) gray.height - first → AreColumnTops gray first (v - first) tops → AreColumnTops gray first all tops
+pub tops_all : (gray : Gray) (first all v : ℕ) (tops : List ℕ) → v - first ≡ min (first + all) gray.height - first
+    → AreColumnTops gray first (v - first) tops → AreColumnTops gray first all tops
 tops_all gray first all v tops end are = record {
   size = are.size;
   values = λ u. are.values u ∙ sym (column-cut gray first (v - first) all u (omega arith) end);
 }
 
 -- one tile's number more
-pub halves_more : (f : ℕ → ℕ) (n half : ℕ) (halves : List ℕ) → length halves ≡ n → half ≡ f n → ((a : ℕ) → a < n → get_or halves a 0 ≡ f a) → (a : ℕ) → a < n + 1 → get_or (halves ++ half ∷ []) a 0 ≡ f a
+pub halves_more : (f : ℕ → ℕ) (n half : ℕ) (halves : List ℕ) → length halves ≡ n → half ≡ f n → ((a : ℕ) → a < n → get_or halves a 0 ≡ f a) → (a : ℕ)
+    → a < n + 1 → get_or (halves ++ half ∷ []) a 0 ≡ f a
 halves_more f n half halves long is so_far a h = elim (cases_lt a n) [
   | inl l ↦ get_or_append_left halves (half ∷ []) 0 a (omega arith) ∙ so_far a l
   | inr l ↦

@@ -38,7 +38,8 @@ header_size text header e =
     let is : h.0 ≡ header.size = ap (λ r. size_in r 0) h.2 in
     omega arith
 
-bounds_test : (big fits : Bool) (found header : Header) (maxval size : PgmFault) → cond big (Err maxval) (cond fits (Ok found) (Err size)) ≡ Ok header → found ≡ header
+bounds_test : (big fits : Bool) (found header : Header) (maxval size : PgmFault) → cond big (Err maxval) (cond fits (Ok found) (Err size)) ≡ Ok header
+    → found ≡ header
 bounds_test true fits found header maxval size e = absurd cc
 bounds_test false true found header maxval size e = cc
 bounds_test false false found header maxval size e = absurd cc
@@ -47,7 +48,8 @@ found_header : (at : ℕ) (read : Result Header ℕ) (header : Header) → in_bo
 found_header at (Err offset) header e = absurd cc
 found_header at (Ok found) header e = ap Ok (bounds_test _ _ found header _ _ e)
 
-raster_test : (short : Bool) (fault : PgmFault) (page : Gray) (size : ℕ) (found : Gray × ℕ) → cond short (Err fault) (Ok (page, size)) ≡ Ok found → size ≡ found.1
+raster_test : (short : Bool) (fault : PgmFault) (page : Gray) (size : ℕ) (found : Gray × ℕ) → cond short (Err fault) (Ok (page, size)) ≡ Ok found
+    → size ≡ found.1
 raster_test true fault page size found e = absurd cc
 raster_test false fault page size found e = cc
 
@@ -55,12 +57,14 @@ raster_test false fault page size found e = cc
 image_size : (at : ℕ) (text : List ℕ) (found : Gray × ℕ) → image_at at text ≡ Ok found → 0 < found.1
 unfolding image_at raster
 image_size at text found e =
-    let a : (h : Header) × (in_bounds at (header_at text) ≡ Ok h) × (raster h text ≡ Ok found) = bind_ok (in_bounds at (header_at text)) (λ header. raster header text) found e in
+    let a : (h : Header) × (in_bounds at (header_at text) ≡ Ok h) × (raster h text ≡ Ok found) = bind_ok (in_bounds at (header_at text))
+    (λ header. raster header text) found e in
     let some : 0 < a.0.size = header_size text a.0 (found_header at (header_at text) a.0 a.1) in
     let size : a.0.size + a.0.height * a.0.width ≡ found.1 = raster_test _ _ _ (a.0.size + a.0.height * a.0.width) found a.2 in
     omega arith
 
-choices : (none raw : Bool) (bad : PgmFault) (image : Result (Option (Gray × Unread)) PgmFault) (found : Gray × Unread) → cond none (Ok None) (cond raw image (Err bad)) ≡ Ok (Some found) → (none ≡ false) × (image ≡ Ok (Some found))
+choices : (none raw : Bool) (bad : PgmFault) (image : Result (Option (Gray × Unread)) PgmFault) (found : Gray × Unread)
+    → cond none (Ok None) (cond raw image (Err bad)) ≡ Ok (Some found) → (none ≡ false) × (image ≡ Ok (Some found))
 choices true raw bad image found e = absurd cc
 choices false true bad image found e = (refl, e)
 choices false false bad image found e = absurd cc
@@ -70,7 +74,8 @@ unread_in unread (Ok (Some found)) = found.1
 unread_in unread (Ok None) = unread
 unread_in unread (Err fault) = unread
 
-stepped : (old : Unread) (read : Result (Gray × ℕ) PgmFault) (found : Gray × Unread) → (read >>= step_over old) ≡ Ok (Some found) → (image : Gray × ℕ) × (read ≡ Ok image) × (drop image.1 old.text ≡ found.1.text)
+stepped : (old : Unread) (read : Result (Gray × ℕ) PgmFault) (found : Gray × Unread) → (read >>= step_over old) ≡ Ok (Some found)
+    → (image : Gray × ℕ) × (read ≡ Ok image) × (drop image.1 old.text ≡ found.1.text)
 unfolding unread_in
 stepped old (Ok image) found e = (image, refl, ap (λ r. (unread_in old r).text) e)
 stepped old (Err fault) found e = absurd cc
@@ -86,7 +91,9 @@ shorter old found e =
     let rest : length (drop s.0.1 old.text) ≡ length found.1.text = ap length s.2 in
     omega (arith, length-drop s.0.1 old.text)
 
-same_onwards : (f g : Unread → Images) (n : ℕ) (r : Result (Option (Gray × Unread)) PgmFault) → ((found : Gray × Unread) → r ≡ Ok (Some found) → length found.1.text < n) → ((new : Unread) → length new.text < n → f new ≡ g new) → onwards f r ≡ onwards g r
+same_onwards : (f g : Unread → Images) (n : ℕ) (r : Result (Option (Gray × Unread)) PgmFault)
+    → ((found : Gray × Unread) → r ≡ Ok (Some found) → length found.1.text < n) →
+    ((new : Unread) → length new.text < n → f new ≡ g new) → onwards f r ≡ onwards g r
 same_onwards f g n (Ok (Some found)) short same = ap (with_page found.0) (same found.1 (short found refl))
 same_onwards f g n (Ok None) short same = refl
 same_onwards f g n (Err fault) short same = refl
@@ -96,14 +103,16 @@ same_within : (n m : ℕ) (unread : Unread) → length unread.text < n → lengt
 same_within zero m unread a b = absurd (omega arith)
 same_within (suc n) zero unread a b = absurd (omega arith)
 same_within (suc n) (suc m) unread a b =
-    same_onwards (images_within n) (images_within m) (length unread.text) (next_of unread) (shorter unread) (λ new l. same_within n m new (omega arith) (omega arith))
+    same_onwards (images_within n) (images_within m) (length unread.text) (next_of unread) (shorter unread)
+    (λ new l. same_within n m new (omega arith) (omega arith))
 
 -- the images that are left are the first of them and those behind it
 pub images_step : (old : Unread) → images_left old ≡ onwards images_left (next_of old)
 unfolding images_left
 images_step old =
     ap (λ n. images_within n old) (add-one (length old.text))
-    ∙ same_onwards (images_within (length old.text)) images_left (length old.text) (next_of old) (shorter old) (λ new l. same_within (length old.text) (length new.text + 1) new l (omega arith))
+    ∙ same_onwards (images_within (length old.text)) images_left (length old.text) (next_of old) (shorter old)
+    (λ new l. same_within (length old.text) (length new.text + 1) new l (omega arith))
 
 -- the images that are left, by what stands first
 pub walks_page : (old new : Unread) (page : Gray) → next_of old ≡ Ok (Some (page, new)) → images_left old ≡ with_page page (images_left new)

@@ -1,7 +1,8 @@
 -- The grayscale images of bytes: raw images one after another with nothing between.
-use Rattle.std.specs.Prelude.{◌≡◌, ℕ, zero, suc, ◌+◌, ◌*◌, ◌==◌, ◌&&◌, Bool, List, [], ◌∷◌, length, drop, take, nat_lt, nat_le, nat_eq, codes, if◌then◌else◌, Option, Some, None, Result, Ok, Err}
+use Rattle.std.specs.Prelude.{All, ◌≡◌, ℕ, zero, suc, ◌+◌, ◌*◌, ◌==◌, ◌&&◌, Bool, List, [], ◌∷◌, length, drop, take, nat_lt, nat_le, nat_eq, codes, if◌then◌else◌, Option, Some, None, Result, Ok, Err}
 use Rattle.std.specs.List.{starts_with}
 use Rattle.vx_base.specs.Results.{◌>>=◌}
+use Rattle.vx_pbm.specs.Raster.{IsSized}
 use Rattle.vx_gray.specs.declared.fault.PgmFault.{PgmFault}
 use Rattle.vx_gray.specs.declared.fault.PgmFault.TheVariants.{BadMagic, BadHeader, SizeTooLarge, Truncated, BadMaxval}
 use Rattle.vx_gray.specs.declared.header.Header.{Header}
@@ -107,3 +108,11 @@ abbrev pub Walks : Unread → Result (Option Gray) PgmFault → Unread → Type 
 Walks old (Ok (Some page)) new = images_left old ≡ with_page page (images_left new)
 Walks old (Ok None) new = images_left old ≡ ended None
 Walks old (Err fault) new = images_left old ≡ ended (Some fault)
+
+-- a page that a reader gives: of 1 to 4096 pixels each way
+abbrev pub IsSizedGray : Gray → Type 0
+IsSizedGray gray = IsSized gray.width gray.height
+
+-- the images of bytes are such pages
+abbrev pub ImagesAreSized : Type 0
+ImagesAreSized = (bytes : List ℕ) → All IsSizedGray (images_of bytes).pages

@@ -1,6 +1,7 @@
 //! Laws of the bits of grayscale scans. These functions do nothing; their contracts are the laws.
 
 ghost use Rattle.vx_gray.specs.Fits.{BitsAreWhatIsShown, BitsFit, ShownPrintsFit, SlowLightShows, TwoLevelsShow};
+ghost use Rattle.vx_gray.specs.Images.{ImagesAreSized};
 
 use vx_scan_model::clean_prints_fit;
 
@@ -21,3 +22,8 @@ pub fn shown_prints_fit()
 {
     clean_prints_fit();
 }
+
+/// The images of bytes are pages of 1 to 4096 pixels each way.
+pub fn images_are_sized()
+    ensures { ImagesAreSized }
+{}

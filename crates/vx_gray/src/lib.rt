@@ -23,6 +23,6 @@ mod view;
 
 pub use bits::to_bits;
 pub use fault::PgmFault;
-pub use laws::{bits_fit, shown_prints_fit};
+pub use laws::{bits_fit, images_are_sized, shown_prints_fit};
 pub use reader::PgmReader;
 pub use view::GrayView;

@@ -8,7 +8,8 @@ use Rattle.vx_words.specs.Words.{IsArgument}
 use Rattle.vx_command_gray.proofs.reading.are_arguments.Goals as goal
 
 -- one word more that is looked at
-one_more : (words : List (List ℕ)) (index : ℕ) (word : List ℕ) → slice_get words index ≡ Some word → IsArgument word → ((k : ℕ) → 1 ≤ k → k < index → IsArgument (get_or words k [])) → (k : ℕ) → 1 ≤ k → k < index + 1 → IsArgument (get_or words k [])
+one_more : (words : List (List ℕ)) (index : ℕ) (word : List ℕ) → slice_get words index ≡ Some word → IsArgument word
+    → ((k : ℕ) → 1 ≤ k → k < index → IsArgument (get_or words k [])) → (k : ℕ) → 1 ≤ k → k < index + 1 → IsArgument (get_or words k [])
 one_more words index word at is before k low high = elim (cases_lt k index) [
   | inl l ↦ before k low l
   | inr l ↦
@@ -17,12 +18,14 @@ one_more words index word at is before k low high = elim (cases_lt k index) [
 ]
 
 -- all of them are looked at
-all_words : (words : List (List ℕ)) (index : ℕ) → length words ≤ index → ((k : ℕ) → 1 ≤ k → k < index → IsArgument (get_or words k [])) → All IsArgument (drop 1 words)
+all_words : (words : List (List ℕ)) (index : ℕ) → length words ≤ index → ((k : ℕ) → 1 ≤ k → k < index → IsArgument (get_or words k []))
+    → All IsArgument (drop 1 words)
 all_words words index past each = All-from_get_or IsArgument (drop 1 words) []
     (λ i h. subst IsArgument (sym (get_or-drop 1 words i [])) (each (1 + i) (omega arith) (omega (arith, length-drop 1 words))))
 
 -- one of the words
-one_word : (words : List (List ℕ)) (index : ℕ) (word : List ℕ) → 1 ≤ index → slice_get words index ≡ Some word → All IsArgument (drop 1 words) → IsArgument word
+one_word : (words : List (List ℕ)) (index : ℕ) (word : List ℕ) → 1 ≤ index → slice_get words index ≡ Some word → All IsArgument (drop 1 words)
+    → IsArgument word
 one_word words index word low at are =
     let inside : index < length words = slice_get_within words index word at in
     let place : 1 + (index - 1) ≡ index = omega arith in

@@ -8,21 +8,26 @@ use Rattle.vx_command_gray.proofs.scans.write_scans.Goals as goal
 
 pub returns-in-Ok-Some-clause-done : goal.returns-in-Ok-Some-clause-done
 returns-in-Ok-Some-clause-done g c files told =
-    let Written : Option PgmFault → Type 0 = λ found. WritesFirst files c.loop-word.word c.word.result.now (g.S.Sink.taken c.loop-word.out) (g.S.Sink.taken c.write_input.new.out) (Ok found) in
-    scan_faulty files c.args.words.now c.loop-word.word c.word.result.now (gray_outcome (drop 1 c.args.words.now) files) _ _ _ c.word.ensures (c.loop-word.invariant.comes files told)
+    let Written : Option PgmFault → Type 0 = λ found. WritesFirst files c.loop-word.word c.word.result.now (g.S.Sink.taken c.loop-word.out)
+    (g.S.Sink.taken c.write_input.new.out) (Ok found) in
+    scan_faulty files c.args.words.now c.loop-word.word c.word.result.now (gray_outcome (drop 1 c.args.words.now) files) _ _ _ c.word.ensures
+    (c.loop-word.invariant.comes files told)
     c.acts_in_order.ensures c.in-Ok-Some.fault (subst Written c.in-Ok-Some.field-0-is (c.in-Ok-Some.ensures.done files (c.loop-word.invariant.same ∙ told)))
 
 pub returns-in-Err-clause-done : goal.returns-in-Err-clause-done
 returns-in-Err-clause-done g c files told =
-    scan_broken files c.args.words.now c.loop-word.word c.word.result.now (gray_outcome (drop 1 c.args.words.now) files) _ _ _ c.word.ensures (c.loop-word.invariant.comes files told)
+    scan_broken files c.args.words.now c.loop-word.word c.word.result.now (gray_outcome (drop 1 c.args.words.now) files) _ _ _ c.word.ensures
+    (c.loop-word.invariant.comes files told)
     c.in-Err.cause c.status_of_halt.result c.status_of_halt.ensures (c.in-Err.ensures.done files (c.loop-word.invariant.same ∙ told))
 
 pub loop-word-preserved : goal.loop-word-preserved
 loop-word-preserved g c =
-    let Written : (files : Files) → Option PgmFault → Type 0 = λ files found. WritesFirst files c.loop-word.word c.word.result.now (g.S.Sink.taken c.loop-word.out) (g.S.Sink.taken c.write_input.new.out) (Ok found) in
+    let Written : (files : Files) → Option PgmFault → Type 0 = λ files found. WritesFirst files c.loop-word.word c.word.result.now
+    (g.S.Sink.taken c.loop-word.out) (g.S.Sink.taken c.write_input.new.out) (Ok found) in
     record {
       comes = λ files told.
-          scan_written files c.args.words.now c.loop-word.word c.word.result.now (gray_outcome (drop 1 c.args.words.now) files) _ _ _ c.word.ensures (c.loop-word.invariant.comes files told)
+          scan_written files c.args.words.now c.loop-word.word c.word.result.now (gray_outcome (drop 1 c.args.words.now) files) _ _ _ c.word.ensures
+          (c.loop-word.invariant.comes files told)
           (subst (Written files) c.in-Ok-None.field-0-is (c.in-Ok-None.ensures.done files (c.loop-word.invariant.same ∙ told)));
       same = c.in-Ok-None.ensures.inputs.same ∙ c.loop-word.invariant.same;
       no_read_fault = c.in-Ok-None.ensures.inputs.counts.still refl ∙ c.loop-word.invariant.no_read_fault;

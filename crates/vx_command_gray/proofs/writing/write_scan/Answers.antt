@@ -19,9 +19,11 @@ returns-in-Err-clause-written g c =
 pub returns-in-Ok-None-clause-written : goal.returns-in-Ok-None-clause-written
 returns-in-Ok-None-clause-written g c =
     let Left : Option Gray → Type 0 = λ found. Walks c.images.reader (Ok found) c.next.new.self in
-    all_written c.acts_in_order.ensures c.args.word c.args.bytes.now _ _ c.images.reader c.images.invariant.comes (subst Left c.in-Ok-None.field-0-is c.in-Ok-None.ensures.images)
+    all_written c.acts_in_order.ensures c.args.word c.args.bytes.now _ _ c.images.reader c.images.invariant.comes
+    (subst Left c.in-Ok-None.field-0-is c.in-Ok-None.ensures.images)
 
-less_unread : (old new : Unread) (found : Option Gray) (page : Gray) → found ≡ Some page → OnSome found (length new.text < length old.text) → length new.text < length old.text
+less_unread : (old new : Unread) (found : Option Gray) (page : Gray) → found ≡ Some page → OnSome found (length new.text < length old.text)
+    → length new.text < length old.text
 less_unread old new found page is less =
     let Less : Option Gray → Type 0 = λ some. OnSome some (length new.text < length old.text) in
     subst Less is less
@@ -32,9 +34,11 @@ images-smaller g c = less_unread c.images.reader c.next.new.self _ c.in-Ok-Some.
 pub images-preserved : goal.images-preserved
 images-preserved g c =
     let Left : Option Gray → Type 0 = λ found. Walks c.images.reader (Ok found) c.next.new.self in
-    let left : images_left c.images.reader ≡ with_page c.in-Ok-Some.page (images_left c.next.new.self) = subst Left c.in-Ok-Some.field-0-is c.in-Ok-Some.ensures.images in
+    let left : images_left c.images.reader ≡ with_page c.in-Ok-Some.page
+    (images_left c.next.new.self) = subst Left c.in-Ok-Some.field-0-is c.in-Ok-Some.ensures.images in
     record {
-      comes = one_written c.acts_in_order.ensures c.args.word c.args.bytes.now _ _ c.images.reader c.images.invariant.comes c.in-Ok-Some.page c.next.new.self _ left c.in_ok-write_page-in-Ok-Some.ensures.done;
+      comes = one_written c.acts_in_order.ensures c.args.word c.args.bytes.now _ _ c.images.reader c.images.invariant.comes c.in-Ok-Some.page
+          c.next.new.self _ left c.in_ok-write_page-in-Ok-Some.ensures.done;
       still = c.in_ok-write_page-in-Ok-Some.ensures.sink.sink.still refl ∙ c.images.invariant.still;
     }
 
@@ -42,10 +46,13 @@ pub returns-in_err-write_page-in-Ok-Some-clause-written : goal.returns-in_err-wr
 returns-in_err-write_page-in-Ok-Some-clause-written g c =
     let err = err_from_is_err_and c.from_residual.result c.from_residual.ensures.1 in
     let Left : Option Gray → Type 0 = λ found. Walks c.images.reader (Ok found) c.next.new.self in
-    let left : images_left c.images.reader ≡ with_page c.in-Ok-Some.page (images_left c.next.new.self) = subst Left c.in-Ok-Some.field-0-is c.in-Ok-Some.ensures.images in
-    rw (err.1 ∙ ap Err err.2) (one_broken c.acts_in_order.ensures c.args.word c.args.bytes.now _ _ c.images.reader c.images.invariant.comes c.in-Ok-Some.page c.next.new.self _ c.in_err-write_page-in-Ok-Some.field-0.0 left c.in_err-write_page-in-Ok-Some.ensures.done)
+    let left : images_left c.images.reader ≡ with_page c.in-Ok-Some.page
+    (images_left c.next.new.self) = subst Left c.in-Ok-Some.field-0-is c.in-Ok-Some.ensures.images in
+    rw (err.1 ∙ ap Err err.2) (one_broken c.acts_in_order.ensures c.args.word c.args.bytes.now _ _ c.images.reader c.images.invariant.comes
+    c.in-Ok-Some.page c.next.new.self _ c.in_err-write_page-in-Ok-Some.field-0.0 left c.in_err-write_page-in-Ok-Some.ensures.done)
 
 pub returns-in_err-write_page-in-Ok-Some-clause-stops : goal.returns-in_err-write_page-in-Ok-Some-clause-stops
 returns-in_err-write_page-in-Ok-Some-clause-stops g c =
     let err = err_from_is_err_and c.from_residual.result c.from_residual.ensures.1 in
-    rw (err.1 ∙ ap Err err.2) (written_stops _ _ _ c.in_err-write_page-in-Ok-Some.field-0.0 c.in_err-write_page-in-Ok-Some.ensures.sink.no_keeper_fault c.in_err-write_page-in-Ok-Some.ensures.done)
+    rw (err.1 ∙ ap Err err.2) (written_stops _ _ _ c.in_err-write_page-in-Ok-Some.field-0.0
+    c.in_err-write_page-in-Ok-Some.ensures.sink.no_keeper_fault c.in_err-write_page-in-Ok-Some.ensures.done)

@@ -7,7 +7,8 @@ use Rattle.vx_command_gray.proofs.writing.write_scan.Given as goal
 -- the images so far are written, without a fault
 abbrev pub invariant-images : goal.invariant-images
 invariant-images g l = record {
-  comes : (rest : GrayOutcome) → Comes (scan_outcome l.word (images_of l.bytes) rest) (scan_outcome l.word (images_left l.reader) rest) (g.S.Sink.taken l.initial.out) (g.S.Sink.taken l.out);
+  comes : (rest : GrayOutcome) → Comes (scan_outcome l.word (images_of l.bytes) rest) (scan_outcome l.word (images_left l.reader) rest)
+      (g.S.Sink.taken l.initial.out) (g.S.Sink.taken l.out);
   still : g.S.Sink.faults l.out ≡ g.S.Sink.faults l.initial.out;
 }
 

@@ -6,11 +6,14 @@ use Rattle.vx_gray.proofs.near.column_tops.Goals as goal
 pub loop-v-preserved : goal.loop-v-preserved
 loop-v-preserved c =
     let start : near_start c.args.down ≤ c.loop-v.v = omega arith in
-    tops_more c.args.gray.now (near_start c.args.down) c.loop-v.v c.loop-v.tops.len c.loop-v.tops.items c.deref_mut.result.now c.row.result.now c.raise.new.tops
-    start (omega (arith, c.height-height.ensures.value)) c.loop-v.invariant c.deref_mut.ensures.value c.row.ensures.values c.raise.auto.tops (omega arith) c.raise.ensures
+    tops_more c.args.gray.now (near_start c.args.down) c.loop-v.v c.loop-v.tops.len c.loop-v.tops.items c.deref_mut.result.now c.row.result.now
+    c.raise.new.tops
+    start (omega (arith, c.height-height.ensures.value)) c.loop-v.invariant c.deref_mut.ensures.value c.row.ensures.values c.raise.auto.tops
+    (omega arith) c.raise.ensures
 
 pub returns : goal.returns
 returns c =
-    let end : c.loop-v.v - near_start c.args.down ≡ min (near_start c.args.down + near_size c.args.down) c.args.gray.now.height - near_start c.args.down = omega (arith, c.height-height.ensures.value) in
+    let end : c.loop-v.v - near_start c.args.down ≡ min
+    (near_start c.args.down + near_size c.args.down) c.args.gray.now.height - near_start c.args.down = omega (arith, c.height-height.ensures.value) in
     tops_all c.args.gray.now (near_start c.args.down) (near_size c.args.down) c.loop-v.v c.loop-v.tops.items
     end c.loop-v.invariant

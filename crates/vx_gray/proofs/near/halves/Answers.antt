@@ -11,7 +11,8 @@ half_is half top most halved is = omega arith
 pub loop-across-preserved : goal.loop-across-preserved
 loop-across-preserved c = record {
   size = ap length c.in_ok-push.ensures.items ∙ (length-append c.loop-across.halves.items _ ∙ ap (λ n. n + 1) c.loop-across.invariant.size);
-  values = subst (λ (xs : List ℕ). (a : ℕ) → a < c.loop-across.across + 1 → get_or xs a 0 ≡ (top_of c.args.gray.now a c.args.down + 1) / 2) (sym c.in_ok-push.ensures.items)
+  values = subst (λ (xs : List ℕ). (a : ℕ) → a < c.loop-across.across + 1 → get_or xs a 0 ≡ (top_of c.args.gray.now a c.args.down + 1) / 2)
+      (sym c.in_ok-push.ensures.items)
       (halves_more (λ a. (top_of c.args.gray.now a c.args.down + 1) / 2) c.loop-across.across _ c.loop-across.halves.items c.loop-across.invariant.size
       (half_is _ c.greatest-top.result (top_of c.args.gray.now c.loop-across.across c.args.down) refl
       (c.greatest-top.ensures

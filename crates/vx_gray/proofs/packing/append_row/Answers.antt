@@ -7,7 +7,8 @@ use Rattle.vx_gray.proofs.packing.append_row.Goals as goal
 
 pub loop-across-preserved : goal.loop-across-preserved
 loop-across-preserved c =
-    tile_more c.args.into.now.items c.loop-across.into.items c.append_tile.new.into.items c.args.halves.now c.args.pixels.now c.loop-across.across c.min-end.result _
+    tile_more c.args.into.now.items c.loop-across.into.items c.append_tile.new.into.items c.args.halves.now c.args.pixels.now c.loop-across.across
+    c.min-end.result _
     refl c.min-end.ensures (omega arith) c.loop-across.invariant c.in_ok-append_tile.ensures
 
 pub returns : goal.returns

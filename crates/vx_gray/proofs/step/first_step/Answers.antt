@@ -33,5 +33,6 @@ returns c = record {
       (eqb-false _ _ (ap (λ text. length text == 0) (sym (take_rest c.args.bytes.now c.args.at)) ∙ (sym c.is_empty.ensures ∙ c.if-is_empty.false)))
       (ap is_raw (sym (take_rest c.args.bytes.now c.args.at)) ∙ (sym c.starts_with.ensures.value ∙ c.if-not-starts_with.false))
       c.in_ok-page.ensures.exact;
-  within = (let within = subst (λ text. c.in_ok-page.size ≤ length text) (take_rest c.args.bytes.now c.args.at) c.in_ok-page.ensures.within in omega (arith, within, length-drop c.args.at c.args.bytes.now, c.requires));
+  within = (let within = subst (λ text. c.in_ok-page.size ≤ length text) (take_rest c.args.bytes.now c.args.at) c.in_ok-page.ensures.within in omega
+      (arith, within, length-drop c.args.at c.args.bytes.now, c.requires));
 }

@@ -9,7 +9,8 @@ pub returns-in_err-first_step-clause-images : goal.returns-in_err-first_step-cla
 returns-in_err-first_step-clause-images c =
     let p = err_from_is_err_and c.from_residual.result c.from_residual.ensures.1 in
     subst (λ (old : Unread). Walks old c.from_residual.result old) c.self.view_is
-    (subst (λ result. Walks (unread_from c.self.inside.bytes.now c.self.inside.at) result (unread_from c.self.inside.bytes.now c.self.inside.at)) (sym (p.1 ∙ ap Err p.2))
+    (subst (λ result. Walks (unread_from c.self.inside.bytes.now c.self.inside.at) result (unread_from c.self.inside.bytes.now c.self.inside.at))
+    (sym (p.1 ∙ ap Err p.2))
     (walks_fault (unread_from c.self.inside.bytes.now c.self.inside.at) c.in_err-first_step.field-0.0 c.in_err-first_step.ensures))
 
 pub returns-in-None-clause-images : goal.returns-in-None-clause-images
@@ -19,12 +20,15 @@ returns-in-None-clause-images c =
 
 pub returns-in-Some-clause-images : goal.returns-in-Some-clause-images
 returns-in-Some-clause-images c =
-    let step : StepsOver c.self.inside.bytes.now (unread_from c.self.inside.bytes.now c.self.inside.at) c.in-Some.step = rw c.in-Some.is at c.in_ok-first_step.ensures in
-    subst (λ (old : Unread). images_left old ≡ with_page c.in-Some.step.page (images_left (unread_from c.self.inside.bytes.now c.in-Some.step.at))) c.self.view_is
+    let step : StepsOver c.self.inside.bytes.now
+    (unread_from c.self.inside.bytes.now c.self.inside.at) c.in-Some.step = rw c.in-Some.is at c.in_ok-first_step.ensures in
+    subst (λ (old : Unread). images_left old ≡ with_page c.in-Some.step.page
+    (images_left (unread_from c.self.inside.bytes.now c.in-Some.step.at))) c.self.view_is
     (walks_page (unread_from c.self.inside.bytes.now c.self.inside.at) (unread_from c.self.inside.bytes.now c.in-Some.step.at) c.in-Some.step.page step.first)
 
 pub returns-in-Some-clause-less : goal.returns-in-Some-clause-less
 returns-in-Some-clause-less c =
-    let step : StepsOver c.self.inside.bytes.now (unread_from c.self.inside.bytes.now c.self.inside.at) c.in-Some.step = rw c.in-Some.is at c.in_ok-first_step.ensures in
+    let step : StepsOver c.self.inside.bytes.now
+    (unread_from c.self.inside.bytes.now c.self.inside.at) c.in-Some.step = rw c.in-Some.is at c.in_ok-first_step.ensures in
     subst (λ (old : Unread). length (drop c.in-Some.step.at c.self.inside.bytes.now) < length old.text) c.self.view_is
     (shorter (unread_from c.self.inside.bytes.now c.self.inside.at) _ step.first)

@@ -1,0 +1,10 @@
+//! Trials of `gray`: the worked rows, inputs that leave the grammar, and devices that fail. Nothing stands
+//! on it.
+#![tactic(auto)]
+
+#[cfg(test)]
+mod devices;
+#[cfg(test)]
+mod faults;
+#[cfg(test)]
+mod worked;
