@@ -96,12 +96,13 @@ module _ (election : Election) (kept : List Event) (rows : List ExportSheet) (ar
       let this : Added = record { at = stands.0; key = key; sheet = sheet } in
       let among : Contains (map (row_of election kept) (sheets_in kept)) (row_of election kept this) = contained (sheets_in kept) stands.1 this stands.2 in
       let never = All-contains (λ (row : ExportSheet). same_key row.key key ≡ false) rows (row_of election kept this) none
-          (Contains-permutation (map (row_of election kept) (sheets_in kept)) rows (row_of election kept this) are.all among) in
+      (Contains-permutation (map (row_of election kept) (sheets_in kept)) rows (row_of election kept this) are.all among) in
       absurd-both (same_key key key) (own-key key) never
     where
       absurd-both : (b : Bool) → b ≡ true → b ≡ false → ⊥
       absurd-both true is not = cc
       absurd-both false is not = cc
+
       contained : (list : List Added) (k : ℕ) (one : Added) → slice_get list k ≡ Some one → Contains (map (row_of election kept) list) (row_of election kept one)
       contained [] k one is = absurd cc
       contained (first ∷ list) zero one is = let same : first ≡ one = cc in (zero, omega arith, ap (row_of election kept) same)

@@ -55,5 +55,5 @@ module _ (finals : List Final) (contests : List ℕ) (ranking : List ℕ) (i con
       let ends : ends_list rank ≡ false = not-ends (ends_list rank) goes goes_on told in
       let Ends : Option Final → Type 0 = λ one. ends_list one ≡ false in
       let taken : now ≡ fold joined ranking (named_by (final_on finals contest)) =
-          list ∙ ap (λ (b : Bool). cond b ranking (fold joined ranking (named_by rank))) ends ∙ ap (λ (one : Option Final). fold joined ranking (named_by one)) same in
+      list ∙ ap (λ (b : Bool). cond b ranking (fold joined ranking (named_by rank))) ends ∙ ap (λ (one : Option Final). fold joined ranking (named_by one)) same in
       ap (λ (some : List ℕ). listed some (map (final_on finals) (drop (i + 1) contests))) taken ∙ turn-goes (subst Ends same ends)

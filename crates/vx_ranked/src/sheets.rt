@@ -192,12 +192,7 @@ pub fn rank_sheets(
     let rows = center.export_rows(alloc)?;
     let mut ranked = SheetRankingsList::new(alloc);
     for group in groups {
-        ranked.push(rank_group(
-            alloc,
-            center,
-            rows.as_slice(),
-            group.contests.as_slice(),
-        )?)?;
+        ranked.push(rank_group(alloc, center, rows.as_slice(), group.contests.as_slice())?)?;
     }
     Ok(ranked)
 }

@@ -14,9 +14,9 @@ returns-in-Add-clause-rankings c =
     let on = rankings_on c.args.center.now.election c.args.center.now.events c.args.contests.now in
     let before = c.args.self.now.rankings in
     on-ok c.take_sheet.result _ _ (λ is.
-        is ∙ ap (λ (finals : List Final). before ++ rankings_by c.args.contests.now c.in-Add.sheet finals) c.finals_of-finals.ensures
-        ∙ ap (λ (more : List (List ℕ)). before ++ more) (one-listed on added)
-        ∙ ap (λ (event : Event). before ++ flat_map on (added_by c.args.index event)) (sym c.in-Add.is)) c.take_sheet.ensures.rankings
+    is ∙ ap (λ (finals : List Final). before ++ rankings_by c.args.contests.now c.in-Add.sheet finals) c.finals_of-finals.ensures
+    ∙ ap (λ (more : List (List ℕ)). before ++ more) (one-listed on added)
+    ∙ ap (λ (event : Event). before ++ flat_map on (added_by c.args.index event)) (sym c.in-Add.is)) c.take_sheet.ensures.rankings
 
 pub returns-in-Add-clause-waiting : goal.returns-in-Add-clause-waiting
 returns-in-Add-clause-waiting c =
@@ -24,6 +24,6 @@ returns-in-Add-clause-waiting c =
     let on = waits_on c.args.center.now.election c.args.center.now.events c.args.contests.now in
     let before = c.args.self.now.waiting in
     on-ok c.take_sheet.result _ _ (λ is.
-        is ∙ ap (λ (finals : List Final). before + (if is_waiting c.args.contests.now c.in-Add.sheet finals then 1 else 0)) c.finals_of-finals.ensures
-        ∙ ap (λ (more : ℕ). before + more) (one-counted on added (on added) refl)
-        ∙ ap (λ (event : Event). before + count_by on (added_by c.args.index event)) (sym c.in-Add.is)) c.take_sheet.ensures.waiting
+    is ∙ ap (λ (finals : List Final). before + (if is_waiting c.args.contests.now c.in-Add.sheet finals then 1 else 0)) c.finals_of-finals.ensures
+    ∙ ap (λ (more : ℕ). before + more) (one-counted on added (on added) refl)
+    ∙ ap (λ (event : Event). before + count_by on (added_by c.args.index event)) (sym c.in-Add.is)) c.take_sheet.ensures.waiting
