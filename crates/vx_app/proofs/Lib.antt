@@ -1,6 +1,6 @@
 pub mod Moving
 mod Centered
-mod Growing
 mod Journals
 mod Named
 pub mod Adding
+mod Adds

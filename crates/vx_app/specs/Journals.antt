@@ -72,3 +72,25 @@ AreRuns election records (one ∷ runs) left = IsRun election records one × Are
 abbrev pub RunsLeaveJournals : Type 0
 RunsLeaveJournals =
     (election : Election) (runs : List Run) (left : List (List ℕ)) → AreRuns election [] runs left → IsJournal election left
+
+-- records are a journal of an election that keeps these events, and perhaps more behind them
+pub record KeepsMore (election : Election) (events : List Event) (records : List (List ℕ)) : Type 0 where
+  pub more : List Event
+  pub keeps : replay_of election records ≡ Ok (events ++ more)
+
+-- runs over a journal leave one that keeps the events that it kept, and perhaps more behind them
+abbrev pub RunsKeepEvents : Type 0
+RunsKeepEvents =
+    (election : Election) (records : List (List ℕ)) (runs : List Run) (left : List (List ℕ)) (events : List Event)
+    → replay_of election records ≡ Ok events → AreRuns election records runs left → KeepsMore election events left
+
+-- records with perhaps more behind them
+pub record AddsRecords (records left : List (List ℕ)) : Type 0 where
+  pub more : List (List ℕ)
+  pub are : left ≡ records ++ more
+
+-- runs leave the records that were there, and perhaps more behind them
+abbrev pub RunsAddRecords : Type 0
+RunsAddRecords =
+    (election : Election) (records : List (List ℕ)) (runs : List Run) (left : List (List ℕ))
+    → AreRuns election records runs left → AddsRecords records left

@@ -26,7 +26,7 @@ use vx_command_center::{
 use vx_command_count::count_keeps_journals;
 use vx_command_decide::decide_keeps_journals;
 use vx_io::{Inputs, Keeper, Sink, Words};
-use vx_journal::journals_stay;
+use vx_journal::{fronts_are_journals, journals_stay};
 use vx_words::{Command, UsageFault, parse, words_spell_one_command};
 use vx_workers::Gate;
 
@@ -167,6 +167,7 @@ pub fn run_center<R: Threads + Wait + Sync, I: Inputs, S: Sink, K: Keeper, G: Ga
     center_keeps_journals();
     center_reports_what_is_kept();
     journals_stay();
+    fronts_are_journals();
     fitting_sheets_are_in_their_items();
     center_words(rt, alloc, words, inputs, out, keeper, gate)
 }

@@ -2,13 +2,13 @@
 //! nothing; their contracts are the laws.
 
 ghost use Rattle.vx_app.specs.Adding.{FittingSheetsAreInTheirItems};
-ghost use Rattle.vx_app.specs.Journals.{RunsLeaveJournals};
+ghost use Rattle.vx_app.specs.Journals.{RunsAddRecords, RunsKeepEvents, RunsLeaveJournals};
 
 use vx_command::taken_elections_are_valid;
 use vx_command_center::center_keeps_journals;
 use vx_command_count::count_keeps_journals;
 use vx_command_decide::decide_keeps_journals;
-use vx_journal::journals_stay;
+use vx_journal::{fronts_are_journals, journals_stay};
 use vx_pbm::images_are_whole;
 use vx_sheet::fitting_sheets_are_read;
 
@@ -21,7 +21,26 @@ pub fn runs_leave_journals()
     decide_keeps_journals();
     center_keeps_journals();
     journals_stay();
+    fronts_are_journals();
 }
+
+/// Runs for one election over a journal of it leave a journal that keeps the events that it kept, and perhaps
+/// more behind them, whatever each of them answered.
+pub fn runs_keep_events()
+    ensures { RunsKeepEvents }
+{
+    count_keeps_journals();
+    decide_keeps_journals();
+    center_keeps_journals();
+    journals_stay();
+    fronts_are_journals();
+}
+
+/// Runs for one election leave the records that were there, and perhaps more behind them, whatever each of
+/// them answered.
+pub fn runs_add_records()
+    ensures { RunsAddRecords }
+{}
 
 /// Among the events of each scan item that `center` takes, one adds each sheet of two images that fit the
 /// facing pages of a card with some marks, as that sheet with those marks; the others add sheets before or

@@ -7,6 +7,7 @@ ghost use Rattle.vx_command_check.specs.Margin.{CheckSaysWhatFits};
 ghost use Rattle.vx_command_count.specs.Margin.{CountKeepsWhatFits};
 ghost use Rattle.vx_command_count.specs.Outcome.{count_outcome};
 ghost use Rattle.vx_command_export.specs.Laws.{ExportWritesWhatWasKept};
+ghost use Rattle.vx_command_queue.specs.Laws.{QueueWritesWhatWaits};
 ghost use Rattle.vx_command_read.specs.Margin.{ReadTellsWhatFits};
 ghost use Rattle.vx_election_model.specs.declared.election.Election.{Election};
 ghost use Rattle.vx_events.specs.declared.event.Event.{Event};
@@ -29,10 +30,10 @@ use vx_command_decide::{decide, decide_keeps_journals};
 use vx_command_demo::demo;
 use vx_command_export::{export, exports_write_what_was_kept};
 use vx_command_print::{Ballot, print};
-use vx_command_queue::queue;
+use vx_command_queue::{queue, queues_write_what_waits};
 use vx_command_read::{fitting_scans_are_told, read};
 use vx_io::{Inputs, Keeper, Sink, Words};
-use vx_journal::journals_stay;
+use vx_journal::{fronts_are_journals, journals_stay};
 use vx_words::{Command, UsageFault, parse, words_spell_one_command};
 use vx_workers::{Gate, OpenGate};
 
@@ -182,7 +183,7 @@ fn run_words<R: Threads + Sync, I: Inputs, S: Sink, K: Keeper, G: Gate>(
 /// readings that `check` certifies of such an image say so; of two such images of the facing pages of a
 /// card `count` keeps the sheet with those marks. A journal of the command's election stays one,
 /// and loses no event that it kept. What `export` writes is the report of exactly the events that the
-/// journal keeps.
+/// journal keeps, and what `queue` writes a line for each of their contests that waits.
 pub fn run<R: Threads + Sync, I: Inputs, S: Sink, K: Keeper>(
     rt: &R,
     alloc: Global,
@@ -244,6 +245,12 @@ pub fn run<R: Threads + Sync, I: Inputs, S: Sink, K: Keeper>(
         (records : List (List ℕ)) → K.held keeper.old ≡ Some records →
         ExportWritesWhatWasKept election moment device files records
         (S.taken out.old) (S.taken out.new) (answer_of result) }
+    // A `queue` that ends well has written a line for each contest of the kept events that waits, in order, each
+    // once, with its enabled reasons and who holds its sheet, and none else.
+    ensures queued { (files : Files) → I.held inputs.old ≡ Some files →
+        (election : List ℕ) → Spells words.now (Command.Queue election) →
+        (records : List (List ℕ)) → K.held keeper.old ≡ Some records →
+        QueueWritesWhatWaits election files records (S.taken out.old) (S.taken out.new) (answer_of result) }
 {
     fitting_scans_are_told();
     certified_pages_say_what_fits();
@@ -252,7 +259,9 @@ pub fn run<R: Threads + Sync, I: Inputs, S: Sink, K: Keeper>(
     decide_keeps_journals();
     center_keeps_journals();
     journals_stay();
+    fronts_are_journals();
     exports_write_what_was_kept();
+    queues_write_what_waits();
     run_words(rt, alloc, words, inputs, out, keeper, &OpenGate)
 }
 

@@ -12,5 +12,6 @@ pub mod Lasting
 pub mod Answering
 mod Histories
 mod OwnSheets
+mod Alone
 mod FirstDecided
 mod Shown

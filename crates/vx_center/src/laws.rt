@@ -2,13 +2,19 @@
 //! are the laws. Which lists of events a center may have kept is `IsHistory`, a clause of `Center::events`.
 
 ghost use Rattle.vx_center.specs.Laws.{
+  AddedSheetsAreAlone,
+  AddedSheetsFit,
   ClaimsAreFree,
   DecisionsAreTheHolders,
   ExportsStay,
+  FoundSheetsStay,
   HistoriesAreShown,
   ReleasesAreTheHolders,
   RepliesAreDoneOrRefuse,
+  SameKeysAreEqual,
+  SheetsComeInOrder,
   SheetsHaveOwnKeys,
+  SheetsHaveOwnPlaces,
   SheetsStay,
 };
 
@@ -20,6 +26,11 @@ pub fn sheets_stay()
 /// No two sheets of a history have one key.
 pub fn sheets_have_own_keys()
     ensures { SheetsHaveOwnKeys }
+{}
+
+/// No two places of the list of a history's sheets have one key.
+pub fn sheets_have_own_places()
+    ensures { SheetsHaveOwnPlaces }
 {}
 
 /// A contest that is exported stays exported.
@@ -48,4 +59,29 @@ pub fn exports_show_what_was_kept()
 /// An answer that keeps its event is Done, and any other is a refusal.
 pub fn replies_are_done_or_refuse()
     ensures { RepliesAreDoneOrRefuse }
+{}
+
+/// More events add their sheets behind those of the events before them.
+pub fn sheets_come_in_order()
+    ensures { SheetsComeInOrder }
+{}
+
+/// A sheet that is found under its key is found so whatever events come behind.
+pub fn found_sheets_stay()
+    ensures { FoundSheetsStay }
+{}
+
+/// Two keys that are the same, batch and number, are equal.
+pub fn same_keys_are_equal()
+    ensures { SameKeysAreEqual }
+{}
+
+/// The sheet that an event of a history adds is the only one of its key.
+pub fn added_sheets_are_alone()
+    ensures { AddedSheetsAreAlone }
+{}
+
+/// A sheet that an event of a history adds has a key in range and is one of the election's.
+pub fn added_sheets_fit()
+    ensures { AddedSheetsFit }
 {}

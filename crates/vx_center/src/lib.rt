@@ -24,8 +24,10 @@ mod waiting;
 pub use center::{Center, Events};
 pub use decided::Decided;
 pub use laws::{
-    decisions_are_the_holders, exports_show_what_was_kept, exports_stay, one_station_holds_a_sheet,
-    replies_are_done_or_refuse, sheets_have_own_keys, sheets_stay,
+    added_sheets_are_alone, added_sheets_fit, decisions_are_the_holders,
+    exports_show_what_was_kept, exports_stay, found_sheets_stay, one_station_holds_a_sheet,
+    replies_are_done_or_refuse, same_keys_are_equal, sheets_come_in_order, sheets_have_own_keys,
+    sheets_have_own_places, sheets_stay,
 };
 pub use rows::{ExportSheet, ExportSheets, Final, Finals, SlotNames};
 pub use vx_events::{Decision, Event, Key, Options, Reply, WriteInName};

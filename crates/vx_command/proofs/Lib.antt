@@ -1,3 +1,4 @@
 pub mod Acts
 pub mod Written
 mod Read
+mod Kept

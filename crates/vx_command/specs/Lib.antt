@@ -8,3 +8,4 @@ pub mod Steps
 pub mod Status
 pub mod Laws
 pub mod Texts
+pub mod Kept

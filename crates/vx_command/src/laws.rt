@@ -2,6 +2,7 @@
 //! that calls one has its laws among the facts of that call, and hands them to its lemmas.
 
 ghost use Rattle.vx_command.specs.Images.{ScannedImagesAreWhole};
+ghost use Rattle.vx_command.specs.Kept.{RecordsInOrder};
 ghost use Rattle.vx_command.specs.Laws.{ActLaws, StepLaws, TakenElectionsAreValid};
 ghost use Rattle.vx_command.specs.Texts.{TextsInOrder};
 
@@ -21,6 +22,12 @@ pub fn steps_in_order<T>()
 /// However far a command has come, it wrote the texts of its acts in order.
 pub fn texts_in_order()
     ensures { TextsInOrder }
+{}
+
+/// However far a command has come, a keeper holds the records that were there and a front of the command's,
+/// all of them unless it broke off.
+pub fn records_in_order()
+    ensures { RecordsInOrder }
 {}
 
 /// The election that a command takes is valid.

@@ -1,3 +1,4 @@
+mod Appended
 mod Centered
 mod Chosen
 mod Closing

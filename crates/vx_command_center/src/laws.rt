@@ -4,7 +4,9 @@
 ghost use Rattle.vx_command_center.specs.Laws.{
   CenterKeepsJournals,
   CenterReportsWhatIsKept,
+  CentersKeepTheirHistory,
   CentersMayNotBegin,
+  ScansAreItems,
 };
 
 use vx_center::replies_are_done_or_refuse;
@@ -47,3 +49,14 @@ pub fn centers_may_not_begin()
     acts_in_order();
     lists_have_histories();
 }
+
+/// The records of a `center` that can go on: the header where no record was there, and then those of the Done
+/// events of its history, in order.
+pub fn centers_keep_their_history()
+    ensures { CentersKeepTheirHistory }
+{}
+
+/// The item of a word that names a scan is that scan, in the word's place.
+pub fn scans_are_items()
+    ensures { ScansAreItems }
+{}

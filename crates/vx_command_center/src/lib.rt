@@ -22,5 +22,8 @@ mod working;
 
 pub use command::center;
 pub use item::{Item, Items};
-pub use laws::{center_keeps_journals, center_reports_what_is_kept, centers_may_not_begin};
+pub use laws::{
+    center_keeps_journals, center_reports_what_is_kept, centers_keep_their_history,
+    centers_may_not_begin, scans_are_items,
+};
 pub use working::run_items;

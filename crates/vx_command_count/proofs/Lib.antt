@@ -11,3 +11,4 @@ pub mod Held
 pub mod Recorded
 pub mod Standing
 pub mod Said
+mod Ends

@@ -1,7 +1,7 @@
 //! What `count` leaves of a journal, and what it keeps of scans that fit. These functions do nothing; their
 //! contracts are the laws.
 
-ghost use Rattle.vx_command_count.specs.Laws.{CountKeepsJournals};
+ghost use Rattle.vx_command_count.specs.Laws.{CountKeepsJournals, CountsEndWell};
 ghost use Rattle.vx_command_count.specs.Margin.{
   FittingSheetsAreAdded,
   FittingSheetsAreKept,
@@ -25,6 +25,12 @@ pub fn count_keeps_journals()
     journals_grow();
     sheet_events_are_keepable();
 }
+
+/// A `count` whose election can be read, whose cards can be planned and whose journal replays ends, where no
+/// device fails, with no device's failure.
+pub fn counts_end_well()
+    ensures { CountsEndWell }
+{}
 
 /// Two images that fit the facing pages of a sheet, in either order, are counted as that sheet: where its
 /// key is new, its number at most 999,999 and the machine not full, its record is appended, and then its

@@ -24,6 +24,6 @@ mod waiting;
 
 pub use command::count;
 pub use laws::{
-    count_keeps_journals, fitting_sheets_are_added, fitting_sheets_are_kept,
+    count_keeps_journals, counts_end_well, fitting_sheets_are_added, fitting_sheets_are_kept,
     marked_sheets_say_each_mark,
 };

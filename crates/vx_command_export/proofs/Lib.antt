@@ -1,2 +1,1 @@
-mod Replays
 mod Written

@@ -3,6 +3,7 @@
 ghost use Rattle.vx_command_export.specs.Laws.{ExportsWriteWhatWasKept};
 
 use vx_center::exports_show_what_was_kept;
+use vx_journal::texts_are_of_journals;
 
 /// Whatever stands of the acts of `export`: where it ended well, all that it wrote is the report of
 /// exactly the events that the journal keeps, and the report shows what was kept.
@@ -10,4 +11,5 @@ pub fn exports_write_what_was_kept()
     ensures { ExportsWriteWhatWasKept }
 {
     exports_show_what_was_kept();
+    texts_are_of_journals();
 }

@@ -2,4 +2,5 @@ pub mod Made
 pub mod Floatless
 pub mod Order
 pub mod Rows
+mod Keyed
 pub mod Texts

@@ -37,13 +37,13 @@ use Rattle.vx_cvr.specs.Report.{HasItsContests, IsOfElection}
 use Rattle.vx_cvr.specs.Rows.{in_order, placed, rows_of}
 use Rattle.vx_cvr.proofs.Order as order
 
-abbrev before : ExportSheet → ExportSheet → Bool
+abbrev pub before : ExportSheet → ExportSheet → Bool
 before one other = is_lt (key_order one.key other.key)
 
 key_order-total : IsTotalOrder key_order
 key_order-total = then_total (on_total (λ (key : Key). key.batch) nat_list_cmp_total) (on_total (λ (key : Key). key.number) nat_cmp_total)
 
-ranks : IsStrictWeakOrder before
+pub ranks : IsStrictWeakOrder before
 ranks = ranks_by key_order-total (λ (row : ExportSheet). row.key)
 
 -- what a row placed among others adds to a sum, and what holds of all of them
@@ -99,7 +99,7 @@ placed-ascends row (other ∷ others) up = by (key_order other.key row.key) refl
     by Equal is rest = first (ap is_lt is)
     by Greater is rest = first (ap is_lt is)
 
-in_order-ascends : (rows : List ExportSheet) → order.Ascends before ranks (in_order rows)
+pub in_order-ascends : (rows : List ExportSheet) → order.Ascends before ranks (in_order rows)
 in_order-ascends [] = tt
 in_order-ascends (row ∷ rows) = placed-ascends row (in_order rows) (in_order-ascends rows)
 

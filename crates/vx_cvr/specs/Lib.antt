@@ -3,3 +3,4 @@ pub mod Names
 pub mod Votes
 pub mod Rows
 pub mod Report
+pub mod Laws

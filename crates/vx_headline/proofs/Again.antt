@@ -1,6 +1,6 @@
 -- A sheet that a `count` may have lost when it broke off, and that was counted again.
 use Rattle.std.proofs.Common.{◌≡◌, ℕ, ◌+◌, ◌⊎◌, inl, inr, Bool, true, false, cond, List, [], ◌∷◌, ◌++◌, length, refl, sym, ap, subst, ◌∙◌, append_assoc, append-nil}
-use Rattle.std.specs.Prelude.{Option, Some, None, Result, Ok, Err, find, nat_lt}
+use Rattle.std.specs.Prelude.{Option, Some, None, Result, Ok, Err, filter, find}
 use Rattle.std.specs.List.{flat_map, position_from}
 use Rattle.std.proofs.lemmas.Grind.{flat_map-append}
 use Rattle.std.proofs.lemmas.Bool.{true≢false}
@@ -17,7 +17,6 @@ use Rattle.vx_events.specs.declared.event.Event.TheVariants.{Add, Claim, Release
 use Rattle.vx_events.specs.declared.key.Key.{Key}
 use Rattle.vx_sheet.specs.Margin.{MarkedSheet, sheet_marked}
 use Rattle.vx_center.specs.Histories.{IsHistory}
-use Rattle.vx_center.specs.Laws.{SheetsHaveOwnKeys}
 use Rattle.vx_center.specs.Sheets.{Added, added_from, has_key, same_key, sheet_in, sheet_of, sheets_in}
 use Rattle.vx_command.specs.declared.halt.Halt.{Halt}
 use Rattle.vx_command.specs.declared.halt.Halt.TheVariants.{ReadFault, WriteFault, KeeperFault, NoMemory, TooLong}
@@ -43,108 +42,19 @@ use Rattle.vx_app.specs.Outcome.{appends}
 use Rattle.vx_app.specs.Journals.{AreRuns, IsDoneOf, IsRun, Run}
 use Rattle.vx_headline.specs.Counted.{CountedBy, Counts, IsNew, IsScanned, Recounts}
 use Rattle.vx_headline.proofs.Counted.{CountLaws, IsCounted, either-counted, named, one-counted, scanned-known, later-counted}
-use Rattle.vx_headline.proofs.Replayed.{front, same-given}
-use Rattle.vx_headline.proofs.Runs.{all-add}
-use Rattle.vx_headline.proofs.Sheets.{alone, find-alone, same-equal, still-there}
 
--- a `count` whose election can be read, whose cards can be planned and whose journal replays ends with no device's failure
-module _ (election : Election) (batch : List ℕ) (files : Files) where
-  taken-ends : (word limit : ℕ) (file : Option (List ℕ)) (rest : List ℕ → Outcome) → ((bytes : List ℕ) → broke_off (rest bytes).ends ≡ false)
-      → broke_off (once_taken word limit file rest).ends ≡ false
-  taken-ends word limit None rest h = refl
-  taken-ends word limit (Some bytes) rest h = by (nat_lt limit (length bytes))
-    where
-      by : (b : Bool) → broke_off (goes_on (cond b (Err (TooLong word (length bytes))) (Ok bytes)) rest).ends ≡ false
-      by true = refl
-      by false = h bytes
+-- the first that passes is found
+find-alone : {X : Type 0} (test : X → Bool) (xs : List X) (x : X) → filter test xs ≡ x ∷ [] → find test xs ≡ Some x
+find-alone test [] x h = absurd cc
+find-alone {X} test (y ∷ xs) x h = by (test y) (find-alone test xs x) h
+  where
+    by : (b : Bool) → (filter test xs ≡ x ∷ [] → find test xs ≡ Some x) → cond b (y ∷ filter test xs) (filter test xs) ≡ x ∷ []
+        → cond b (Some y) (find test xs) ≡ Some x
+    by true rest h = let same : y ≡ x = cc in ap Some same
+    by false rest h = rest h
 
-  faulty-ends : (word : ℕ) (fault : Option PbmFault) (next : Outcome) → broke_off next.ends ≡ false → broke_off (unless_faulty word fault next).ends ≡ false
-  faulty-ends word None next h = h
-  faulty-ends word (Some fault) next h = refl
-
-  images-end : (images : List Page) (counting : _) (rest : _ → List Page → Outcome) → ((now : _) (left : List Page) → broke_off (rest now left).ends ≡ false)
-      → broke_off (with_images election batch counting images rest).ends ≡ false
-  images-end [] counting rest h = h counting []
-  images-end (single ∷ []) counting rest h = h counting (single ∷ [])
-  images-end (first ∷ (second ∷ images)) counting rest h = images-end images (counted_with batch counting (read_next election counting first second)) rest h
-
-  scans-end : (names : List (List ℕ)) (word : ℕ) (counting : _) (waiting : List Page)
-      → broke_off (scans_outcome election batch files word counting waiting names).ends ≡ false
-  scans-end [] word counting waiting = refl
-  scans-end (name ∷ names) word counting waiting =
-      taken-ends word input_limit (files name) _
-      (λ bytes. images-end (waiting ++ (images_of bytes).pages) counting _
-      (λ now left. faulty-ends word (images_of bytes).fault _ (scans-end names (word + 1) now left)))
-
-count-ends : (name batch : List ℕ) (scans : List (List ℕ)) (files : Files) (records : List (List ℕ)) (election : Election) (plans : List CardPlan)
-    (events : List Event)
-    → election_in (files name) ≡ Ok election → plans_in election ≡ Ok plans → replay_of election records ≡ Ok events
-    → broke_off (count_outcome name batch scans files records).ends ≡ false
-count-ends name batch scans files records election plans events is planned replays =
-    let journal : Journal = record { center = record { election = election; events = events }; is_new = has_none records } in
-    let read : journal_in election records ≡ Ok journal = ap (journal_read election (has_none records)) replays in
-    ap (λ (given : Result Election Halt). broke_off
-    (goes_on given (λ some. once_planned some (once_read some records (journal_outcome some batch scans files)))).ends) is
-    ∙ ap (λ (given : Result (List CardPlan) Halt). broke_off
-    (goes_on given (λ some. once_read election records (journal_outcome election batch scans files))).ends) planned
-    ∙ ap (λ (given : Result Journal Halt). broke_off (goes_on given (journal_outcome election batch scans files)).ends) read
-    ∙ scans-end election batch files scans 4 _ []
-
--- all acts of an outcome may be done
-whole-done : (outcome : Outcome) (records : List (List ℕ))
-    → IsDone outcome None None (Some records) (Some (records ++ flat_map records_of outcome.acts)) outcome.ends
-whole-done outcome records = record {
-  done = outcome.acts;
-  left = [];
-  are_acts = sym (append-nil outcome.acts);
-  text = [];
-  records = [];
-  took = refl;
-  kept = ap (λ (some : List (List ℕ)). Some (records ++ some)) (sym (append-nil (flat_map records_of outcome.acts)));
-  ends = inl (record { all = refl; no_more = (refl, refl); same_answer = refl });
-}
-
--- what stands of a command begins all its records
-record IsPart (outcome : Outcome) (records left : List (List ℕ)) : Type 0 where
-  pub rest : List (List ℕ)
-  pub are : records ++ flat_map records_of outcome.acts ≡ left ++ rest
-
-nothing-left : (part whole : List (List ℕ)) → part ≡ [] → (rest : List (List ℕ)) × (whole ≡ part ++ rest)
-nothing-left part whole none = (whole, ap (λ (some : List (List ℕ)). some ++ whole) (sym none))
-
-one-left : (body : List ℕ) (more part : List (List ℕ)) → (part ≡ []) ⊎ (part ≡ body ∷ []) → (rest : List (List ℕ)) × (body ∷ more ≡ part ++ rest)
-one-left body more part (inl none) = nothing-left part (body ∷ more) none
-one-left body more part (inr one) = (more, ap (λ (some : List (List ℕ)). some ++ more) (sym one))
-
-broken-left : (cause : Halt) (left : List Act) (text : List ℕ) (part : List (List ℕ)) → BreaksAt cause left text part
-    → (rest : List (List ℕ)) × (flat_map records_of left ≡ part ++ rest)
-broken-left ReadFault (Take word ∷ acts) text part broke = nothing-left part (flat_map records_of acts) broke.1
-broken-left WriteFault (Write whole ∷ acts) text part broke = nothing-left part (flat_map records_of acts) broke.1
-broken-left KeeperFault (ReadJournal ∷ acts) text part broke = nothing-left part (flat_map records_of acts) broke.1
-broken-left KeeperFault (Append body ∷ acts) text part broke = one-left body (flat_map records_of acts) part broke.1
-broken-left NoMemory acts text part broke = nothing-left part (flat_map records_of acts) broke.1
-broken-left cause acts text part broke = absurd broke
-
-any-left : (ends answer : Answer) (left : List Act) (text : List ℕ) (part : List (List ℕ))
-    → IsWhole ends answer left text part ⊎ BreaksOff answer left text part → (rest : List (List ℕ)) × (flat_map records_of left ≡ part ++ rest)
-any-left ends answer left text part (inl whole) = nothing-left part (flat_map records_of left) whole.no_more.1
-any-left ends (Ok done) left text part (inr broke) = absurd broke
-any-left ends (Err cause) left text part (inr broke) = broken-left cause left text part broke
-
-is-part : (outcome : Outcome) (taken taken_now : Taken) (records left : List (List ℕ)) (answer : Answer)
-    → IsDone outcome taken taken_now (Some records) (Some left) answer → IsPart outcome records left
-is-part outcome taken taken_now records left answer it =
-    let rest = any-left outcome.ends answer it.left it.text it.records it.ends in
-    let done = flat_map records_of it.done in
-    record {
-      rest = rest.0;
-      are =
-          ap (λ (some : List (List ℕ)). records ++ some)
-          (ap (flat_map records_of) it.are_acts ∙ flat_map-append records_of it.done it.left ∙ ap (λ (some : List (List ℕ)). done ++ some) rest.1
-          ∙ sym (append_assoc done it.records rest.0))
-          ∙ sym (append_assoc records (done ++ it.records) rest.0)
-          ∙ ap (λ (some : List (List ℕ)). some ++ rest.0) (sym (same_Some left (records ++ (done ++ it.records)) it.kept));
-    }
+same-given : {A F : Type 0} (r : Result A F) (x y : A) → r ≡ Ok x → r ≡ Ok y → x ≡ y
+same-given r x y a b = cc
 
 -- where none is found, none has a place
 not-found : {X : Type 0} (test : X → Bool) (n : ℕ) (xs : List X) → find test xs ≡ None → position_from test n xs ≡ None
@@ -189,32 +99,8 @@ found-in key added (Release station other ∷ events) place h = one-before key a
 found-in key added (Decide station other contest decision ∷ events) place h =
     one-before key added (Decide station other contest decision) events (found-in key added events (place + 1) h)
 
-module _ (laws : CountLaws) (own : SheetsHaveOwnKeys) (exported : ExportsWriteWhatWasKept) (keeps : CountKeepsJournals) (stays : JournalsStay)
+module _ (laws : CountLaws) (keeps : CountKeepsJournals) (stays : JournalsStay)
     (election : Election) where
-  -- what a journal keeps is a history
-  record OfElection (files : Files) (records : List (List ℕ)) (some : Election) : Type 0 where
-    pub events : List Event
-    pub replays : replay_of some records ≡ Ok events
-    pub history : IsHistory some events
-
-  journals-history : (name : List ℕ) (files : Files) (records : List (List ℕ)) (kept : List Event) → election_in (files name) ≡ Ok election
-      → replay_of election records ≡ Ok kept → IsHistory election kept
-  journals-history name files records kept is replays =
-      let journal : Journal = record { center = record { election = election; events = kept }; is_new = has_none records } in
-      let read : journal_in election records ≡ Ok journal = ap (journal_read election (has_none records)) replays in
-      let ends : (export_outcome name [] [] files records).ends ≡ Ok tt =
-      ap (λ (given : Result Election Halt).
-      (goes_on given (λ some. once_read some records (λ journal. writing (report_of some journal.center.events [] [])))).ends) is
-      ∙ ap (λ (given : Result Journal Halt). (goes_on given (λ (some : Journal). writing (report_of election some.center.events [] []))).ends) read in
-      let all = exported name [] [] files records None None (Some records) _ (export_outcome name [] [] files records).ends
-      (whole-done (export_outcome name [] [] files records) records) ends in
-      let same : all.election ≡ election = same-given (election_in (files name)) all.election election all.is_read is in
-      let Of : Election → Type 0 = λ some. OfElection files records some in
-      let it = subst Of same (record { events = all.events; replays = all.are_kept; history = all.history }) in
-      let events : it.events ≡ kept = same-given (replay_of election records) it.events kept it.replays replays in
-      let Is : List Event → Type 0 = λ some. IsHistory election some in
-      subst Is events it.history
-
   module _ (key : Key) (sheet : MarkedSheet) (records : List (List ℕ)) (one : Run) (run : IsRun election records one) (place : ℕ)
       (s : IsScanned election one key sheet place)
       (plans : List CardPlan) (planned : plans_in election ≡ Ok plans) (before : List Event) (replays : replay_of election records ≡ Ok before)
@@ -238,7 +124,7 @@ module _ (laws : CountLaws) (own : SheetsHaveOwnKeys) (exported : ExportsWriteWh
         record {
           spelled = run.spelled;
           for_it = run.for_it;
-          done = subst Done (sym s.is_count) (whole-done outcome records);
+          done = subst Done (sym s.is_count) (laws.leaves.all_may_be_done outcome records);
           held = λ none. absurd (true≢false (ap appends (sym s.is_count) ∙ none));
         }
 
@@ -266,7 +152,7 @@ module _ (laws : CountLaws) (own : SheetsHaveOwnKeys) (exported : ExportsWriteWh
       before = before;
       replays = replays;
       is_new = is_new;
-      whole = inl (count-ends s.name s.batch s.scans one.files records election plans before is-named planned replays);
+      whole = inl (laws.ends s.name s.batch s.scans one.files records election plans before is-named planned replays);
     })
 
     -- whatever the run left under the key is the sheet
@@ -276,20 +162,20 @@ module _ (laws : CountLaws) (own : SheetsHaveOwnKeys) (exported : ExportsWriteWh
         let Sound : Command → Type 0 = λ command. IsSound run.spelled.device command in
         let sound = subst Sound s.is_count run.spelled.sound in
         let Done : Command → Type 0 = λ command. IsDoneOf command one.files records one.taken one.taken_now (Some one.left) one.answer in
-        let part = is-part outcome one.taken one.taken_now records one.left one.answer (subst Done s.is_count run.done) in
+        let part = laws.leaves.leaves outcome one.taken one.taken_now records one.left one.answer (subst Done s.is_count run.done) in
         let stay = keeps s.name s.batch s.scans one.files records election sound.batch_in_range is-named
         (is-ok_from (replay_of election records) before replays) in
-        let whole = ok-is (replay_of election full) (stays election records outcome None None (Some full) outcome.ends stay (whole-done outcome records)) in
+        let whole = ok-is (replay_of election full) (stays election records outcome None None (Some full) outcome.ends stay (laws.leaves.all_may_be_done outcome records)) in
         let Replays : List (List ℕ) → Type 0 = λ some. replay_of election some ≡ Ok whole.0 in
-        let first = front election one.left part.rest whole.0 (subst Replays part.are whole.1) in
-        let same : first.events ≡ after = same-given (replay_of election one.left) first.events after first.replays replayed in
-        let now : whole.0 ≡ after ++ first.more = first.is ∙ ap (λ (some : List Event). some ++ first.more) same in
-        let history = journals-history s.name one.files full whole.0 is-named whole.1 in
+        let first = laws.fronts election one.left part.rest whole.0 (subst Replays part.front whole.1) in
+        let same : first.events_then ≡ after = same-given (replay_of election one.left) first.events_then after first.replays replayed in
+        let now : whole.0 ≡ after ++ first.more = first.are ∙ ap (λ (some : List Event). some ++ first.more) same in
+        let history = laws.histories election full whole.0 whole.1 in
         let it = would-count.added whole.0 whole.1 in
-        let only = alone own election it.before it.more key (sheet_marked sheet) whole.0 it.are history in
+        let only = laws.alone election it.before it.more key (sheet_marked sheet) whole.0 it.are history in
         let marked : sheet_in whole.0 key ≡ Some (sheet_marked sheet) = ap sheet_of (find-alone (has_key key) (sheets_in whole.0) _ only) in
         let had : sheet_in whole.0 key ≡ Some added.sheet =
-        ap (λ (some : List Event). sheet_in some key) now ∙ still-there after first.more key added.sheet (ap sheet_of found) in
+        ap (λ (some : List Event). sheet_in some key) now ∙ laws.stay after first.more key added.sheet (ap sheet_of found) in
         same_Some added.sheet (sheet_marked sheet) (sym had ∙ marked)
 
   recounted : (key : Key) (sheet : MarkedSheet) (records : List (List ℕ)) (one : Run) (runs : List Run) (left : List (List ℕ)) → IsRun election records one
@@ -316,16 +202,16 @@ module _ (laws : CountLaws) (own : SheetsHaveOwnKeys) (exported : ExportsWriteWh
             is_new = record { new = not-found (has_key key) 0 (sheets_in re.after) none; room = re.room };
             whole = inl re.whole;
           } in
-          let further = all-add election re.again.left re.further left are.1 in
+          let further = laws.more election re.again.left re.further left are.1 in
           later-counted laws election key sheet re.again.left further.more left further.are
           (one-counted laws election key sheet one.left re.again are.0 counts)
       by plans planned (Some added) found =
           let it = found-in key added re.after 0 found in
           let marked = only-it key sheet records one run re.place re.scanned plans planned re.before re.replays re.is_new re.after re.replays_after added
           found in
-          let keyed : added.key ≡ key = sym (same-equal key added.key it.keyed) in
+          let keyed : added.key ≡ key = sym (laws.equal_keys key added.key it.keyed) in
           let event : Add added.key added.sheet ≡ Add key (sheet_marked sheet) = ap (λ (some : Key). Add some added.sheet) keyed ∙ ap (Add key) marked in
-          let further = all-add election one.left runs left behind in
+          let further = laws.more election one.left runs left behind in
           later-counted laws election key sheet one.left further.more left further.are (record {
             known = scanned-known laws election key sheet records one run re.place re.scanned;
             added = λ kept replays.
@@ -337,7 +223,7 @@ module _ (laws : CountLaws) (own : SheetsHaveOwnKeys) (exported : ExportsWriteWh
       → CountedBy election records runs key sheet → IsCounted laws election key sheet left
   counted key sheet records [] left are h = elim h [ ]
   counted key sheet records (one ∷ runs) left are (inl (inl here)) =
-      let further = all-add election one.left runs left are.1 in
+      let further = laws.more election one.left runs left are.1 in
       later-counted laws election key sheet one.left further.more left further.are (either-counted laws election key sheet records one are.0 here)
   counted key sheet records (one ∷ runs) left are (inl (inr again)) = recounted key sheet records one runs left are.0 are.1 again
   counted key sheet records (one ∷ runs) left are (inr later) = counted key sheet one.left runs left are.1 later

@@ -1,6 +1,7 @@
 -- The record of a sheet that a run counted, among those that the runs left.
-use Rattle.std.proofs.Common.{◌≡◌, ℕ, zero, suc, ◌+◌, ◌*◌, ◌≤◌, ◌⊎◌, inl, inr, Bool, true, false, cond, List, [], ◌∷◌, ◌++◌, length, map, refl, sym, ap, subst, ◌∙◌, arith, append_assoc, append-nil}
+use Rattle.std.proofs.Common.{◌≡◌, ℕ, zero, suc, ◌+◌, ◌*◌, ◌≤◌, ◌⊎◌, inl, inr, Bool, true, false, cond, List, [], ◌∷◌, ◌++◌, length, map, refl, sym, ap, ap₂, subst, ◌∙◌, arith, append_assoc, append-nil}
 use Rattle.std.specs.Prelude.{All, Some, None, Ok, Err, option_map, slice_get}
+use Rattle.std.specs.List.{flat_map}
 use Rattle.std.proofs.lemmas.List.{map-append}
 use Rattle.std.proofs.lemmas.Option.{get_or_from_slice_get, same_Some, slice_get-map, slice_get_within}
 use Rattle.vx_base.proofs.Lists.{at-seam}
@@ -20,22 +21,31 @@ use Rattle.vx_sheet.specs.Events.{event_of, number_limit}
 use Rattle.vx_sheet.specs.Margin.{FittingSheetsAreRead, FitsSheet, MarkedSheet, sheet_marked}
 use Rattle.vx_center.specs.Replies.{event_limit}
 use Rattle.vx_sheet.specs.Shows.{SheetEventsAreKeepable}
+use Rattle.vx_center.specs.Laws.{AddedSheetsAreAlone, FoundSheetsStay, SameKeysAreEqual}
 use Rattle.vx_center.specs.Sheets.{place_in}
+use Rattle.vx_cvr.specs.Laws.{EachRowIsOfASheet, OneRowOfAKey}
 use Rattle.vx_command.specs.Elections.{election_in, plans_in}
 use Rattle.vx_command.specs.Images.{ScannedImagesAreWhole}
+use Rattle.vx_command.specs.Acts.{Append, records_of}
+use Rattle.vx_command.specs.Kept.{RecordsInOrder}
 use Rattle.vx_command.specs.Laws.{TakenElectionsAreValid}
 use Rattle.vx_command.specs.Texts.{broke_off}
+use Rattle.vx_journal.specs.declared.journal.Journal.{Journal}
+use Rattle.vx_journal.specs.Keeping.{has_none, journal_in, journal_read}
+use Rattle.vx_journal.specs.Laws.{FrontsAreJournals, JournalsAreHistories, RecordsAreEvents}
 use Rattle.vx_journal.specs.Replay.{replay_of}
+use Rattle.vx_command_count.specs.Laws.{CountsEndWell}
 use Rattle.vx_command_count.specs.Margin.{FittingSheetsAreKept, MarkedSheetsSayEachMark, SaysEachMark, header_if_none, key_at}
 use Rattle.vx_words.specs.declared.command.Command.{Command}
 use Rattle.vx_words.specs.Words.{IsSound}
-use Rattle.vx_app.specs.Journals.{IsDoneOf, IsFor, IsRun, Run}
+use Rattle.vx_app.specs.Journals.{IsDoneOf, IsFor, IsRun, Run, RunsAddRecords}
 use Rattle.vx_plane.specs.Plane.{Page}
 use Rattle.vx_count.specs.Turned.{IsWhole}
 use Rattle.vx_election_model.specs.Valid.{IsValid}
 use Rattle.vx_events.specs.Fits.{is_batch}
 use Rattle.vx_pbm.specs.Images.{ImagesAreWhole, IsWholePage, images_of}
 use Rattle.vx_shared.specs.declared.history.Entry.{Entry}
+use Rattle.vx_shared.specs.Laws.{FirstAddsAreDone, InterleavingsAreWhole, IsDoneIn, events_in_all as total}
 use Rattle.vx_shared.specs.Legal.{events_in}
 use Rattle.vx_words.specs.declared.command.ItemWord.TheVariants.{Scan}
 use Rattle.vx_words.specs.Items.{IsItem}
@@ -43,13 +53,10 @@ use Rattle.vx_command_center.specs.declared.item.Item.{Item}
 use Rattle.vx_command_center.specs.declared.item.Item.TheVariants.{Scan as Scanned}
 use Rattle.vx_command_center.specs.Histories.{IsHistoryOf}
 use Rattle.vx_command_center.specs.Items.{events_of}
+use Rattle.vx_command_center.specs.Laws.{CentersKeepTheirHistory, ScansAreItems}
 use Rattle.vx_command_center.specs.Outcome.{center_outcome}
 use Rattle.vx_app.specs.Adding.{AddsWhatFits, FittingSheetsAreInTheirItems}
 use Rattle.vx_headline.specs.Counted.{AddNoOther, Counts, HasRecord, IsItemOf, IsScanned, CenterCounts, events_in_all}
-use Rattle.vx_headline.proofs.Centered.{all-records, center-records, scan-there}
-use Rattle.vx_headline.proofs.FirstDone.{IsDoneEvent, first-done, legal-from}
-use Rattle.vx_headline.proofs.Replayed.{front, kept-as}
-use Rattle.vx_headline.proofs.Mixed.{as-many, comes, is-of, total}
 
 pub record CountLaws : Type 0 where
   pub valid : TakenElectionsAreValid
@@ -61,6 +68,21 @@ pub record CountLaws : Type 0 where
   pub records : RecordsAreRead
   pub images : ImagesAreWhole
   pub adds : FittingSheetsAreInTheirItems
+  pub histories : JournalsAreHistories
+  pub fronts : FrontsAreJournals
+  pub events : RecordsAreEvents
+  pub mixed : InterleavingsAreWhole
+  pub firsts : FirstAddsAreDone
+  pub leaves : RecordsInOrder
+  pub history : CentersKeepTheirHistory
+  pub items : ScansAreItems
+  pub ends : CountsEndWell
+  pub more : RunsAddRecords
+  pub alone : AddedSheetsAreAlone
+  pub stay : FoundSheetsStay
+  pub equal_keys : SameKeysAreEqual
+  pub one_row : OneRowOfAKey
+  pub row_added : EachRowIsOfASheet
 
 -- a record stands behind the first
 pub record StandsBehind (left : List (List ℕ)) (body : List ℕ) : Type 0 where
@@ -97,6 +119,11 @@ begins election (header ∷ records) before behind body = record {
   behind = behind;
   are = ap (λ (some : List (List ℕ)). header ∷ some) (sym (append_assoc records before (body ∷ behind)));
 }
+
+-- the header that a command appends
+header-records : (election : Election) (b : Bool) → flat_map records_of (cond b (Append (header_of election) ∷ []) []) ≡ cond b (header_of election ∷ []) []
+header-records election true = refl
+header-records election false = refl
 
 -- what holds of all holds of one
 item-at : {X : Type 0} (P : X → Type 0) (xs : List X) → All P xs → (n : ℕ) (x : X) → slice_get xs n ≡ Some x → P x
@@ -211,9 +238,9 @@ module _ (laws : CountLaws) (election : Election) (key : Key) (sheet : MarkedShe
     known = known;
     added = λ kept replays.
         (let Replays : List (List ℕ) → Type 0 = λ some. replay_of election some ≡ Ok kept in
-        let seam = kept-as election stands.header stands.front (record_of the-event) stands.behind the-event kept known.read
+        let seam = laws.events election stands.header stands.front (record_of the-event) stands.behind the-event kept known.read
         (subst Replays stands.are replays) in
-        record { before = seam.events; more = seam.more; are = seam.is });
+        record { before = seam.events_then; more = seam.more; are = seam.are });
   }
 
   -- and with more records behind
@@ -222,12 +249,12 @@ module _ (laws : CountLaws) (election : Election) (key : Key) (sheet : MarkedShe
     known = it.known;
     added = λ kept replays.
         (let Replays : List (List ℕ) → Type 0 = λ some. replay_of election some ≡ Ok kept in
-        let first = front election left more kept (subst Replays are replays) in
-        let here = it.added first.events first.replays in
+        let first = laws.fronts election left more kept (subst Replays are replays) in
+        let here = it.added first.events_then first.replays in
         record {
           before = here.before;
           more = here.more ++ first.more;
-          are = first.is ∙ ap (λ (some : List Event). some ++ first.more) here.are ∙ append_assoc here.before (the-event ∷ here.more) first.more;
+          are = first.are ∙ ap (λ (some : List Event). some ++ first.more) here.are ∙ append_assoc here.before (the-event ∷ here.more) first.more;
         });
   }
 
@@ -253,9 +280,9 @@ module _ (laws : CountLaws) (election : Election) (key : Key) (sheet : MarkedShe
     -- its event is done in the history
     item-done : (before : List Event) (history : List Entry) → IsHistoryOf election before items history → place_in before key ≡ None
         → AddNoOther election items key sheet → length before + events_in_all election items ≤ event_limit
-        → IsDoneEvent history the-event
+        → IsDoneIn history the-event
     item-done before history of_items new no_other room =
-        let scan = scan-there election one.files s.words 4 0 s.item items s.batch s.file s.bytes s.are_items s.is_scan s.is_file in
+        let scan = laws.items election one.files s.words items s.item s.batch s.file s.bytes s.are_items s.is_scan s.is_file in
         let adds = item-at (AddsWhatFits election) items (laws.adds s.name s.words one.files election items center-named s.are_items) s.item
         (Scanned s.batch s.bytes scan.0) scan.1 in
         let sheets = adds s.place s.first s.second sheet s.first_is s.second_is s.fits s.numbered in
@@ -266,20 +293,21 @@ module _ (laws : CountLaws) (election : Election) (key : Key) (sheet : MarkedShe
         ap (λ (some : List Event). slice_get some (length sheets.before)) sheets.are
         ∙ at-seam sheets.before (Add (key_at s.batch s.place) (sheet_marked sheet)) sheets.behind
         ∙ ap (λ (some : Key). Some (Add some (sheet_marked sheet))) (sym s.key_is) in
-        let come = comes (events_in history) lists of_items.interleaved s.item list (length sheets.before) the-event at on in
+        let come = laws.mixed.come (events_in history) lists of_items.interleaved s.item list (length sheets.before) the-event at on in
         let call = called history come.0 the-event come.1 in
         let few : length history ≤ events_in_all election items =
-        (let many = as-many (events_in history) lists of_items.interleaved in
+        (let many = laws.mixed.no_more (events_in history) lists of_items.interleaved in
         let same = all-of election items in
         let size : length (events_in history) ≡ length history = length-map (λ (call : Entry). call.event) history in
         omega (arith, many, same, size)) in
-        first-done election key (sheet_marked sheet) history before (legal-from election history before of_items.legal.replies) new (omega (arith, few, room))
+        laws.firsts (record { election = election; events = before }) history key (sheet_marked sheet) call.0 call.1 of_items.legal new
+        (omega (arith, few, room))
         (λ n call other there is.
-        let from = is-of (events_in history) lists of_items.interleaved n (Add key other)
+        let from = laws.mixed.are_of (events_in history) lists of_items.interleaved n (Add key other)
         (slice_get-map (λ (call : Entry). call.event) history n ∙ ap (option_map (λ (call : Entry). call.event)) there ∙ ap Some is) in
         let item = mapped (events_of election) items from.place from.list from.at in
         no_other from.place from.n item.0 other item.1 (ap (λ (some : List Event). slice_get some from.n) item.2 ∙ from.on))
-        call.0 call.1 call.2.0 call.2.1
+        call.2.0 call.2.1
 
   item-stands : (records : List (List ℕ)) (one : Run) → IsRun election records one → (shares : CenterCounts election records one key sheet)
       → (broke_off one.answer ≡ false) ⊎ HasRecord one.left key sheet → StandsBehind one.left (record_of the-event)
@@ -293,13 +321,14 @@ module _ (laws : CountLaws) (election : Election) (key : Key) (sheet : MarkedShe
       let of_items = centers.of_items election shares.before shares.items named shares.replays s.are_items in
       let done = item-done records one run shares.items s shares.before centers.history of_items shares.new shares.no_other shares.room in
       let body = record_of the-event in
+      let journal : Journal = record { center = record { election = election; events = shares.before }; is_new = has_none records } in
+      let read : journal_in election records ≡ Ok journal = ap (journal_read election (has_none records)) shares.replays in
+      let outcome = center_outcome s.name s.moment s.device s.words one.files records centers.history in
       let left : one.left ≡ records ++ (header_if_none election records ++ (map record_of done.front ++ body ∷ map record_of done.back)) =
-      all-records (center_outcome s.name s.moment s.device s.words one.files records centers.history) one.taken one.taken_now records one.left one.answer
-      centers.done unbroken
+      (laws.leaves.leaves outcome one.taken one.taken_now records one.left one.answer centers.done).whole unbroken
       ∙ ap (λ (some : List (List ℕ)). records ++ some)
-      (center-records s.name s.moment s.device s.words one.files records centers.history election plans.0 shares.before shares.items named plans.1
-      shares.replays s.are_items
-      ∙ ap (λ (some : List (List ℕ)). header_if_none election records ++ some)
+      (laws.history s.name s.moment s.device s.words one.files records centers.history election plans.0 journal shares.items named plans.1 read s.are_items
+      ∙ ap₂ (λ (some more : List (List ℕ)). some ++ more) (header-records election (has_none records))
       (ap (map record_of) done.are ∙ map-append record_of done.front (the-event ∷ done.back))) in
       let Stands : List (List ℕ) → Type 0 = λ some. StandsBehind some body in
       subst Stands (sym left) (begins election records (map record_of done.front) (map record_of done.back) body)

@@ -15,7 +15,6 @@ use Rattle.vx_center.specs.declared.rows.Final.{Final}
 use Rattle.vx_center.specs.Decisions.{decided_of, decisions_on}
 use Rattle.vx_center.specs.Exports.{final_in}
 use Rattle.vx_center.specs.Histories.{IsHistory}
-use Rattle.vx_center.specs.Laws.{SheetsHaveOwnKeys}
 use Rattle.vx_center.specs.Sheets.{Added, sheet_in}
 use Rattle.vx_center.specs.Shown.{ShowsWhatWasKept}
 use Rattle.vx_center.specs.Waiting.{exports_by}
@@ -31,10 +30,6 @@ use Rattle.vx_headline.specs.Exported.{IsExport, MarkedPagesAreExported, StandsM
 use Rattle.vx_headline.proofs.Again.{counted}
 use Rattle.vx_headline.proofs.Counted.{CountLaws, IsCounted}
 use Rattle.vx_headline.proofs.Marked.{once}
-use Rattle.vx_headline.proofs.Replayed.{front}
-use Rattle.vx_headline.proofs.Rows.{one-row, row-added}
-use Rattle.vx_headline.proofs.Runs.{all-add}
-use Rattle.vx_headline.proofs.Sheets.{alone, still-there}
 
 -- no final
 abbrev none : List Final
@@ -60,14 +55,14 @@ final-own election kept added marks contest =
     by true (Some found) = refl
     by false found = sym (none-if (marks.contest == contest))
 
-module _ (laws : CountLaws) (own : SheetsHaveOwnKeys) (election : Election) where
+module _ (laws : CountLaws) (election : Election) where
   module _ (kept : List Event) (history : IsHistory election kept) where
     -- a sheet whose record stands in the journal
     stands-marked : (left : List (List ℕ)) → replay_of election left ≡ Ok kept → (key : Key) (sheet : MarkedSheet) → IsCounted laws election key sheet left
         → (added : Added) × StandsMarked election kept key sheet added
     stands-marked left replays key sheet it =
         let seam = it.added kept replays in
-        let only = alone own election seam.before seam.more key (sheet_marked sheet) kept seam.are history in
+        let only = laws.alone election seam.before seam.more key (sheet_marked sheet) kept seam.are history in
         let added : Added = record { at = _; key = key; sheet = sheet_marked sheet } in (
           added,
           record {
@@ -76,7 +71,7 @@ module _ (laws : CountLaws) (own : SheetsHaveOwnKeys) (election : Election) wher
             front = it.known.front;
             back = it.known.back;
             one_sheet = only;
-            one_row = one-row election kept key added only;
+            one_row = laws.one_row election kept key added only;
             contests = λ place marks there.
                 (once (λ (final : Final). final.contest) (final_if election kept added) sheet (final-own election kept added) 0 contest_limit place marks
                 there).1;
@@ -88,18 +83,18 @@ module _ (laws : CountLaws) (own : SheetsHaveOwnKeys) (election : Election) wher
       → replay_of election left ≡ Ok kept → HasSheet election records key sheet → sheet_in kept key ≡ Some sheet
   has-still records more left kept key sheet are replays has =
       let Replays : List (List ℕ) → Type 0 = λ some. replay_of election some ≡ Ok kept in
-      let first = front election records more kept (subst Replays are replays) in
-      let same : first.events ≡ has.events = let one = first.replays in let other = has.replays in cc in
+      let first = laws.fronts election records more kept (subst Replays are replays) in
+      let same : first.events_then ≡ has.events = let one = first.replays in let other = has.replays in cc in
       let In : List Event → Type 0 = λ events. sheet_in events key ≡ Some sheet in
-      subst In (ap (λ (some : List Event). some ++ first.more) (sym same) ∙ sym first.is) (still-there has.events first.more key sheet has.there)
+      subst In (ap (λ (some : List Event). some ++ first.more) (sym same) ∙ sym first.are) (laws.stay has.events first.more key sheet has.there)
 
   added-still : (records : List (List ℕ)) (runs : List Run) (left : List (List ℕ)) (kept : List Event) (key : Key) (sheet : SheetMarks)
       → AreRuns election records runs left → replay_of election left ≡ Ok kept → AddedBy election records runs key sheet → sheet_in kept key ≡ Some sheet
   added-still records [] left kept key sheet are replays has =
-      let adds = all-add election records [] left are in
+      let adds = laws.more election records [] left are in
       has-still records adds.more left kept key sheet adds.are replays has
   added-still records (one ∷ runs) left kept key sheet are replays (inl has) =
-      let adds = all-add election records (one ∷ runs) left are in
+      let adds = laws.more election records (one ∷ runs) left are in
       has-still records adds.more left kept key sheet adds.are replays has
   added-still records (one ∷ runs) left kept key sheet are replays (inr later) = added-still one.left runs left kept key sheet are.1 replays later
 
@@ -123,19 +118,17 @@ module _ (laws : CountLaws) (own : SheetsHaveOwnKeys) (election : Election) wher
       let Of : Election → Type 0 = λ some. Wrote left last moment device some in
       subst Of same (record { kept = all.events; are_kept = all.are_kept; history = all.history; report = all.report; shows = all.shows })
 
-pub exports : CountLaws → SheetsHaveOwnKeys → ExportsWriteWhatWasKept → CountKeepsJournals → JournalsStay → MarkedPagesAreExported
-exports laws own exported keeps stays election runs left last moment device it =
-    let all = wrote laws own election exported runs left last moment device it in
+pub exports : CountLaws → ExportsWriteWhatWasKept → CountKeepsJournals → JournalsStay → MarkedPagesAreExported
+exports laws exported keeps stays election runs left last moment device it =
+    let all = wrote laws election exported runs left last moment device it in
     record {
       kept = all.kept;
       are_kept = all.are_kept;
       history = all.history;
       report = all.report;
       shows = all.shows;
-      rows = λ n row at.
-          (let it = row-added election all.kept n row at in
-          record { place = it.0; added = it.1; is_added = it.2.0; is_row = it.2.1 });
-      marked = λ key sheet by. stands-marked laws own election all.kept all.history left all.are_kept key sheet
-          (counted laws own exported keeps stays election key sheet [] runs left it.are_runs by);
-      first = λ key sheet by. added-still laws own election [] runs left all.kept key sheet it.are_runs all.are_kept by;
+      rows = laws.row_added election all.kept;
+      marked = λ key sheet by. stands-marked laws election all.kept all.history left all.are_kept key sheet
+          (counted laws keeps stays election key sheet [] runs left it.are_runs by);
+      first = λ key sheet by. added-still laws election [] runs left all.kept key sheet it.are_runs all.are_kept by;
     }

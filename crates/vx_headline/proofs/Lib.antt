@@ -1,11 +1,4 @@
-mod Replayed
-mod Runs
-mod Sheets
-mod Rows
 mod Marked
-mod Mixed
-mod FirstDone
-mod Centered
 mod Counted
 mod Again
 mod Exported

@@ -15,6 +15,7 @@ use Rattle.vx_center.specs.Exports.{final_if_exported, row_of}
 use Rattle.vx_center.specs.Histories.{IsHistory}
 use Rattle.vx_center.specs.Sheets.{Added, has_key, same_key, sheet_in, sheets_in}
 use Rattle.vx_center.specs.Shown.{ShowsWhatWasKept}
+use Rattle.vx_cvr.specs.Laws.{IsRowOfSheet}
 use Rattle.vx_cvr.specs.Report.{report_of}
 use Rattle.vx_cvr.specs.Rows.{rows_of}
 use Rattle.vx_journal.specs.Replay.{replay_of}
@@ -60,13 +61,6 @@ pub record StandsMarked (election : Election) (kept : List Event) (key : Key) (s
   pub contests : (place : ℕ) (marks : ContestMarks) → slice_get added.sheet.contests place ≡ Some marks
       → finals_on marks.contest (row_of election kept added) ≡ final_if election kept added marks
 
--- a row is of a sheet that was added
-pub record IsOfAdded (election : Election) (kept : List Event) (row : ExportSheet) : Type 0 where
-  pub place : ℕ
-  pub added : Added
-  pub is_added : slice_get (sheets_in kept) place ≡ Some added
-  pub is_row : row ≡ row_of election kept added
-
 -- all that the export wrote is the report of a history, which the journal keeps; it shows what was kept, and no row is of
 -- a sheet that wasn't added; each sheet that a run counted stands in it as it was marked; and a key keeps the sheet that
 -- was first added under it
@@ -77,7 +71,7 @@ pub record Exports (election : Election) (runs : List Run) (left : List (List �
   pub history : IsHistory election kept
   pub report : Took last.taken last.taken_now (report_of election kept moment device)
   pub shows : ShowsWhatWasKept election kept
-  pub rows : (n : ℕ) (row : ExportSheet) → slice_get (rows_of election kept) n ≡ Some row → IsOfAdded election kept row
+  pub rows : (n : ℕ) (row : ExportSheet) → slice_get (rows_of election kept) n ≡ Some row → IsRowOfSheet election kept row
   pub marked : (key : Key) (sheet : MarkedSheet) → CountedBy election [] runs key sheet
       → (added : Added) × StandsMarked election kept key sheet added
   pub first : (key : Key) (sheet : SheetMarks) → AddedBy election [] runs key sheet → sheet_in kept key ≡ Some sheet

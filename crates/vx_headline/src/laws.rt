@@ -3,16 +3,19 @@
 ghost use Rattle.vx_headline.specs.Exported.{MarkedPagesAreExported};
 ghost use Rattle.vx_headline.specs.Undecided.{UndecidedContestsAreExportedAsMarked, UndecidedReasonsWait};
 
-use vx_app::fitting_sheets_are_in_their_items;
-use vx_center::sheets_have_own_keys;
-use vx_command::{scanned_images_are_whole, taken_elections_are_valid};
+use vx_app::{fitting_sheets_are_in_their_items, runs_add_records};
+use vx_center::{added_sheets_are_alone, found_sheets_stay, same_keys_are_equal};
+use vx_command::{records_in_order, scanned_images_are_whole, taken_elections_are_valid};
+use vx_command_center::{centers_keep_their_history, scans_are_items};
 use vx_command_count::{
-    count_keeps_journals, fitting_sheets_are_kept, marked_sheets_say_each_mark,
+    count_keeps_journals, counts_end_well, fitting_sheets_are_kept, marked_sheets_say_each_mark,
 };
 use vx_command_export::exports_write_what_was_kept;
-use vx_journal::journals_stay;
+use vx_cvr::{each_row_is_of_a_sheet, one_row_of_a_key};
+use vx_journal::{fronts_are_journals, journals_are_histories, journals_stay, records_are_events};
 use vx_pbm::images_are_whole;
 use vx_records::records_are_read;
+use vx_shared::{first_adds_are_done, interleavings_are_whole};
 use vx_sheet::{fitting_sheets_are_read, sheet_events_are_keepable};
 
 /// Of every export that ended well, behind whatever runs for its election: all that it wrote is the report of a
@@ -31,10 +34,24 @@ pub fn marked_pages_are_exported()
     records_are_read();
     images_are_whole();
     fitting_sheets_are_in_their_items();
-    sheets_have_own_keys();
     exports_write_what_was_kept();
     count_keeps_journals();
     journals_stay();
+    journals_are_histories();
+    fronts_are_journals();
+    records_are_events();
+    interleavings_are_whole();
+    first_adds_are_done();
+    records_in_order();
+    centers_keep_their_history();
+    scans_are_items();
+    counts_end_well();
+    runs_add_records();
+    added_sheets_are_alone();
+    found_sheets_stay();
+    same_keys_are_equal();
+    one_row_of_a_key();
+    each_row_is_of_a_sheet();
 }
 
 /// A contest of such a sheet of which no decision is kept, and for which no reason is enabled, stands in the

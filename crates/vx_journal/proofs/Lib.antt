@@ -1,4 +1,7 @@
+mod Fronts
 mod Growing
+mod Histories
+mod Writers
 mod Read
 mod Recorded
 mod Replayed

@@ -1,16 +1,20 @@
 -- Laws of journals: what they grow by, and that whatever stands of a command's acts leaves one.
 use Rattle.std.specs.Prelude.{◌≡◌, ℕ, Bool, List, [], ◌∷◌, ◌++◌, Option, None, Some, Result, Ok, Err, IsOk, IsSomeAnd}
 use Rattle.std.specs.List.{flat_map}
+use Rattle.vx_io.specs.Outside.{Files, Took}
 use Rattle.vx_election_model.specs.declared.election.Election.{Election}
 use Rattle.vx_events.specs.declared.event.Event.{Event}
 use Rattle.vx_events.specs.Fits.{Fits}
 use Rattle.vx_refusals.specs.declared.reply.Reply.TheVariants.{Done}
+use Rattle.vx_center.specs.Histories.{IsHistory}
 use Rattle.vx_center.specs.Replies.{reply_of}
+use Rattle.vx_records.specs.Reading.{event_in}
 use Rattle.vx_records.specs.Records.{header_of, record_of}
 use Rattle.vx_records.specs.Held.{IsHeld}
 use Rattle.vx_command.specs.declared.halt.Halt.{Halt}
-use Rattle.vx_command.specs.Acts.{Act, Take, ReadJournal, Write, Append, Answer, Outcome, records_of}
+use Rattle.vx_command.specs.Acts.{Act, Take, ReadJournal, Write, Append, Answer, Outcome, records_of, writing}
 use Rattle.vx_command.specs.Done.{Taken, Held, IsDone, ComesTo}
+use Rattle.vx_command.specs.Elections.{election_in, once_election}
 use Rattle.vx_journal.specs.declared.journal.Journal.{Journal}
 use Rattle.vx_journal.specs.Replay.{replay_of}
 use Rattle.vx_journal.specs.Keeping.{journal_in, begin_acts}
@@ -72,3 +76,55 @@ JournalsStay =
     (election : Election) (records : List (List ℕ)) (outcome : Outcome) (taken taken_now : Taken) (held_now : Held)
     (answer : Answer) → StaysJournal election records outcome.acts
     → IsDone outcome taken taken_now (Some records) held_now answer → HoldsJournal election held_now
+
+-- the first records of a journal are one, of the first of its events
+pub record IsFrontOf (election : Election) (records : List (List ℕ)) (events : List Event) : Type 0 where
+  pub events_then : List Event
+  pub replays : replay_of election records ≡ Ok events_then
+  pub more : List Event
+  pub are : events ≡ events_then ++ more
+
+abbrev pub FrontsAreJournals : Type 0
+FrontsAreJournals =
+    (election : Election) (records more : List (List ℕ)) (events : List Event)
+    → replay_of election (records ++ more) ≡ Ok events → IsFrontOf election records events
+
+-- a record behind the header is one event, which stands behind those of the records before it
+pub record IsKeptAs (election : Election) (before : List (List ℕ)) (event : Event) (events : List Event) : Type 0 where
+  pub events_then : List Event
+  pub replays : replay_of election before ≡ Ok events_then
+  pub more : List Event
+  pub are : events ≡ events_then ++ event ∷ more
+
+abbrev pub RecordsAreEvents : Type 0
+RecordsAreEvents =
+    (election : Election) (header : List ℕ) (before : List (List ℕ)) (body : List ℕ) (behind : List (List ℕ))
+    (event : Event) (events : List Event)
+    → event_in body ≡ Ok event → replay_of election ((header ∷ before) ++ body ∷ behind) ≡ Ok events
+    → IsKeptAs election (header ∷ before) event events
+
+-- what a journal keeps is a history of the counting machine
+abbrev pub JournalsAreHistories : Type 0
+JournalsAreHistories =
+    (election : Election) (records : List (List ℕ)) (events : List Event)
+    → replay_of election records ≡ Ok events → IsHistory election events
+
+-- the election under a name was read, the records are a journal of it, and all that was written is a text of exactly the
+-- events that the journal keeps, which are a history of the counting machine
+pub record WroteOfJournal (name : List ℕ) (files : Files) (records : List (List ℕ)) (text : Election → List Event → List ℕ)
+    (taken taken_now : Taken) : Type 0 where
+  pub election : Election
+  pub is_read : election_in (files name) ≡ Ok election
+  pub events : List Event
+  pub are_kept : replay_of election records ≡ Ok events
+  pub history : IsHistory election events
+  pub wrote : Took taken taken_now (text election events)
+
+-- so it is where a command ended well that takes its election, reads its journal, and writes a text of what it keeps
+abbrev pub TextsAreOfJournals : Type 0
+TextsAreOfJournals =
+    (name : List ℕ) (files : Files) (records : List (List ℕ)) (text : Election → List Event → List ℕ)
+    (taken taken_now : Taken) (held held_now : Held) (answer : Answer)
+    → IsDone (once_election (files name) (λ given. once_read given records (λ journal. writing (text given journal.center.events))))
+    taken taken_now held held_now answer
+    → answer ≡ Ok tt → WroteOfJournal name files records text taken taken_now

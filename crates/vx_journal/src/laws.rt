@@ -2,13 +2,17 @@
 
 ghost use Rattle.vx_journal.specs.Laws.{
   BegunAreJournals,
+  FrontsAreJournals,
   HeadersBeginJournals,
+  JournalsAreHistories,
   JournalsGrow,
   JournalsStay,
   ReadLaws,
+  RecordsAreEvents,
+  TextsAreOfJournals,
 };
 
-use vx_command::acts_in_order;
+use vx_command::{acts_in_order, records_in_order, texts_in_order};
 use vx_records::records_are_read;
 
 /// A journal that was begun is a journal.
@@ -40,3 +44,27 @@ pub fn journals_in_order()
 pub fn journals_stay()
     ensures { JournalsStay }
 {}
+
+/// The first records of a journal are a journal, of the first of its events.
+pub fn fronts_are_journals()
+    ensures { FrontsAreJournals }
+{}
+
+/// A record behind the header is one event of the journal, behind the events of the records before it.
+pub fn records_are_events()
+    ensures { RecordsAreEvents }
+{}
+
+/// What a journal keeps is a history of the counting machine.
+pub fn journals_are_histories()
+    ensures { JournalsAreHistories }
+{}
+
+/// A command that takes its election, reads its journal and writes a text of what it keeps: where it ended
+/// well, all that it wrote is the text of exactly the events that the journal keeps, which are a history.
+pub fn texts_are_of_journals()
+    ensures { TextsAreOfJournals }
+{
+    texts_in_order();
+    records_in_order();
+}

@@ -15,3 +15,5 @@ pub mod Gaining
 pub mod Rejoining
 pub mod Halving
 pub mod Replaying
+mod Mixed
+mod FirstDone

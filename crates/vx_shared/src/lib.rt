@@ -22,7 +22,10 @@ mod work;
 pub use desk::Desk;
 pub use halves::run_all;
 pub use history::{Entries, Entry};
-pub use laws::{center_is_shared, lists_have_histories, pass_is_handed, passes_gain_their_calls};
+pub use laws::{
+    center_is_shared, first_adds_are_done, interleavings_are_whole, lists_have_histories,
+    pass_is_handed, passes_gain_their_calls,
+};
 pub use making::{make, make_all};
 pub use pass::Pass;
 pub use sharing::{Receipt, SharedCenter};

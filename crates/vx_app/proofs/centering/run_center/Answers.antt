@@ -15,7 +15,7 @@ returns-clause-journal_kept g c files told name moment device items spells elect
     let held_now = g.K.Keeper.held c.center_words.new.keeper in
     let answer = answer_of c.center_words.result in
     let Done : Held → Type 0 = λ before. Centers name moment device items files records taken taken_now before held_now answer in
-    kept-over c.count_keeps_journals.ensures c.decide_keeps_journals.ensures c.center_keeps_journals.ensures c.journals_stay.ensures
+    kept-over c.count_keeps_journals.ensures c.decide_keeps_journals.ensures c.center_keeps_journals.ensures c.journals_stay.ensures c.fronts_are_journals.ensures
     (Center name moment device items) spells.device files election records events taken taken_now held_now answer
     spells.sound for_it is (λ still. absurd (false≢true (sym still)))
     (subst Done held (c.center_words.ensures.done files told name moment device items spells records held))

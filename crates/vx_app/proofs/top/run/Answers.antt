@@ -2,7 +2,7 @@ use Rattle.std.proofs.Common.{◌∙◌, [], Some, refl, subst}
 use Rattle.std.proofs.lemmas.Bool.{false≢true}
 use Rattle.vx_command.specs.Done.{Held, IsDone}
 use Rattle.vx_command.specs.Status.{answer_of}
-use Rattle.vx_words.specs.declared.command.Command.TheVariants.{Check, Count, Export, Read}
+use Rattle.vx_words.specs.declared.command.Command.TheVariants.{Check, Count, Export, Queue, Read}
 use Rattle.vx_app.specs.Outcome.{outcome_of}
 use Rattle.vx_app.proofs.Journals.{done-of, kept-over}
 use Rattle.vx_app.proofs.top.run.Goals as goal
@@ -32,7 +32,7 @@ returns-clause-journal_kept g c files told command spells election for_it record
     let held_now = g.K.Keeper.held c.run_words.new.keeper in
     let answer = answer_of c.run_words.result in
     let Done : Held → Type 0 = λ before. IsDone (outcome_of command files records) taken taken_now before held_now answer in
-    kept-over c.count_keeps_journals.ensures c.decide_keeps_journals.ensures c.center_keeps_journals.ensures c.journals_stay.ensures
+    kept-over c.count_keeps_journals.ensures c.decide_keeps_journals.ensures c.center_keeps_journals.ensures c.journals_stay.ensures c.fronts_are_journals.ensures
     command spells.spells.device files election records events taken taken_now held_now answer
     spells.spells.sound for_it is (λ still. c.run_words.ensures.keeper_held command spells still ∙ held)
     (done-of command files records taken taken_now held_now answer spells.is_run (subst Done held (c.run_words.ensures.done files told command spells records (λ uses. held))))
@@ -42,3 +42,9 @@ returns-clause-exported g c files told election moment device spells records hel
     c.exports_write_what_was_kept.ensures election moment device files records (g.S.Sink.taken c.args.out.now) (g.S.Sink.taken c.run_words.new.out)
     (g.K.Keeper.held c.args.keeper.now) (g.K.Keeper.held c.run_words.new.keeper) _
     (c.run_words.ensures.done files told (Export election moment device) (record { spells = spells; is_run = refl }) records (λ uses. held))
+
+pub returns-clause-queued : goal.returns-clause-queued
+returns-clause-queued g c files told election spells records held =
+    c.queues_write_what_waits.ensures election files records (g.S.Sink.taken c.args.out.now) (g.S.Sink.taken c.run_words.new.out)
+    (g.K.Keeper.held c.args.keeper.now) (g.K.Keeper.held c.run_words.new.keeper) _
+    (c.run_words.ensures.done files told (Queue election) (record { spells = spells; is_run = refl }) records (λ uses. held))

@@ -14,5 +14,20 @@ returns c =
       records = c.records_are_read.ensures;
       images = c.images_are_whole.ensures;
       adds = c.fitting_sheets_are_in_their_items.ensures;
+      histories = c.journals_are_histories.ensures;
+      fronts = c.fronts_are_journals.ensures;
+      events = c.records_are_events.ensures;
+      mixed = c.interleavings_are_whole.ensures;
+      firsts = c.first_adds_are_done.ensures;
+      leaves = c.records_in_order.ensures;
+      history = c.centers_keep_their_history.ensures;
+      items = c.scans_are_items.ensures;
+      ends = c.counts_end_well.ensures;
+      more = c.runs_add_records.ensures;
+      alone = c.added_sheets_are_alone.ensures;
+      stay = c.found_sheets_stay.ensures;
+      equal_keys = c.same_keys_are_equal.ensures;
+      one_row = c.one_row_of_a_key.ensures;
+      row_added = c.each_row_is_of_a_sheet.ensures;
     } in
-    exports laws c.sheets_have_own_keys.ensures c.exports_write_what_was_kept.ensures c.count_keeps_journals.ensures c.journals_stay.ensures
+    exports laws c.exports_write_what_was_kept.ensures c.count_keeps_journals.ensures c.journals_stay.ensures

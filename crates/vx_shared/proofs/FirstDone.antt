@@ -1,4 +1,4 @@
--- The first Add of a key in a history is done, where the key is new and there is room: what will be a law of `vx_shared`.
+-- The first Add of a key in a history is done, where the key is new and there is room.
 use Rattle.std.proofs.Common.{◌≡◌, ◌⊎◌, inl, inr, ℕ, zero, suc, ◌+◌, ◌<◌, ◌≤◌, Bool, true, false, cond, List, [], ◌∷◌, ◌++◌, length, take, refl, sym, ap, ◌∙◌, arith, append_assoc, append-nil}
 use Rattle.std.specs.Prelude.{Some, None, slice_get}
 use Rattle.std.specs.List.{position_from}
@@ -12,10 +12,11 @@ use Rattle.vx_events.specs.declared.key.Key.{Key}
 use Rattle.vx_refusals.specs.declared.reply.Reply.{Reply}
 use Rattle.vx_refusals.specs.declared.reply.Reply.TheVariants.{Done, Full}
 use Rattle.vx_center.specs.Replies.{add_reply, event_limit, is_done, reply_of}
+use Rattle.vx_center.specs.Laws.{SameKeysAreEqual, SheetsComeInOrder}
 use Rattle.vx_center.specs.Sheets.{Added, added_by, has_key, place_in, same_key, sheets_in}
 use Rattle.vx_shared.specs.declared.history.Entry.{Entry}
+use Rattle.vx_shared.specs.Laws.{AddOnly, FirstAddsAreDone, IsDoneIn}
 use Rattle.vx_shared.specs.Legal.{done_events, done_of}
-use Rattle.vx_headline.proofs.Sheets.{added-append, same-equal}
 
 -- none passes, and the one behind doesn't either
 none-pushed : {X : Type 0} (test : X → Bool) (n : ℕ) (xs : List X) (x : X) → position_from test n xs ≡ None → test x ≡ false
@@ -33,7 +34,7 @@ abbrev pub LegalFrom : Election → List Event → List Entry → Type 0
 LegalFrom election kept [] = Unit {0}
 LegalFrom election kept (call ∷ calls) = (call.reply ≡ reply_of election kept call.event) × LegalFrom election (kept ++ done_of call) calls
 
-pub legal-from : (election : Election) (calls : List Entry) (kept : List Event)
+legal-from : (election : Election) (calls : List Entry) (kept : List Event)
     → ((place : ℕ) (call : Entry) → slice_get calls place ≡ Some call → call.reply ≡ reply_of election (kept ++ done_events (take place calls)) call.event)
     → LegalFrom election kept calls
 legal-from election [] kept legal = tt
@@ -44,13 +45,7 @@ legal-from election (call ∷ calls) kept legal = (
       ∙ ap (λ (events : List Event). reply_of election events one.event) (sym (append_assoc kept (done_of call) (done_events (take place calls))))),
 )
 
--- an event stands among the done ones
-pub record IsDoneEvent (calls : List Entry) (event : Event) : Type 0 where
-  pub front : List Event
-  pub back : List Event
-  pub are : done_events calls ≡ front ++ event ∷ back
-
-behind : (call : Entry) (calls : List Entry) (event : Event) → IsDoneEvent calls event → IsDoneEvent (call ∷ calls) event
+behind : (call : Entry) (calls : List Entry) (event : Event) → IsDoneIn calls event → IsDoneIn (call ∷ calls) event
 behind call calls event it = record {
   front = done_of call ++ it.front;
   back = it.back;
@@ -61,13 +56,13 @@ pushed : (xs : List Event) (x : Event) → length (xs ++ x ∷ []) ≡ suc (leng
 pushed [] x = refl
 pushed (y ∷ xs) x = ap suc (pushed xs x)
 
-module _ (election : Election) (key : Key) (sheet : SheetMarks) where
+module _ (in_order : SheetsComeInOrder) (equal_keys : SameKeysAreEqual) (election : Election) (key : Key) (sheet : SheetMarks) where
   -- an event that adds nothing under the key
   still-none : (kept : List Event) (event : Event) → ((n : ℕ) → added_by n event ≡ []) → (b : Bool) → place_in kept key ≡ None
       → place_in (kept ++ cond b (event ∷ []) []) key ≡ None
   still-none kept event none true new =
       ap (position_from (has_key key) 0)
-      (added-append 0 kept (event ∷ [])
+      (in_order 0 kept (event ∷ [])
       ∙ ap (λ (some : List Added). sheets_in kept ++ some) (append-nil (added_by (0 + length kept) event) ∙ none (0 + length kept))
       ∙ append-nil (sheets_in kept))
       ∙ new
@@ -76,7 +71,7 @@ module _ (election : Election) (key : Key) (sheet : SheetMarks) where
   other-key : (kept : List Event) (other : Key) (one : SheetMarks) → same_key key other ≡ false → (b : Bool) → place_in kept key ≡ None
       → place_in (kept ++ cond b (Add other one ∷ []) []) key ≡ None
   other-key kept other one not true new =
-      ap (position_from (has_key key) 0) (added-append 0 kept (Add other one ∷ []))
+      ap (position_from (has_key key) 0) (in_order 0 kept (Add other one ∷ []))
       ∙ none-pushed (has_key key) 0 (sheets_in kept) (record { at = 0 + length kept; key = other; sheet = one }) new not
   other-key kept other one not false new = ap (λ (some : List Event). place_in some key) (append-nil kept) ∙ new
 
@@ -85,9 +80,6 @@ module _ (election : Election) (key : Key) (sheet : SheetMarks) where
   add-done kept new room =
       ap (λ (b : Bool). cond b (add_reply (place_in kept key)) (Full event_limit)) (below-yes (length kept) event_limit room)
       ∙ ap add_reply new
-
-  abbrev OnlyIt : List Entry → Type 0
-  OnlyIt calls = (n : ℕ) (call : Entry) (other : SheetMarks) → slice_get calls n ≡ Some call → call.event ≡ Add key other → other ≡ sheet
 
   shorter : (kept : List Event) (call : Entry) (more : ℕ) → length kept + suc more ≤ event_limit → length (kept ++ done_of call) + more ≤ event_limit
   shorter kept call more room = by (is_done call.reply)
@@ -99,7 +91,7 @@ module _ (election : Election) (key : Key) (sheet : SheetMarks) where
   -- the first call adds it
   it-is : (call : Entry) (calls : List Entry) (kept : List Event) → call.reply ≡ reply_of election kept call.event → place_in kept key ≡ None
       → length kept + suc (length calls) ≤ event_limit
-      → call.event ≡ Add key sheet → IsDoneEvent (call ∷ calls) (Add key sheet)
+      → call.event ≡ Add key sheet → IsDoneIn (call ∷ calls) (Add key sheet)
   it-is call calls kept legal new room same =
       let done : call.reply ≡ Done = legal ∙ ap (reply_of election kept) same ∙ add-done kept new (omega (arith, room)) in
       let given : done_of call ≡ Add key sheet ∷ [] =
@@ -120,7 +112,7 @@ module _ (election : Election) (key : Key) (sheet : SheetMarks) where
         where
           keyed : (b : Bool) → same_key key other ≡ b → (call.event ≡ Add key sheet) ⊎ (place_in (kept ++ done_of call) key ≡ None)
           keyed true is =
-              let own : call.event ≡ Add key one = same ∙ ap (λ (some : Key). Add some one) (sym (same-equal key other is)) in
+              let own : call.event ≡ Add key one = same ∙ ap (λ (some : Key). Add some one) (sym (equal_keys key other is)) in
               inl (own ∙ ap (Add key) (only one own))
           keyed false not = inr (none (Add other one) same (other-key kept other one not (is_done call.reply) new))
       by (Claim station other) same = inr (none (Claim station other) same (still-none kept (Claim station other) (λ n. refl) (is_done call.reply) new))
@@ -129,9 +121,9 @@ module _ (election : Election) (key : Key) (sheet : SheetMarks) where
           inr (none (Decide station other contest decision) same
           (still-none kept (Decide station other contest decision) (λ n. refl) (is_done call.reply) new))
 
-  pub first-done : (calls : List Entry) (kept : List Event) → LegalFrom election kept calls → place_in kept key ≡ None
-      → length kept + length calls ≤ event_limit → OnlyIt calls
-      → (n : ℕ) (one : Entry) → slice_get calls n ≡ Some one → one.event ≡ Add key sheet → IsDoneEvent calls (Add key sheet)
+  first-done : (calls : List Entry) (kept : List Event) → LegalFrom election kept calls → place_in kept key ≡ None
+      → length kept + length calls ≤ event_limit → AddOnly calls key sheet
+      → (n : ℕ) (one : Entry) → slice_get calls n ≡ Some one → one.event ≡ Add key sheet → IsDoneIn calls (Add key sheet)
   first-done [] kept legal new room only n one at is = absurd cc
   first-done (call ∷ calls) kept legal new room only zero one at is =
       it-is call calls kept legal.0 new room (ap (λ (some : Entry). some.event) (same_Some call one at) ∙ is)
@@ -141,7 +133,12 @@ module _ (election : Election) (key : Key) (sheet : SheetMarks) where
       (λ m some other there same. only (suc m) some other there same) n one at is)
     where
       by : (call.event ≡ Add key sheet) ⊎ (place_in (kept ++ done_of call) key ≡ None)
-          → (place_in (kept ++ done_of call) key ≡ None → IsDoneEvent calls (Add key sheet))
-          → IsDoneEvent (call ∷ calls) (Add key sheet)
+          → (place_in (kept ++ done_of call) key ≡ None → IsDoneIn calls (Add key sheet))
+          → IsDoneIn (call ∷ calls) (Add key sheet)
       by (inl same) go = it-is call calls kept legal.0 new room same
       by (inr later) go = behind call calls (Add key sheet) (go later)
+
+pub first-adds : SheetsComeInOrder → SameKeysAreEqual → FirstAddsAreDone
+first-adds in_order equal_keys start history key sheet place call legal new room only at is =
+    first-done in_order equal_keys start.election key sheet history start.events
+    (legal-from start.election history start.events legal.replies) new room only place call at is

@@ -1,4 +1,4 @@
--- Each run leaves the records that were there, and perhaps more behind them: what will be a law of `vx_app`.
+-- Each run leaves the records that were there, and perhaps more behind them.
 use Rattle.std.proofs.Common.{◌≡◌, ℕ, false, List, [], ◌∷◌, ◌++◌, Some, refl, sym, ap, ◌∙◌, append_assoc, append-nil}
 use Rattle.std.specs.List.{flat_map}
 use Rattle.std.proofs.lemmas.Option.{same_Some}
@@ -9,24 +9,20 @@ use Rattle.vx_command.specs.Done.{IsDone, Taken}
 use Rattle.vx_words.specs.declared.command.Command.{Command}
 use Rattle.vx_words.specs.declared.command.Command.TheVariants.{Print, Read, Check, Count, Decide, Queue, Export, Demo, Center}
 use Rattle.vx_app.specs.Outcome.{appends}
-use Rattle.vx_app.specs.Journals.{AreRuns, IsDoneOf, IsRun, Run}
-
-pub record Adds (records left : List (List ℕ)) : Type 0 where
-  pub more : List (List ℕ)
-  pub are : left ≡ records ++ more
+use Rattle.vx_app.specs.Journals.{AddsRecords, AreRuns, IsDoneOf, IsRun, Run, RunsAddRecords}
 
 module _ (records left : List (List ℕ)) where
-  none : Some left ≡ Some records → Adds records left
+  none : Some left ≡ Some records → AddsRecords records left
   none same = record { more = []; are = same_Some left records same ∙ sym (append-nil records) }
 
   some : (outcome : Outcome) (taken taken_now : Taken) (answer : Answer) → IsDone outcome taken taken_now (Some records) (Some left) answer
-      → Adds records left
+      → AddsRecords records left
   some outcome taken taken_now answer done =
       let more = flat_map records_of done.done ++ done.records in
       record { more = more; are = same_Some left (records ++ more) done.kept }
 
   by : (command : Command) (files : Files) (taken taken_now : Taken) (answer : Answer) → IsDoneOf command files records taken taken_now (Some left) answer
-      → (appends command ≡ false → Some left ≡ Some records) → Adds records left
+      → (appends command ≡ false → Some left ≡ Some records) → AddsRecords records left
   by (Print name card kind test) files taken taken_now answer done held = none (held refl)
   by (Read name scans) files taken taken_now answer done held = none (held refl)
   by (Check name scans readings) files taken taken_now answer done held = none (held refl)
@@ -37,11 +33,10 @@ module _ (records left : List (List ℕ)) where
   by (Demo seed sheets) files taken taken_now answer done held = none (held refl)
   by (Center name moment device items) files taken taken_now answer done held = some _ taken taken_now answer done.done
 
-pub one-adds : (election : Election) (records : List (List ℕ)) (one : Run) → IsRun election records one → Adds records one.left
+one-adds : (election : Election) (records : List (List ℕ)) (one : Run) → IsRun election records one → AddsRecords records one.left
 one-adds election records one run = by records one.left one.command one.files one.taken one.taken_now one.answer run.done run.held
 
-pub all-add : (election : Election) (records : List (List ℕ)) (runs : List Run) (left : List (List ℕ)) → AreRuns election records runs left
-    → Adds records left
+pub all-add : RunsAddRecords
 all-add election records [] left are = record { more = []; are = are ∙ sym (append-nil records) }
 all-add election records (one ∷ runs) left are =
     let here = one-adds election records one are.0 in

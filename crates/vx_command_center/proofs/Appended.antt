@@ -1,4 +1,4 @@
--- What a `center` that didn't break off appended: what will be a law of `vx_command_center`.
+-- What a `center` appends, and the item of a scan that one of its words names.
 use Rattle.std.proofs.Common.{◌≡◌, ◌⊎◌, inl, inr, ℕ, zero, suc, ◌+◌, ◌/◌, Bool, true, false, cond, List, [], ◌∷◌, ◌++◌, map, Option, Some, None, Result, Ok, Err, refl, sym, ap, ap₂, subst, ◌∙◌, append-nil}
 use Rattle.std.specs.Prelude.{slice_get, nat_lt, length}
 use Rattle.std.specs.List.{flat_map}
@@ -14,7 +14,7 @@ use Rattle.vx_layout.specs.declared.plan.CardPlan.{CardPlan}
 use Rattle.vx_pbm.specs.declared.fault.PbmFault.{PbmFault}
 use Rattle.vx_pbm.specs.Images.{images_of}
 use Rattle.vx_plane.specs.Plane.{Page}
-use Rattle.vx_records.specs.Records.{header_of, record_of}
+use Rattle.vx_records.specs.Records.{record_of}
 use Rattle.vx_shared.specs.declared.history.Entry.{Entry}
 use Rattle.vx_shared.specs.Legal.{done_events}
 use Rattle.vx_words.specs.declared.command.ItemWord.{ItemWord}
@@ -22,45 +22,15 @@ use Rattle.vx_words.specs.declared.command.ItemWord.TheVariants.{Scan as ScanWor
 use Rattle.vx_command.specs.declared.halt.Halt.{Halt}
 use Rattle.vx_command.specs.declared.halt.Halt.TheVariants.{TooManyEvents, TooLong, ReadFault, WriteFault, KeeperFault, NoMemory}
 use Rattle.vx_command.specs.Acts.{Act, Append, Answer, Outcome, goes_on, input_limit, input_of, records_of, work}
-use Rattle.vx_command.specs.Done.{BreaksAt, BreaksOff, IsDone, IsWhole, Taken}
 use Rattle.vx_command.specs.Elections.{election_in, once_planned, plans_in}
-use Rattle.vx_command.specs.Texts.{broke_off}
 use Rattle.vx_journal.specs.declared.journal.Journal.{Journal}
-use Rattle.vx_journal.specs.Keeping.{begin_acts, has_none, journal_in, journal_read}
-use Rattle.vx_journal.specs.Replay.{replay_of}
+use Rattle.vx_journal.specs.Keeping.{begin_acts}
 use Rattle.vx_journal.specs.Steps.{once_read}
-use Rattle.vx_command_count.specs.Margin.{header_if_none}
 use Rattle.vx_command_center.specs.declared.item.Item.{Item}
 use Rattle.vx_command_center.specs.declared.item.Item.TheVariants.{Scan}
+use Rattle.vx_command_center.specs.Laws.{CentersKeepTheirHistory, ScansAreItems}
 use Rattle.vx_command_center.specs.Items.{lines_of_item, possible_of}
 use Rattle.vx_command_center.specs.Outcome.{append_acts, center_outcome, end_acts, event_limit, history_acts, item_in, items_outcome, items_taken, journal_outcome, name_in, scan_unless, taken_item, within_limit, written_acts}
-
--- a command that didn't break off has done all its acts
-never-broke : (cause : Halt) (left : List Act) (text : List ℕ) (part : List (List ℕ)) → broke_off (Err cause) ≡ false → BreaksAt cause left text part → ⊥
-never-broke ReadFault left text part whole broke = cc
-never-broke WriteFault left text part whole broke = cc
-never-broke KeeperFault left text part whole broke = cc
-never-broke NoMemory left text part whole broke = cc
-never-broke cause left text part whole broke = broke
-
-all-done : (ends answer : Answer) (left : List Act) (text : List ℕ) (part : List (List ℕ)) → broke_off answer ≡ false
-    → IsWhole ends answer left text part ⊎ BreaksOff answer left text part → (left ≡ []) × (part ≡ [])
-all-done ends answer left text part whole (inl all) = (all.all, all.no_more.1)
-all-done ends (Ok done) left text part whole (inr broke) = absurd broke
-all-done ends (Err cause) left text part whole (inr broke) = absurd (never-broke cause left text part whole broke)
-
-pub all-records : (outcome : Outcome) (taken taken_now : Taken) (records left : List (List ℕ)) (answer : Answer)
-    → IsDone outcome taken taken_now (Some records) (Some left) answer → broke_off answer ≡ false
-    → left ≡ records ++ flat_map records_of outcome.acts
-all-records outcome taken taken_now records left answer done whole =
-    let all = all-done outcome.ends answer done.left done.text done.records whole done.ends in
-    same_Some left (records ++ (flat_map records_of done.done ++ done.records)) done.kept
-    ∙ ap (λ (some : List (List ℕ)). records ++ some)
-    (ap (λ (some : List (List ℕ)). flat_map records_of done.done ++ some) all.1
-    ∙ append-nil (flat_map records_of done.done)
-    ∙ ap (flat_map records_of) (sym (append-nil done.done))
-    ∙ ap (λ (some : List Act). flat_map records_of (done.done ++ some)) (sym all.0)
-    ∙ ap (flat_map records_of) (sym done.are_acts))
 
 appended : (events : List Event) → flat_map records_of (append_acts events) ≡ map record_of events
 appended [] = refl
@@ -69,10 +39,6 @@ appended (event ∷ events) = ap (λ (some : List (List ℕ)). record_of event �
 lines-none : (place : ℕ) (history : List Entry) (more : List Act) → flat_map records_of (history_acts place history ++ more) ≡ flat_map records_of more
 lines-none place [] more = refl
 lines-none place (call ∷ history) more = lines-none (place + 1) history more
-
-header : (election : Election) (b : Bool) → flat_map records_of (cond b (Append (header_of election) ∷ []) []) ≡ cond b (header_of election ∷ []) []
-header election true = refl
-header election false = refl
 
 module _ (election : Election) (files : Files) where
   given-records : (given : Result Item Halt) (taken : Item) (rest : Item → Outcome) → given ≡ Ok taken
@@ -112,7 +78,7 @@ module _ (election : Election) (files : Files) where
       let it : two.0 ≡ item = let given = kept.1 in cc in
       (made.0, sym it ∙ made.1 ∙ ap (λ (some : List ℕ). Scan batch some made.0) (sym same))
 
-  pub scan-there : (words : List ItemWord) (word before n : ℕ) (items : List Item) (batch file bytes : List ℕ)
+  scan-there : (words : List ItemWord) (word before n : ℕ) (items : List Item) (batch file bytes : List ℕ)
       → items_taken election files word before words ≡ Ok items → slice_get words n ≡ Some (ScanWord batch file) → files file ≡ Some bytes
       → (sheets : ℕ) × (slice_get items n ≡ Some (Scan batch bytes sheets))
   scan-there [] word before n items batch file bytes is at there = absurd cc
@@ -136,24 +102,22 @@ module _ (election : Election) (files : Files) where
       by (suc n) at first taken others go = go n at
 
 -- all records of a `center`, by its history
-pub center-records : (name moment device : List ℕ) (words : List ItemWord) (files : Files) (records : List (List ℕ)) (history : List Entry)
-    (election : Election) (plans : List CardPlan) (events : List Event) (items : List Item)
-    → election_in (files name) ≡ Ok election → plans_in election ≡ Ok plans → replay_of election records ≡ Ok events
-    → items_taken election files 4 0 words ≡ Ok items
-    → flat_map records_of (center_outcome name moment device words files records history).acts ≡ header_if_none election records ++ map record_of
-    (done_events history)
-center-records name moment device words files records history election plans events items is planned replays are =
-    let journal : Journal = record { center = record { election = election; events = events }; is_new = has_none records } in
-    let read : journal_in election records ≡ Ok journal = ap (journal_read election (has_none records)) replays in
-    let written = written_acts election (events ++ done_events history) history (flat_map (lines_of_item election) items) moment device in
+pub center-records : CentersKeepTheirHistory
+center-records name moment device words files records history election plans journal items is planned read are =
+    let events = journal.center.events in
+    let written = written_acts journal.center.election (events ++ done_events history) history
+    (flat_map (lines_of_item journal.center.election) items) moment device in
     ap (λ (given : Result Election Halt). flat_map records_of
     (goes_on given (λ some. once_planned some (once_read some records (journal_outcome some moment device words files history)))).acts) is
     ∙ ap (λ (given : Result (List CardPlan) Halt). flat_map records_of
     (goes_on given (λ some. once_read election records (journal_outcome election moment device words files history))).acts) planned
     ∙ ap (λ (given : Result Journal Halt). flat_map records_of (goes_on given (journal_outcome election moment device words files history)).acts) read
     ∙ items-records election files words 4 0 items (λ items. work (end_acts election journal moment device items history)) are
-    ∙ flat_map-append records_of (begin_acts journal) (append_acts (done_events history) ++ written)
-    ∙ ap₂ (λ (some more : List (List ℕ)). some ++ more) (header election (has_none records))
-    (flat_map-append records_of (append_acts (done_events history)) written
+    ∙ flat_map-append records_of (begin_acts journal) (append_acts (done_events history) ++ _)
+    ∙ ap (λ (more : List (List ℕ)). flat_map records_of (begin_acts journal) ++ more)
+    (flat_map-append records_of (append_acts (done_events history)) _
     ∙ ap₂ (λ (some more : List (List ℕ)). some ++ more) (appended (done_events history)) (lines-none 0 history _)
     ∙ append-nil (map record_of (done_events history)))
+
+pub scans-there : ScansAreItems
+scans-there election files words items n batch file bytes are at is = scan-there election files words 4 0 n items batch file bytes are at is

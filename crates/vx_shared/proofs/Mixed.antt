@@ -1,10 +1,11 @@
--- Lists of events that a history interleaves: what will be laws of `vx_shared`.
+-- Lists of events that a history interleaves: what comes of them.
 use Rattle.std.proofs.Common.{◌≡◌, ℕ, zero, suc, ◌+◌, ◌≤◌, Bool, true, false, List, [], ◌∷◌, length, refl, sym, ap, ◌∙◌, arith}
 use Rattle.std.specs.Prelude.{◌==◌, Some, slice_get, slice_set}
 use Rattle.std.proofs.lemmas.Option.{get_or_from_slice_get, same_Some, slice_get_within}
 use Rattle.vx_base.proofs.Numbers.{equal-from_yes, equal-yes}
 use Rattle.vx_events.specs.declared.event.Event.{Event}
 use Rattle.vx_shared.specs.Interleaving.{Interleaving}
+use Rattle.vx_shared.specs.Laws.{IsOfList, events_in_all}
 
 set-here : {X : Type 0} (xs : List X) (n : ℕ) (x y : X) → slice_get xs n ≡ Some x → slice_get (slice_set xs n y) n ≡ Some y
 set-here [] n x y h = absurd cc
@@ -53,23 +54,16 @@ comes (first ∷ events) lists mixed p list m event at on =
         (suc rest.0, rest.1)
 
 -- and each that comes is of one of them
-pub record IsOf (lists : List (List Event)) (event : Event) : Type 0 where
-  pub place : ℕ
-  pub list : List Event
-  pub at : slice_get lists place ≡ Some list
-  pub n : ℕ
-  pub on : slice_get list n ≡ Some event
-
 pub is-of : (events : List Event) (lists : List (List Event)) → Interleaving lists events → (q : ℕ) (event : Event) → slice_get events q ≡ Some event
-    → IsOf lists event
+    → IsOfList lists event
 is-of [] lists mixed q event on = absurd cc
 is-of (first ∷ events) lists mixed zero event on = record { place = mixed.0; list = first ∷ mixed.1; at = mixed.2.0; n = 0; on = on }
 is-of (first ∷ events) lists mixed (suc q) event on = back (is-of events (slice_set lists mixed.0 mixed.1) mixed.2.1 q event on)
   where
-    back : IsOf (slice_set lists mixed.0 mixed.1) event → IsOf lists event
+    back : IsOfList (slice_set lists mixed.0 mixed.1) event → IsOfList lists event
     back it = by (it.place == mixed.0) refl
       where
-        by : (b : Bool) → (it.place == mixed.0) ≡ b → IsOf lists event
+        by : (b : Bool) → (it.place == mixed.0) ≡ b → IsOfList lists event
         by true is =
             let same = equal-from_yes it.place mixed.0 is in
             let whole : it.list ≡ mixed.1 =
@@ -91,19 +85,15 @@ is-of (first ∷ events) lists mixed (suc q) event on = back (is-of events (slic
         }
 
 -- there are as many
-abbrev pub total : List (List Event) → ℕ
-total [] = 0
-total (list ∷ lists) = length list + total lists
-
 one-less : (lists : List (List Event)) (n : ℕ) (event : Event) (more : List Event) → slice_get lists n ≡ Some (event ∷ more)
-    → suc (total (slice_set lists n more)) ≡ total lists
+    → suc (events_in_all (slice_set lists n more)) ≡ events_in_all lists
 one-less [] n event more h = absurd cc
 one-less (list ∷ lists) zero event more h =
     let size : length list ≡ suc (length more) = ap length (same_Some list (event ∷ more) h) in
     omega (arith, size)
 one-less (list ∷ lists) (suc n) event more h = let rest = one-less lists n event more h in omega (arith, rest)
 
-pub as-many : (events : List Event) (lists : List (List Event)) → Interleaving lists events → length events ≤ total lists
+pub as-many : (events : List Event) (lists : List (List Event)) → Interleaving lists events → length events ≤ events_in_all lists
 as-many [] lists mixed = omega arith
 as-many (event ∷ events) lists mixed =
     let rest = as-many events (slice_set lists mixed.0 mixed.1) mixed.2.1 in

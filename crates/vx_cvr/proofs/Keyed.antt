@@ -1,6 +1,8 @@
--- A key that one sheet has, one row of the report has: what will be a law of `vx_cvr`.
-use Rattle.std.proofs.Common.{◌≡◌, ◌⊎◌, inl, inr, ℕ, zero, suc, Bool, true, false, cond, List, [], ◌∷◌, map, refl, sym, ap, ◌∙◌}
-use Rattle.std.specs.Prelude.{Some, filter, slice_get}
+-- The rows of a report are those of the sheets that were added.
+use Rattle.std.proofs.Common.{◌≡◌, ◌⊎◌, inl, inr, ℕ, zero, suc, ◌+◌, ◌<◌, Bool, true, false, cond, List, [], ◌∷◌, length, map, refl, sym, ap, ◌∙◌, arith}
+use Rattle.std.specs.Prelude.{IsPermutation, Some, filter, slice_get, slice_index_or}
+use Rattle.std.proofs.lemmas.List.Elements.{All-head}
+use Rattle.std.proofs.lemmas.List.Sorted.{IsPermutation-cons, IsPermutation-middle, IsPermutation-refl, IsPermutation-trans}
 use Rattle.std.proofs.lemmas.Option.{same_Some}
 use Rattle.std.specs.declared.cmp.Ordering.{Ordering}
 use Rattle.std.specs.declared.cmp.Ordering.TheVariants.{Less, Equal, Greater}
@@ -11,7 +13,10 @@ use Rattle.vx_events.specs.declared.key.Key.{Key}
 use Rattle.vx_center.specs.declared.rows.ExportSheet.{ExportSheet}
 use Rattle.vx_center.specs.Exports.{key_order, row_of}
 use Rattle.vx_center.specs.Sheets.{Added, has_key, same_key, sheets_in}
+use Rattle.vx_cvr.specs.Laws.{EachRowIsOfASheet, IsRowOfSheet, OneRowOfAKey, RowsAreOfTheSheets}
 use Rattle.vx_cvr.specs.Rows.{in_order, placed, rows_of}
+use Rattle.vx_cvr.proofs.Order as order
+use Rattle.vx_cvr.proofs.Rows.{before, in_order-ascends, ranks}
 
 module _ (test : ExportSheet → Bool) where
   -- a row that doesn't pass, placed among others
@@ -60,7 +65,7 @@ module _ (test : ExportSheet → Bool) where
       let both = not-first row rows none in
       placed-other row (in_order rows) both.0 ∙ in_order-none rows both.1
 
-  pub in_order-one : (rows : List ExportSheet) (one : ExportSheet) → filter test rows ≡ one ∷ [] → filter test (in_order rows) ≡ one ∷ []
+  in_order-one : (rows : List ExportSheet) (one : ExportSheet) → filter test rows ≡ one ∷ [] → filter test (in_order rows) ≡ one ∷ []
   in_order-one [] one h = h
   in_order-one (row ∷ rows) one h = by (test row) refl (in_order-one rows one) h
     where
@@ -86,8 +91,7 @@ rows-keyed election kept key (added ∷ sheets) = by (has_key key added) (rows-k
     by true rest = ap (λ (rows : List ExportSheet). row_of election kept added ∷ rows) rest
     by false rest = rest
 
-pub one-row : (election : Election) (kept : List Event) (key : Key) (added : Added) → filter (has_key key) (sheets_in kept) ≡ added ∷ []
-    → filter (λ (row : ExportSheet). same_key key row.key) (rows_of election kept) ≡ row_of election kept added ∷ []
+pub one-row : OneRowOfAKey
 one-row election kept key added alone =
     in_order-one (λ (row : ExportSheet). same_key key row.key) (map (row_of election kept) (sheets_in kept)) (row_of election kept added)
     (rows-keyed election kept key (sheets_in kept) ∙ ap (map (row_of election kept)) alone)
@@ -135,8 +139,43 @@ sheet-of election kept [] n row h = absurd cc
 sheet-of election kept (added ∷ sheets) zero row h = (0, added, (refl, sym (same_Some (row_of election kept added) row h)))
 sheet-of election kept (added ∷ sheets) (suc n) row h = let rest = sheet-of election kept sheets n row h in (suc rest.0, rest.1, rest.2)
 
-pub row-added : (election : Election) (kept : List Event) (n : ℕ) (row : ExportSheet) → slice_get (rows_of election kept) n ≡ Some row
-    → (place : ℕ) × (added : Added) × ((slice_get (sheets_in kept) place ≡ Some added) × (row ≡ row_of election kept added))
+pub row-added : EachRowIsOfASheet
 row-added election kept n row h =
     let at = in_order-from (map (row_of election kept) (sheets_in kept)) n row h in
-    sheet-of election kept (sheets_in kept) at.0 row at.1
+    let it = sheet-of election kept (sheets_in kept) at.0 row at.1 in
+    record { place = it.0; added = it.1; is_added = it.2.0; is_row = it.2.1 }
+
+-- rows in order are the rows
+placed-moved : (row : ExportSheet) (rows : List ExportSheet) → IsPermutation (row ∷ rows) (placed row rows)
+placed-moved row [] = IsPermutation-refl (row ∷ [])
+placed-moved row (other ∷ others) = by (key_order other.key row.key) (placed-moved row others)
+  where
+    by : (o : Ordering) → IsPermutation (row ∷ others) (placed row others)
+        → IsPermutation (row ∷ other ∷ others)
+        (match_ordering o (other ∷ placed row others) (row ∷ other ∷ others) (row ∷ other ∷ others))
+    by Less rest =
+        IsPermutation-trans (row ∷ other ∷ others) (other ∷ row ∷ others) (other ∷ placed row others)
+        (IsPermutation-middle (row ∷ []) other others) (IsPermutation-cons other (row ∷ others) (placed row others) rest)
+    by Equal rest = IsPermutation-refl (row ∷ other ∷ others)
+    by Greater rest = IsPermutation-refl (row ∷ other ∷ others)
+
+in_order-moved : (rows : List ExportSheet) → IsPermutation rows (in_order rows)
+in_order-moved [] = IsPermutation-refl []
+in_order-moved (row ∷ rows) =
+    IsPermutation-trans (row ∷ rows) (row ∷ in_order rows) (placed row (in_order rows))
+    (IsPermutation-cons row rows (in_order rows) (in_order-moved rows)) (placed-moved row (in_order rows))
+
+sorted : (rows : List ExportSheet) → order.Ascends before ranks rows → (k : ℕ) (d : ExportSheet) → k + 1 < length rows
+    → before (slice_index_or rows (k + 1) d) (slice_index_or rows k d) ≡ false
+sorted [] up k d less = absurd (omega (arith, less))
+sorted (one ∷ []) up k d less = absurd (omega (arith, less))
+sorted (one ∷ other ∷ others) up zero d less = All-head (λ y. before y one ≡ false) other others up.0
+sorted (one ∷ other ∷ others) up (suc k) d less =
+    let next : suc k + 1 ≡ suc (k + 1) = omega arith in
+    ap (λ (n : ℕ). before (slice_index_or (one ∷ other ∷ others) n d) (slice_index_or (one ∷ other ∷ others) (suc k) d)) next
+    ∙ sorted (other ∷ others) up.1 k d (omega (arith, less))
+
+pub rows-of-sheets : RowsAreOfTheSheets
+rows-of-sheets election kept =
+    let rows = map (row_of election kept) (sheets_in kept) in
+    record { all = in_order-moved rows; sorted = λ k d low less. sorted (in_order rows) (in_order-ascends rows) k d less }

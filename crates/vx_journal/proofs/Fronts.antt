@@ -1,4 +1,4 @@
--- Records of a journal, and the events that they are read as: what will be a law of `vx_journal`.
+-- Records of a journal, and the events that they are read as.
 use Rattle.std.proofs.Common.{◌≡◌, ℕ, ◌+◌, cond, List, [], ◌∷◌, ◌++◌, Result, Ok, Err, refl, sym, ap, ◌∙◌, append_assoc, append-nil}
 use Rattle.vx_base.specs.Results.{◌>>=◌}
 use Rattle.vx_base.proofs.Booleans.{chosen-if}
@@ -10,9 +10,10 @@ use Rattle.vx_refusals.specs.declared.journal.JournalStop.{JournalStop}
 use Rattle.vx_refusals.specs.declared.journal.JournalStop.TheVariants.{Refused, Unfit}
 use Rattle.vx_center.specs.Replies.{is_done, reply_of}
 use Rattle.vx_records.specs.Reading.{event_in}
+use Rattle.vx_journal.specs.Laws.{IsFrontOf, IsKeptAs}
 use Rattle.vx_journal.specs.Replay.{begun_with, kept_with, read_with, replay_from, replay_of, stopped_at, unless_bad}
 
-pub same-given : {A F : Type 0} (r : Result A F) (x y : A) → r ≡ Ok x → r ≡ Ok y → x ≡ y
+same-given : {A F : Type 0} (r : Result A F) (x y : A) → r ≡ Ok x → r ≡ Ok y → x ≡ y
 same-given r x y a b = cc
 
 unstopped : {A : Type 0} (index : ℕ) (read : Result A JournalStop) (x : A) → stopped_at index read ≡ Ok x → read ≡ Ok x
@@ -95,28 +96,16 @@ module _ (election : Election) where
       }
 
   -- the first records of a journal are one, of the first of its events
-  pub record IsFront (records : List (List ℕ)) (now : List Event) : Type 0 where
-    pub events : List Event
-    pub replays : replay_of election records ≡ Ok events
-    pub more : List Event
-    pub is : now ≡ events ++ more
-
-  pub front : (records more : List (List ℕ)) (now : List Event) → replay_of election (records ++ more) ≡ Ok now → IsFront records now
-  front [] more now h = record { events = []; replays = refl; more = now; is = refl }
+  pub front : (records more : List (List ℕ)) (now : List Event) → replay_of election (records ++ more) ≡ Ok now → IsFrontOf election records now
+  front [] more now h = record { events_then = []; replays = refl; more = now; are = refl }
   front (header ∷ records) more now h =
       let parted = begun header records more now h in
       let behind = further more parted.next parted.middle now parted.rest in
-      record { events = parted.middle; replays = parted.first; more = behind.more; is = behind.is }
+      record { events_then = parted.middle; replays = parted.first; more = behind.more; are = behind.is }
 
   -- a record behind the header is one event, behind those of the records before it
-  pub record IsKeptAs (before : List (List ℕ)) (event : Event) (now : List Event) : Type 0 where
-    pub events : List Event
-    pub replays : replay_of election before ≡ Ok events
-    pub more : List Event
-    pub is : now ≡ events ++ event ∷ more
-
   pub kept-as : (header : List ℕ) (before : List (List ℕ)) (body : List ℕ) (behind : List (List ℕ)) (event : Event) (now : List Event)
-      → event_in body ≡ Ok event → replay_of election ((header ∷ before) ++ body ∷ behind) ≡ Ok now → IsKeptAs (header ∷ before) event now
+      → event_in body ≡ Ok event → replay_of election ((header ∷ before) ++ body ∷ behind) ≡ Ok now → IsKeptAs election (header ∷ before) event now
   kept-as header before body behind event now read h =
       let parted = begun header before (body ∷ behind) now h in
       let step = bind_ok (stopped_at parted.next (read_with election parted.middle body)) (λ some. replay_from election (parted.next + 1) some behind) now
@@ -125,9 +114,9 @@ module _ (election : Election) where
       let same : here.event ≡ event = same-given (event_in body) here.event event here.read read in
       let last = further behind (parted.next + 1) step.0 now step.2 in
       record {
-        events = parted.middle;
+        events_then = parted.middle;
         replays = parted.first;
         more = last.more;
-        is = last.is ∙ ap (λ (some : List Event). some ++ last.more) here.is ∙ append_assoc parted.middle (here.event ∷ []) last.more
+        are = last.is ∙ ap (λ (some : List Event). some ++ last.more) here.is ∙ append_assoc parted.middle (here.event ∷ []) last.more
             ∙ ap (λ (one : Event). parted.middle ++ one ∷ last.more) same;
       }

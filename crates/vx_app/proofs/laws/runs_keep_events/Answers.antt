@@ -1,0 +1,7 @@
+use Rattle.vx_app.proofs.Journals.{runs-keep}
+use Rattle.vx_app.proofs.laws.runs_keep_events.Goals as goal
+
+pub returns : goal.returns
+returns c =
+    runs-keep c.count_keeps_journals.ensures c.decide_keeps_journals.ensures c.center_keeps_journals.ensures c.journals_stay.ensures
+    c.fronts_are_journals.ensures
