@@ -2,3 +2,4 @@ mod Lined
 mod Passed
 mod Reasoned
 mod Walked
+mod Waits

@@ -1,3 +1,4 @@
 pub mod Queue
 pub mod Outcome
 pub mod Walk
+pub mod Laws
