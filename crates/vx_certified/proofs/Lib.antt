@@ -7,3 +7,4 @@ pub mod Drawing
 pub mod DemoPages
 pub mod Demos
 pub mod Said
+mod DemoElection

@@ -40,3 +40,23 @@ DemoSaysSo =
     → (taken taken_now : Taken) (held held_now : Held) (answer : Answer)
     → IsDone (demo_outcome seed sheets) taken taken_now held held_now answer
     → SaysAllTrue plans seed sheets taken taken_now answer
+
+-- the election that `demo` makes is read, and its cards, of which there are three, can all be planned
+pub record DemoElection : Type 0 where
+  pub election : Election
+  pub plans : List CardPlan
+  pub is_read : election_defined ≡ Ok election
+  pub are_planned : plans_in election ≡ Ok plans
+  pub three : length plans ≡ 3
+
+-- what a demo wrote says, as its second line, that of the two pages of each sheet all were read as they were printed and
+-- marked, and all certified
+pub record SaysSo (seed sheets : ℕ) (taken taken_now : Taken) (answer : Answer) : Type 0 where
+  pub more : List ℕ
+  pub wrote : Wrote (head_line seed sheets ++ pages_line (2 * sheets) (2 * sheets) (2 * sheets) ++ more) taken taken_now answer
+
+-- so says every demo, from every seed, whatever stands of its acts
+abbrev pub DemosSaySo : Type 0
+DemosSaySo =
+    (seed sheets : ℕ) (taken taken_now : Taken) (held held_now : Held) (answer : Answer)
+    → IsDone (demo_outcome seed sheets) taken taken_now held held_now answer → SaysSo seed sheets taken taken_now answer

@@ -12,5 +12,5 @@
 mod demo;
 mod readings;
 
-pub use demo::{demo_pages_are_true, demo_says_so};
+pub use demo::{demo_has_three_cards, demo_pages_are_true, demo_says_so, demos_say_so};
 pub use readings::{faults_are_one_line, readings_are_sayable, written_readings_are_certified};
