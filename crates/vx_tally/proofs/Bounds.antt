@@ -1,11 +1,11 @@
 -- How many shares there are, how much they can come to, and the sums behind a record more or less.
-use Rattle.std.proofs.Common.{◌≡◌, ℕ, suc, ◌+◌, ◌*◌, ◌<◌, ◌≤◌, Bool, true, false, cond, All, List, [], ◌∷◌, ◌++◌, length, filter, take, drop, refl, ap, ◌∙◌, arith, length-append}
-use Rattle.std.specs.Prelude.{sum_by, remove, slice_index_or}
+use Rattle.std.proofs.Common.{◌≡◌, ℕ, suc, ◌+◌, ◌*◌, ◌<◌, ◌≤◌, Bool, true, false, cond, All, List, [], ◌∷◌, ◌++◌, length, filter, take, drop, refl, ap, arith, length-append}
+use Rattle.std.specs.Prelude.{sum_by, remove}
 use Rattle.std.specs.Option.{unwrap_or}
 use Rattle.std.specs.Map.{lookup}
 use Rattle.indexmap.specs.IndexMap.{IndexMap, spare}
 use Rattle.std.specs.List.{flat_map}
-use Rattle.std.proofs.lemmas.List.Sums.{sum_by-append, sum_by-remove}
+use Rattle.std.proofs.lemmas.List.Sums.{sum_by-append}
 use Rattle.std.proofs.lemmas.List.Edits.{length-remove}
 use Rattle.std.proofs.lemmas.List.Elements.{All-head, All-tail, All-push, All-append, All-take, All-drop}
 use Rattle.vx_tally.specs.declared.report.CvrRecord.{CvrRecord}
@@ -137,17 +137,11 @@ module _ {S : Type 0} where
         omega (arith, was, is.sums_are key, records-most key records is.countable, record-most key one countable, few),
   )
 
--- the sums without the record at a place
-module _ (records : List CvrRecord) (place : ℕ) (gone : CvrRecord) (lt : place < length records) (there : gone ≡ slice_index_or records place gone) where
-  left : (key : Counted)
-      → sum_by (λ (one : CvrRecord). sum_of key (record_shares one)) (remove records place) + sum_of key (record_shares gone)
-      ≡ sum_by (λ (one : CvrRecord). sum_of key (record_shares one)) records
-  left key =
-      let own : CvrRecord → ℕ = λ one. sum_of key (record_shares one) in
-      ap (λ (one : CvrRecord). sum_by own (remove records place) + own one) there ∙ sum_by-remove own records place gone lt
-
+-- the sums without a record
+module _ (records : List CvrRecord) (place : ℕ) (gone : CvrRecord) (lt : place < length records)
+    (left : (own : CvrRecord → ℕ) → sum_by own (remove records place) + own gone ≡ sum_by own records) where
   pub allows-less : {S : Type 0} (old : IndexMap Counted ℕ S) → IsSummed records old → Allows Lower (record_shares gone) old
-  allows-less old is = λ key. omega (arith, left key, is.sums_are key)
+  allows-less old is = λ key. omega (arith, left (λ (one : CvrRecord). sum_of key (record_shares one)), is.sums_are key)
 
   pub summed-less : {S : Type 0} (old new : IndexMap Counted ℕ S) → IsSummed records old → IsChanged Lower (record_shares gone) old new
       → IsSummed (remove records place) new
@@ -156,5 +150,5 @@ module _ (records : List CvrRecord) (place : ℕ) (gone : CvrRecord) (lt : place
     countable =
         All-append IsCountable (take place records) (drop (suc place) records) (All-take IsCountable place records is.countable)
         (All-drop IsCountable (suc place) records is.countable);
-    sums_are = λ key. omega (arith, left key, is.sums_are key, changed key);
+    sums_are = λ key. omega (arith, left (λ (one : CvrRecord). sum_of key (record_shares one)), is.sums_are key, changed key);
   }

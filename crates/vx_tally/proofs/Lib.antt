@@ -3,6 +3,9 @@ pub mod Bytes
 pub mod Changes
 pub mod Each
 pub mod Finding
+pub mod FirstKept
+pub mod KeptRecords
+pub mod Numbered
 pub mod Readings
 pub mod SameSums
 pub mod Summed

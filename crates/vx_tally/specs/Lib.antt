@@ -8,3 +8,4 @@ pub mod Records
 pub mod Reading
 pub mod Totals
 pub mod Sums
+pub mod Kept

@@ -10,6 +10,7 @@
 mod contests;
 mod fault;
 mod ids;
+mod kept;
 mod members;
 mod names;
 mod reading;

@@ -1,34 +1,38 @@
 //! Records that are in, and what they sum up to.
 
-ghost use Rattle.std.specs.Prelude.{◌≡◌, ◌<◌, ◌≤◌, ◌++◌, ◌∷◌, [], true, length, is_ok, position, if◌then◌else◌};
+ghost use Rattle.std.specs.Prelude.{◌≡◌, ◌<◌, ◌≤◌, ◌++◌, ◌∷◌, [], true, length, is_ok, if◌then◌else◌};
 ghost use Rattle.std.specs.List.{list_any};
 ghost use Rattle.vx_tally.specs.Totals.{total_of, total_in_of, over_of, under_of, same_record, without_first, size_of, IsCountable};
 
+use crate::kept::{KeptRecords, key_of, mark_of};
 use crate::report::CvrRecord;
 use crate::sums::{Change, Counted, Sums, change_record, sum_at};
 use indexmap::IndexMap;
 use std::alloc::Global;
+use std::collections::BTreeMap;
 use std::marker::Model;
 use vx_base::OutOfMemory;
 
 /// Records that are in, in the order in which they were added, with sums of their numbers. Contracts
-/// see the list of the records.
+/// see the list of the records. A record is looked for among those with the mark of its id alone,
+/// and a total is one look-up, so that no call walks over all records.
 #[derive(Drop)]
 pub struct Tally {
-    records: Vec<CvrRecord>,
+    records: KeptRecords,
+    next: u64,
     sums: Sums,
 }
 
 impl Model for Tally {
     ghost use Rattle.std.specs.Prelude.{List};
     ghost use Rattle.vx_tally.specs.declared.report.CvrRecord.{CvrRecord};
-    ghost use Rattle.vx_tally.specs.Sums.{IsSummed};
+    ghost use Rattle.vx_tally.specs.Kept.{records_of, IsKept};
 
     ghost Value = { List CvrRecord };
 
-    ghost view = { λ tally. tally.records.items };
+    ghost view = { λ tally. records_of tally.records.entries };
 
-    ghost invariant = { λ tally. IsSummed tally.records.items tally.sums };
+    ghost invariant = { λ tally. IsKept tally.records.entries tally.next tally.sums };
 }
 
 /// How many contests and rows a record has.
@@ -43,35 +47,32 @@ fn size_of(one: &CvrRecord) -> usize
     size
 }
 
-/// The place of the first record that is equal.
-fn place_of(records: &[CvrRecord], cvr: &CvrRecord) -> Option<usize>
-    ensures { result ≡ position (same_record cvr.now) records.now }
-{
-    records.iter().position(|one| cvr.is_same(one))
-}
-
 impl Tally {
     /// No records; takes no memory.
     pub fn new(alloc: Global) -> Tally
         ensures { result ≡ [] }
     {
         Tally {
-            records: Vec::new(alloc),
+            records: BTreeMap::new(alloc),
+            next: 0,
             sums: IndexMap::new(alloc),
         }
     }
 
-    /// Puts a copy of a record behind those that are in. After want of memory the tally is as before.
+    /// Puts a copy of a record behind those that are in. After want of memory the tally is as before;
+    /// that 2^64 - 1 records were added is told as want of memory, too.
     pub fn add(&mut self, alloc: Global, cvr: &CvrRecord) -> Result<(), OutOfMemory>
         requires few { length self.old < 1000000000 }
         requires countable { IsCountable cvr.now }
         ensures { self.new ≡ (if is_ok result then self.old ++ cvr.now ∷ [] else self.old) }
     {
+        let next = self.next.checked_add(1).ok_or(OutOfMemory)?;
         let copy = cvr.copy(alloc)?;
-        self.records.reserve(1)?;
         self.sums.reserve(2 * size_of(cvr))?;
-        change_record(&mut self.sums, Change::Raise, &copy);
-        self.records.push(copy).unwrap();
+        let mark = mark_of(cvr.unique.as_str());
+        self.records.insert((mark, self.next), copy)?;
+        self.next = next;
+        change_record(&mut self.sums, Change::Raise, cvr);
         Ok(())
     }
 
@@ -80,8 +81,8 @@ impl Tally {
         requires { list_any (same_record cvr.now) self.old ≡ true }
         ensures { self.new ≡ without_first cvr.now self.old }
     {
-        let place = place_of(&self.records, cvr).unwrap();
-        let gone = self.records.remove(place);
+        let key = key_of(&self.records, self.next, cvr).unwrap();
+        let gone = self.records.remove(&key).unwrap();
         change_record(&mut self.sums, Change::Lower, &gone);
     }
 
@@ -89,7 +90,7 @@ impl Tally {
     pub fn holds(&self, cvr: &CvrRecord) -> bool
         ensures { result ≡ list_any (same_record cvr.now) self.now }
     {
-        place_of(&self.records, cvr).is_some()
+        key_of(&self.records, self.next, cvr).is_some()
     }
 
     /// The votes for a selection of a contest, by their places.

@@ -27,6 +27,8 @@ const ROWS: &str = r#""GpUnit":[ -> "was":[ -> 2 GpUnit
 {"@id":"u1"} -> {"@id":"!"} -> 6 CVR[0].BallotStyleUnitId u1
 {"@id":"u2"} -> {"@id":"u1"} -> 5 GpUnit[1].@id u1
 {"@id":"u1"},{"@id":"u2"} ->  -> 6 CVR[0].BallotStyleUnitId u1
+{"@id":"u1"},{"@id":"u2"} -> ~z1000001~ -> 4 GpUnit
+{"@id":"u1"},{"@id":"u2"} -> ~z1000000~ -> 3 GpUnit[0]
 "Election":[ -> "was":[ -> 2 Election
 "Election":[ -> "Election":{},"was":[ -> 3 Election
 "Election":[ -> "Election":[],"was":[ -> 4 Election
@@ -35,39 +37,67 @@ const ROWS: &str = r#""GpUnit":[ -> "was":[ -> 2 GpUnit
 "Election":[ -> "Election":[{"Contest":{}}],"was":[ -> 3 Election[0].Contest
 "Election":[ -> "Election":[{"Contest":[]}],"was":[ -> 6 CVR[0].CVRSnapshot[0].CVRContest[0].ContestId c1
 {"@id":"c2", -> {"@id":"c1", -> 5 Election[0].Contest[1].@id c1
+{"@id":"c2", -> { -> 2 Election[0].Contest[1].@id
+{"@id":"c2", -> {"@id":[], -> 3 Election[0].Contest[1].@id
+{"@id":"c2", -> {"@id":"c,2", -> 4 Election[0].Contest[1].@id
+{"@id":"c2","ContestSelection":[{"@id":"t1"}]} -> 7 -> 3 Election[0].Contest[1]
 {"@id":"s2"} -> {"@id":"s1"} -> 5 Election[0].Contest[0].ContestSelection[1].@id s1
 {"@id":"t1"} -> {"@id":"s2"} -> 5 Election[0].Contest[1].ContestSelection[0].@id s2
 {"@id":"s2"} -> {} -> 2 Election[0].Contest[0].ContestSelection[1].@id
+{"@id":"s2"} -> 7 -> 3 Election[0].Contest[0].ContestSelection[1]
+{"@id":"s2"} -> {"@id":null} -> 3 Election[0].Contest[0].ContestSelection[1].@id
+{"@id":"s2"} -> {"@id":"s 2"} -> 4 Election[0].Contest[0].ContestSelection[1].@id
 "ContestSelection":[{"@id":"t1"}] -> "ContestSelection":7 -> 3 Election[0].Contest[1].ContestSelection
 "ContestSelection":[{"@id":"t1"}] -> "was":0 -> 2 Election[0].Contest[1].ContestSelection
 "ContestSelection":[{"@id":"t1"}] -> "ContestSelection":[] -> ok
 "CVR":[ -> "was":[ -> 2 CVR
 "CVR":[ -> "CVR":"x","was":[ -> 3 CVR
 "CVR":[ -> "CVR":[],"was":[ -> ok
+"CVR":[ -> "CVR":[7, -> 3 CVR[0]
 "UniqueId":"b1-1", ->  -> 2 CVR[0].UniqueId
 "UniqueId":"b1-1" -> "UniqueId":[] -> 3 CVR[0].UniqueId
+"UniqueId":"b1-1" -> "UniqueId":"" -> 4 CVR[0].UniqueId
 "UniqueId":"b1-2" -> "UniqueId":"b1-1" -> 5 CVR[1].UniqueId b1-1
 "BallotStyleUnitId":"u2", ->  -> 2 CVR[1].BallotStyleUnitId
+"BallotStyleUnitId":"u2" -> "BallotStyleUnitId":2 -> 3 CVR[1].BallotStyleUnitId
+"BallotStyleUnitId":"u2" -> "BallotStyleUnitId":"u 2" -> 4 CVR[1].BallotStyleUnitId
 "BallotStyleUnitId":"u2" -> "BallotStyleUnitId":"u3" -> 6 CVR[1].BallotStyleUnitId u3
 "CVRSnapshot":[{"CVRContest":[]},7] -> "was":0 -> 2 CVR[1].CVRSnapshot
+"CVRSnapshot":[{"CVRContest":[]},7] -> "CVRSnapshot":{} -> 3 CVR[1].CVRSnapshot
 "CVRSnapshot":[{"CVRContest":[]},7] -> "CVRSnapshot":[] -> 4 CVR[1].CVRSnapshot
 "CVRSnapshot":[{"CVRContest":[]},7] -> "CVRSnapshot":[7] -> 3 CVR[1].CVRSnapshot[0]
 "CVRSnapshot":[{"CVRContest":[]},7] -> "CVRSnapshot":[{}] -> 2 CVR[1].CVRSnapshot[0].CVRContest
+"CVRSnapshot":[{"CVRContest":[]},7] -> "CVRSnapshot":[{"CVRContest":{}}] -> 3 CVR[1].CVRSnapshot[0].CVRContest
 {"CVRContest":[]},7 -> {"CVRContest":[~z1001~]} -> 4 CVR[1].CVRSnapshot[0].CVRContest
 {"CVRContest":[]},7 -> {"CVRContest":[~z1000~]} -> 3 CVR[1].CVRSnapshot[0].CVRContest[0]
 "CVRContest":[{ -> "CVRContest":[{"ContestId":"c1","Overvotes":0,"Undervotes":0,"CVRContestSelection":[]},{ -> 5 CVR[0].CVRSnapshot[0].CVRContest[1].ContestId c1
 "ContestId":"c1" -> "ContestId":"c3" -> 6 CVR[0].CVRSnapshot[0].CVRContest[0].ContestId c3
+"ContestId":"c1" -> "was":0 -> 2 CVR[0].CVRSnapshot[0].CVRContest[0].ContestId
+"ContestId":"c1" -> "ContestId":true -> 3 CVR[0].CVRSnapshot[0].CVRContest[0].ContestId
+"ContestId":"c1" -> "ContestId":"" -> 4 CVR[0].CVRSnapshot[0].CVRContest[0].ContestId
 "Overvotes":0, ->  -> 2 CVR[0].CVRSnapshot[0].CVRContest[0].Overvotes
 "Overvotes":0 -> "Overvotes":-1 -> 3 CVR[0].CVRSnapshot[0].CVRContest[0].Overvotes
 "Overvotes":0 -> "Overvotes":51 -> 4 CVR[0].CVRSnapshot[0].CVRContest[0].Overvotes
 "Overvotes":0 -> "Overvotes":50 -> ok
 "Undervotes":1, ->  -> 2 CVR[0].CVRSnapshot[0].CVRContest[0].Undervotes
 "Undervotes":1 -> "Undervotes":"1" -> 3 CVR[0].CVRSnapshot[0].CVRContest[0].Undervotes
+"Undervotes":1 -> "Undervotes":51 -> 4 CVR[0].CVRSnapshot[0].CVRContest[0].Undervotes
 "CVRContestSelection":[ -> "was":[ -> 2 CVR[0].CVRSnapshot[0].CVRContest[0].CVRContestSelection
+"CVRContestSelection":[ -> "CVRContestSelection":7,"was":[ -> 3 CVR[0].CVRSnapshot[0].CVRContest[0].CVRContestSelection
+"CVRContestSelection":[ -> "CVRContestSelection":[],"was":[ -> ok
 "CVRContestSelection":[ -> "CVRContestSelection":[~z1001~],"was":[ -> 4 CVR[0].CVRSnapshot[0].CVRContest[0].CVRContestSelection
+"CVRContestSelection":[ -> "CVRContestSelection":[~z1000~],"was":[ -> 3 CVR[0].CVRSnapshot[0].CVRContest[0].CVRContestSelection[0]
+"ContestSelectionId":"s1" -> "was":0 -> 2 CVR[0].CVRSnapshot[0].CVRContest[0].CVRContestSelection[0].ContestSelectionId
+"ContestSelectionId":"s1" -> "ContestSelectionId":1 -> 3 CVR[0].CVRSnapshot[0].CVRContest[0].CVRContestSelection[0].ContestSelectionId
+"ContestSelectionId":"s1" -> "ContestSelectionId":"s,1" -> 4 CVR[0].CVRSnapshot[0].CVRContest[0].CVRContestSelection[0].ContestSelectionId
+"ContestSelectionId":"s1" -> "ContestSelectionId":"s3" -> 6 CVR[0].CVRSnapshot[0].CVRContest[0].CVRContestSelection[0].ContestSelectionId s3
 "ContestSelectionId":"s1" -> "ContestSelectionId":"t1" -> 6 CVR[0].CVRSnapshot[0].CVRContest[0].CVRContestSelection[0].ContestSelectionId t1
 "ContestSelectionId":"s1" -> "ContestSelectionId":"s2" -> ok
 "SelectionPosition":[{"NumberVotes":1}] -> "SelectionPosition":[] -> 4 CVR[0].CVRSnapshot[0].CVRContest[0].CVRContestSelection[0].SelectionPosition
+"SelectionPosition":[{"NumberVotes":1}] -> "was":0 -> 2 CVR[0].CVRSnapshot[0].CVRContest[0].CVRContestSelection[0].SelectionPosition
+"SelectionPosition":[{"NumberVotes":1}] -> "SelectionPosition":{} -> 3 CVR[0].CVRSnapshot[0].CVRContest[0].CVRContestSelection[0].SelectionPosition
+"SelectionPosition":[{"NumberVotes":1}] -> "SelectionPosition":[7] -> 3 CVR[0].CVRSnapshot[0].CVRContest[0].CVRContestSelection[0].SelectionPosition[0]
+"SelectionPosition":[{"NumberVotes":1}] -> "SelectionPosition":[{"NumberVotes":1},7] -> ok
 {"NumberVotes":1} -> {} -> 2 CVR[0].CVRSnapshot[0].CVRContest[0].CVRContestSelection[0].SelectionPosition[0].NumberVotes
 "NumberVotes":1 -> "NumberVotes":-1 -> 3 CVR[0].CVRSnapshot[0].CVRContest[0].CVRContestSelection[0].SelectionPosition[0].NumberVotes
 "NumberVotes":1 -> "NumberVotes":51 -> 4 CVR[0].CVRSnapshot[0].CVRContest[0].CVRContestSelection[0].SelectionPosition[0].NumberVotes
@@ -144,7 +174,7 @@ fn each_rule_of_each_member(rt: HostRuntime) -> Result<(), Fail> {
         assert!(rt; holds(rt.alloc(), row)?, "{row}");
         count = count.saturating_add(1);
     }
-    assert_eq!(rt; count, 65);
+    assert_eq!(rt; count, 95);
     Ok(())
 }
 

@@ -1,5 +1,5 @@
 //! Tallies: the totals of the worked report, and drawn adds and removes beside a list that is
-//! summed anew.
+//! summed anew, of records among which each id stands twice.
 
 ghost use Rattle.std.specs.Prelude.{◌≡◌, ◌<◌, ◌≤◌, ◌+◌, length, IfOk};
 ghost use Rattle.vx_tally.specs.Totals.{AreCountable};
@@ -48,9 +48,13 @@ fn below(rng: &mut Pcg32, bound: u32) -> u32 {
     rng.next_u32().checked_rem(bound).unwrap_or(0)
 }
 
-// The contests of a record, each with its rows.
-fn push_contests(text: &mut String, alloc: Global, rng: &mut Pcg32) -> Result<(), OutOfMemory> {
-    let count = below(rng, 4);
+// The first contests of a record, so many, each with its rows.
+fn push_contests(
+    text: &mut String,
+    alloc: Global,
+    rng: &mut Pcg32,
+    count: u32,
+) -> Result<(), OutOfMemory> {
     for contest in 0..count {
         let comma = if contest == 0 { "" } else { "," };
         let over = below(rng, 3);
@@ -72,8 +76,9 @@ fn push_contests(text: &mut String, alloc: Global, rng: &mut Pcg32) -> Result<()
     Ok(())
 }
 
-// A report of forty records of three units and four contests with three selections each.
-fn drawn(alloc: Global, rng: &mut Pcg32) -> Result<String, OutOfMemory> {
+// A report of forty records of three units and four contests with three selections each: whole
+// records have all four contests, the others up to three.
+fn drawn(alloc: Global, rng: &mut Pcg32, whole: bool) -> Result<String, OutOfMemory> {
     let mut text = String::from_str(
         alloc,
         "{\"GpUnit\":[{\"@id\":\"u0\"},{\"@id\":\"u1\"},{\"@id\":\"u2\"}],",
@@ -92,7 +97,8 @@ fn drawn(alloc: Global, rng: &mut Pcg32) -> Result<String, OutOfMemory> {
         text.push_str(format!(in alloc;
             "{comma}{{\"UniqueId\":\"r-{record}\",\"BallotStyleUnitId\":\"u{unit}\",\"CVRSnapshot\":[{{\"CVRContest\":["
         )?.as_str())?;
-        push_contests(&mut text, alloc, rng)?;
+        let count = if whole { 4 } else { below(rng, 4) };
+        push_contests(&mut text, alloc, rng, count)?;
         text.push_str("]}]}")?;
     }
     text.push_str("]}")?;
@@ -116,18 +122,27 @@ fn said(record: &CvrRecord, contest: u32, selection: u32) -> (u64, u64, u64) {
     sums
 }
 
+// Two lists of forty records with the same ids, of which no two are equal.
+#[derive(Clone, Copy)]
+struct Lists<'r> {
+    one: &'r [CvrRecord],
+    other: &'r [CvrRecord],
+}
+
+// The record at a place of the one list and then of the other.
+fn record_at<'r>(lists: Lists<'r>, place: usize) -> Option<&'r CvrRecord> {
+    match lists.one.get(place) {
+        Some(record) => Some(record),
+        None => lists.other.get(place.saturating_sub(40)),
+    }
+}
+
 // Whether the tally says of a selection what the records that are in sum up to.
-fn agrees(
-    tally: &Tally,
-    records: &[CvrRecord],
-    held: &[usize],
-    contest: u32,
-    selection: u32,
-) -> bool {
+fn agrees(tally: &Tally, lists: Lists<'_>, held: &[usize], contest: u32, selection: u32) -> bool {
     let mut all = (0u64, 0u64, 0u64);
     let mut units = [0u64; 3];
     for place in held {
-        if let Some(record) = records.get(*place) {
+        if let Some(record) = record_at(lists, *place) {
             let sums = said(record, contest, selection);
             all.0 = all.0.saturating_add(sums.0);
             all.1 = all.1.saturating_add(sums.1);
@@ -145,22 +160,24 @@ fn agrees(
         && tally.total_in(2, contest, selection) == units[2]
 }
 
-fn agrees_on_all(tally: &Tally, records: &[CvrRecord], held: &[usize]) -> bool {
+fn agrees_on_all(tally: &Tally, lists: Lists<'_>, held: &[usize]) -> bool {
     let mut agree = true;
     for contest in 0..5u32 {
         for selection in 0..4u32 {
-            agree = agree && agrees(tally, records, held, contest, selection);
+            agree = agree && agrees(tally, lists, held, contest, selection);
         }
     }
     agree
 }
 
-// A record put in or taken out, in the tally and in the list; whether both knew it.
+// A record put in or taken out, in the tally and among those that are held, by its place behind
+// the first; whether both knew it.
 fn take_step(
     alloc: Global,
     rng: &mut Pcg32,
     tally: &mut Tally,
     records: &[CvrRecord],
+    first: usize,
     held: &mut Vec<usize>,
 ) -> Result<bool, OutOfMemory>
     requires countable { AreCountable records.now }
@@ -172,12 +189,13 @@ fn take_step(
     if place >= records.len() {
         return Ok(false);
     }
+    let own = first.saturating_add(place);
     if adds {
-        held.push(place)?;
+        held.push(own)?;
         add_at(alloc, tally, records, place)?;
         return Ok(true);
     }
-    let found = held.iter().position(|one| *one == place);
+    let found = held.iter().position(|one| *one == own);
     if !tally.holds(&records[place]) {
         return Ok(found.is_none());
     }
@@ -188,18 +206,46 @@ fn take_step(
     Ok(found.is_some())
 }
 
-// Steps on a tally of those records; whether the tally always said what the list sums up to.
-fn steps_agree(alloc: Global, rng: &mut Pcg32, records: &[CvrRecord]) -> Result<bool, OutOfMemory>
-    requires { AreCountable records.now }
+// A step with a record of one of two lists, which have the same ids.
+fn take_either(
+    alloc: Global,
+    rng: &mut Pcg32,
+    tally: &mut Tally,
+    one: &[CvrRecord],
+    other: &[CvrRecord],
+    held: &mut Vec<usize>,
+) -> Result<bool, OutOfMemory>
+    requires one { AreCountable one.now }
+    requires other { AreCountable other.now }
+    requires few { length tally.old < 1000000000 }
+    ensures { length tally.new ≤ length tally.old + 1 }
+{
+    if below(rng, 2) == 0 {
+        take_step(alloc, rng, tally, one, 0, held)
+    } else {
+        take_step(alloc, rng, tally, other, 40, held)
+    }
+}
+
+// Steps on a tally of those records; whether the tally always said what those that are held sum up
+// to.
+fn steps_agree(
+    alloc: Global,
+    rng: &mut Pcg32,
+    one: &[CvrRecord],
+    other: &[CvrRecord],
+) -> Result<bool, OutOfMemory>
+    requires one { AreCountable one.now }
+    requires other { AreCountable other.now }
 {
     let mut tally = Tally::new(alloc);
     let mut held = Vec::new(alloc);
     let mut agree = true;
-    for step in 0..3000u32 {
-        let knew = take_step(alloc, rng, &mut tally, records, &mut held)?;
+    for step in 0..10_000u32 {
+        let knew = take_either(alloc, rng, &mut tally, one, other, &mut held)?;
         agree = agree && knew;
         if step % 16 == 0 {
-            agree = agree && agrees_on_all(&tally, records, &held);
+            agree = agree && agrees_on_all(&tally, Lists { one, other }, &held);
         }
     }
     Ok(agree)
@@ -209,9 +255,19 @@ fn steps_agree(alloc: Global, rng: &mut Pcg32, records: &[CvrRecord]) -> Result<
 fn drawn_steps_beside_a_list(rt: HostRuntime) -> Result<(), Fail> {
     let alloc = rt.alloc();
     let mut rng = Pcg32::seed_from_u64(7);
-    let text = drawn(alloc, &mut rng)?;
-    let report = read_report(alloc, text.as_bytes())?;
-    assert_eq!(rt; report.records.len(), 40);
-    assert!(rt; steps_agree(alloc, &mut rng, report.records.as_slice())?);
+    let text = drawn(alloc, &mut rng, false)?;
+    let one = read_report(alloc, text.as_bytes())?;
+    assert_eq!(rt; one.records.len(), 40);
+    let text = drawn(alloc, &mut rng, true)?;
+    let other = read_report(alloc, text.as_bytes())?;
+    assert_eq!(rt; other.records.len(), 40);
+    assert!(rt;
+        steps_agree(
+            alloc,
+            &mut rng,
+            one.records.as_slice(),
+            other.records.as_slice()
+        )?
+    );
     Ok(())
 }
