@@ -4,3 +4,5 @@ pub mod Steps
 pub mod Tops
 pub mod Walks
 pub mod Light
+pub mod Prints
+pub mod Falls

@@ -7,7 +7,8 @@
 //! `specs/FaultTexts.antt`.
 //!
 //! That the bits of a grayscale scan which fits a printed page with some marks fit that page with those marks is
-//! the law `bits_fit`, its statement `specs/Fits.antt`; what light such a scan needs stands in `specs/Light.antt`.
+//! the law `bits_fit`, its statement `specs/Fits.antt`; what light such a scan needs stands in `specs/Light.antt`. That
+//! every printed page, shown in such a light, is such a scan is the law `shown_prints_fit`.
 #![tactic(auto)]
 
 mod bits;
@@ -23,6 +24,6 @@ mod view;
 
 pub use bits::to_bits;
 pub use fault::PgmFault;
-pub use laws::{bits_fit, images_are_sized, shown_prints_fit};
+pub use laws::{bits_fit, images_are_sized, shown_prints_fit, shown_scans_fit};
 pub use reader::PgmReader;
 pub use view::GrayView;

@@ -74,14 +74,33 @@ fn words_are_read(rt: HostRuntime) -> Result<(), Fail> {
     Ok(())
 }
 
-/// The calls that fail, the sink's room, the status and the text.
-const FAILS: [(&[u64], &[u64], u64, &str, &[u8]); 6] = [
+#[test]
+fn sixty_four_scans_are_written(rt: HostRuntime) -> Result<(), Fail> {
+    let mut line = ["A"; 65];
+    line[0] = "gray";
+    let answer = attempt(rt.alloc(), &[("A", DARK)], &line, Failing::NONE)?;
+    assert!(rt; answer.status.as_str() == "ok", "64 scans");
+    assert!(rt; answer.text.len() == 64 * 8, "all of them");
+    for piece in answer.text.chunks(8) {
+        assert!(rt; piece == DARK_TEXT, "one of them");
+    }
+    Ok(())
+}
+
+/// The calls that fail, the sink's room, the status and the text: each call of the inputs and of the sink in
+/// turn, and the one behind the last.
+const FAILS: [(&[u64], &[u64], u64, &str, &[u8]); 11] = [
     (&[1], &[], 100, "read fault", b""),
     (&[2], &[], 100, "read fault", b""),
     (&[3], &[], 100, "read fault", DARK_TEXT),
     (&[4], &[], 100, "read fault", DARK_TEXT),
+    (&[5], &[], 100, "ok", b"P4\n2 1\n\x80P4\n2 1\n\x80"),
     (&[], &[1], 100, "write fault", b""),
+    (&[], &[2], 100, "write fault", DARK_TEXT),
+    (&[], &[3], 100, "ok", b"P4\n2 1\n\x80P4\n2 1\n\x80"),
     (&[], &[], 3, "write fault", b"P4\n"),
+    (&[], &[], 15, "write fault", b"P4\n2 1\n\x80P4\n2 1\n"),
+    (&[], &[], 16, "ok", b"P4\n2 1\n\x80P4\n2 1\n\x80"),
 ];
 
 #[test]
