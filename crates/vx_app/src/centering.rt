@@ -2,10 +2,10 @@
 
 ghost use Rattle.std.specs.Prelude.{◌≡◌, ◌↔◌, true, IsTrue, List, ℕ, Ok, Some};
 ghost use Rattle.vx_io.specs.Outside.{Files};
-ghost use Rattle.vx_command.specs.Devices.{LeavesInputs, LeavesKeeper, LeavesSink, writes_nothing};
+ghost use Rattle.vx_command.specs.Devices.{LeavesInputs, LeavesKeeper, LeavesSink};
 ghost use Rattle.vx_command.specs.Status.{answer_of};
 ghost use Rattle.vx_command_center.specs.Laws.{ReportedWhatIsKept};
-ghost use Rattle.vx_command_center.specs.Runs.{Centers};
+ghost use Rattle.vx_command_center.specs.Runs.{Centers, is_refusal};
 ghost use Rattle.vx_election_model.specs.declared.election.Election.{Election};
 ghost use Rattle.vx_events.specs.declared.event.Event.{Event};
 ghost use Rattle.vx_journal.specs.Replay.{replay_of};
@@ -54,9 +54,9 @@ fn center_words<R: Threads + Wait + Sync, I: Inputs, S: Sink, K: Keeper, G: Gate
         (records : List (List ℕ)) → K.held keeper.old ≡ Some records →
         Centers election moment device items files records
         (S.taken out.old) (S.taken out.new) (K.held keeper.old) (K.held keeper.new) (answer_of result) }
-    ensures nothing_written { writes_nothing true (answer_of result) ≡ true →
+    ensures nothing_written { is_refusal (answer_of result) ≡ true →
         S.taken out.new ≡ S.taken out.old }
-    ensures nothing_kept { writes_nothing true (answer_of result) ≡ true →
+    ensures nothing_kept { is_refusal (answer_of result) ≡ true →
         K.held keeper.new ≡ K.held keeper.old }
     ensures usage_writes_nothing { result ≡ Status.Usage → S.taken out.new ≡ S.taken out.old }
     ensures usage_keeps_all { result ≡ Status.Usage → K.held keeper.new ≡ K.held keeper.old }
@@ -127,10 +127,11 @@ pub fn run_center<R: Threads + Wait + Sync, I: Inputs, S: Sink, K: Keeper, G: Ga
         (records : List (List ℕ)) → K.held keeper.old ≡ Some records →
         Centers election moment device items files records
         (S.taken out.old) (S.taken out.new) (K.held keeper.old) (K.held keeper.new) (answer_of result) }
-    // What halts the command before its first text comes before anything is written or kept.
-    ensures nothing_written { writes_nothing true (answer_of result) ≡ true →
+    // Each refusal comes before anything is written or kept: what isn't there or is too long, the definition,
+    // its cards, the journal, an item, and a fault of the inputs.
+    ensures nothing_written { is_refusal (answer_of result) ≡ true →
         S.taken out.new ≡ S.taken out.old }
-    ensures nothing_kept { writes_nothing true (answer_of result) ≡ true →
+    ensures nothing_kept { is_refusal (answer_of result) ≡ true →
         K.held keeper.new ≡ K.held keeper.old }
     ensures usage_writes_nothing { result ≡ Status.Usage → S.taken out.new ≡ S.taken out.old }
     ensures usage_keeps_all { result ≡ Status.Usage → K.held keeper.new ≡ K.held keeper.old }

@@ -8,11 +8,12 @@ use Rattle.vx_shared.specs.Legal.{done_events, done_of}
 use Rattle.vx_command.specs.declared.halt.Halt.{Halt}
 use Rattle.vx_command.specs.declared.halt.Halt.TheVariants.{ReadFault, WriteFault, KeeperFault, NoMemory}
 use Rattle.vx_command.specs.Acts.{Act, Answer, Append, Write, Outcome, after, work, writing}
-use Rattle.vx_command.specs.Devices.{is_read_fault, writes_nothing}
+use Rattle.vx_command.specs.Devices.{is_read_fault}
 use Rattle.vx_command.specs.Done.{Taken, Held, BreaksAt, BreaksOff, IsWhole, IsDone, IsWritten, ComesTo, WritesTo}
 use Rattle.vx_command.specs.Laws.{ActLaws}
 use Rattle.vx_journal.specs.Steps.{IsRecorded}
 use Rattle.vx_command_center.specs.Outcome.{append_acts, event_line, history_acts}
+use Rattle.vx_command_center.specs.Runs.{is_refusal}
 
 -- acts that are done up to some place, where they begin with others
 module _ (laws : ActLaws) (acts : List Act) (rest : Outcome) (a b c : Taken) (h k m : Held) where
@@ -79,18 +80,18 @@ module _ (laws : ActLaws) (history : List Entry) (i : ℕ) where
       let Done : List Entry → Type 0 = λ calls. IsDone (work (history_acts place calls)) b b held held (Ok tt) in
       before held b held (Ok tt) (subst Done (sym (drop_all i history past)) (laws.ended (Ok tt) b held))
 
--- acts that broke off, not at an input, didn't do so before anything could be written
-breaks_late : (cause : Halt) (left : List Act) (text : List ℕ) (records : List (List ℕ)) → is_read_fault {A = Unit {0}} (Err cause) ≡ false → BreaksAt cause left text records → writes_nothing {A = Unit {0}} true (Err cause) ≡ false
+-- acts that broke off, not at an input, weren't refused
+breaks_late : (cause : Halt) (left : List Act) (text : List ℕ) (records : List (List ℕ)) → is_read_fault {A = Unit {0}} (Err cause) ≡ false → BreaksAt cause left text records → is_refusal {A = Unit {0}} (Err cause) ≡ false
 breaks_late ReadFault left text records other broke = absurd cc
 breaks_late WriteFault left text records other broke = refl
 breaks_late KeeperFault left text records other broke = refl
 breaks_late NoMemory left text records other broke = refl
 breaks_late cause left text records other broke = absurd broke
 
-pub late_of : (acts : List Act) (a b : Taken) (h k : Held) (answer : Answer) → is_read_fault answer ≡ false → IsDone (work acts) a b h k answer → writes_nothing true answer ≡ false
+pub late_of : (acts : List Act) (a b : Taken) (h k : Held) (answer : Answer) → is_read_fault answer ≡ false → IsDone (work acts) a b h k answer → is_refusal answer ≡ false
 late_of acts a b h k (Ok done) other it = refl
 late_of acts a b h k (Err cause) other it = by it.ends
   where
-    by : IsWhole (Ok tt) (Err cause) it.left it.text it.records ⊎ BreaksOff (Err cause) it.left it.text it.records → writes_nothing {A = Unit {0}} true (Err cause) ≡ false
+    by : IsWhole (Ok tt) (Err cause) it.left it.text it.records ⊎ BreaksOff (Err cause) it.left it.text it.records → is_refusal {A = Unit {0}} (Err cause) ≡ false
     by (inl whole) = let never = whole.same_answer in absurd cc
     by (inr broke) = breaks_late cause it.left it.text it.records other broke

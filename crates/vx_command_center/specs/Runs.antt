@@ -1,10 +1,12 @@
 -- What runs of `center` come to: there is a history of its items, by which the acts are done.
-use Rattle.std.specs.Prelude.{◌≡◌, ℕ, List, Ok}
+use Rattle.std.specs.Prelude.{◌≡◌, ℕ, Bool, true, false, List, Result, Ok, Err}
 use Rattle.vx_io.specs.Outside.{Files}
 use Rattle.vx_election_model.specs.declared.election.Election.{Election}
 use Rattle.vx_events.specs.declared.event.Event.{Event}
 use Rattle.vx_shared.specs.declared.history.Entry.{Entry}
 use Rattle.vx_words.specs.declared.command.ItemWord.{ItemWord}
+use Rattle.vx_command.specs.declared.halt.Halt.{Halt}
+use Rattle.vx_command.specs.declared.halt.Halt.TheVariants.{WriteFault, KeeperFault, NoMemory}
 use Rattle.vx_command.specs.Acts.{Answer, work}
 use Rattle.vx_command.specs.Done.{Taken, Held, IsDone}
 use Rattle.vx_command.specs.Elections.{election_in, once_planned}
@@ -14,6 +16,15 @@ use Rattle.vx_journal.specs.Steps.{once_read}
 use Rattle.vx_command_center.specs.declared.item.Item.{Item}
 use Rattle.vx_command_center.specs.Histories.{IsHistoryOf}
 use Rattle.vx_command_center.specs.Outcome.{center_outcome, end_acts, items_taken, journal_outcome}
+
+-- `center` takes and reads all before it writes or appends: so it answers with a refusal before it does either. The sink
+-- and the keeper may fail later, and memory may run out.
+abbrev pub is_refusal : {A : Type 0} → Result A Halt → Bool
+is_refusal (Ok done) = false
+is_refusal (Err WriteFault) = false
+is_refusal (Err KeeperFault) = false
+is_refusal (Err NoMemory) = false
+is_refusal (Err halt) = true
 
 -- items that were taken are done behind a journal that was read: the history is theirs, and by it the acts are done
 -- up to some place

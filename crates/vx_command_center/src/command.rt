@@ -3,9 +3,9 @@ ghost use Rattle.std.specs.Option.{ForSome};
 ghost use Rattle.vx_election_model.specs.Valid.{IsValid};
 ghost use Rattle.vx_layout.specs.Plans.{ArePlansOf};
 ghost use Rattle.vx_words.specs.Items.{AreItemWords};
-ghost use Rattle.vx_command.specs.Devices.{LeavesInputs, LeavesKeeper, LeavesSink, is_read_fault, writes_nothing};
+ghost use Rattle.vx_command.specs.Devices.{LeavesInputs, LeavesKeeper, LeavesSink, is_read_fault};
 ghost use Rattle.vx_command_center.specs.Items.{FitsItem, possible_in_all};
-ghost use Rattle.vx_command_center.specs.Runs.{Centers, CentersItems, CentersJournal, CentersPlanned, CentersSet};
+ghost use Rattle.vx_command_center.specs.Runs.{Centers, CentersItems, CentersJournal, CentersPlanned, CentersSet, is_refusal};
 
 use crate::ending::end_center;
 use crate::item::{Item, Items};
@@ -51,7 +51,7 @@ fn do_items<'e, R: Threads + Wait + Sync, S: Sink, K: Keeper, G: Gate>(
     requires fits { All (FitsItem election.now) items }
     ensures done { CentersItems election.now journal.entry moment.now device.now items
         (S.taken out.old) (S.taken out.new) (K.held keeper.old) (K.held keeper.new) result }
-    ensures late { writes_nothing true result ≡ false }
+    ensures late { is_refusal result ≡ false }
     ensures no_read_fault { is_read_fault result ≡ false }
     ensures sink { LeavesSink (S.faults out.old) (S.faults out.new) result }
     ensures keeper { LeavesKeeper (K.faults keeper.old) (K.faults keeper.new) result }
@@ -86,8 +86,8 @@ fn center_read<'e, R: Threads + Wait + Sync, I: Inputs, S: Sink, K: Keeper, G: G
     ensures done { ForSome (I.held inputs.old) (λ files.
         CentersJournal election.now journal.entry moment.now device.now items.now files
         (S.taken out.old) (S.taken out.new) (K.held keeper.old) (K.held keeper.new) result) }
-    ensures nothing_written { writes_nothing true result ≡ true → S.taken out.new ≡ S.taken out.old }
-    ensures nothing_kept { writes_nothing true result ≡ true → K.held keeper.new ≡ K.held keeper.old }
+    ensures nothing_written { is_refusal result ≡ true → S.taken out.new ≡ S.taken out.old }
+    ensures nothing_kept { is_refusal result ≡ true → K.held keeper.new ≡ K.held keeper.old }
     ensures inputs { LeavesInputs (I.held inputs.old) (I.held inputs.new)
         (I.faults inputs.old) (I.faults inputs.new) result }
     ensures sink { LeavesSink (S.faults out.old) (S.faults out.new) result }
@@ -120,8 +120,8 @@ fn center_set<R: Threads + Wait + Sync, I: Inputs, S: Sink, K: Keeper, G: Gate>(
     ensures done { ForSome (I.held inputs.old) (λ files. ForSome (K.held keeper.old) (λ records.
         CentersSet election.now moment.now device.now items.now files records
         (S.taken out.old) (S.taken out.new) (K.held keeper.old) (K.held keeper.new) result)) }
-    ensures nothing_written { writes_nothing true result ≡ true → S.taken out.new ≡ S.taken out.old }
-    ensures nothing_kept { writes_nothing true result ≡ true → K.held keeper.new ≡ K.held keeper.old }
+    ensures nothing_written { is_refusal result ≡ true → S.taken out.new ≡ S.taken out.old }
+    ensures nothing_kept { is_refusal result ≡ true → K.held keeper.new ≡ K.held keeper.old }
     ensures inputs { LeavesInputs (I.held inputs.old) (I.held inputs.new)
         (I.faults inputs.old) (I.faults inputs.new) result }
     ensures sink { LeavesSink (S.faults out.old) (S.faults out.new) result }
@@ -153,8 +153,8 @@ fn center_planned<R: Threads + Wait + Sync, I: Inputs, S: Sink, K: Keeper, G: Ga
     ensures done { ForSome (I.held inputs.old) (λ files. ForSome (K.held keeper.old) (λ records.
         CentersPlanned election.now moment.now device.now items.now files records
         (S.taken out.old) (S.taken out.new) (K.held keeper.old) (K.held keeper.new) result)) }
-    ensures nothing_written { writes_nothing true result ≡ true → S.taken out.new ≡ S.taken out.old }
-    ensures nothing_kept { writes_nothing true result ≡ true → K.held keeper.new ≡ K.held keeper.old }
+    ensures nothing_written { is_refusal result ≡ true → S.taken out.new ≡ S.taken out.old }
+    ensures nothing_kept { is_refusal result ≡ true → K.held keeper.new ≡ K.held keeper.old }
     ensures inputs { LeavesInputs (I.held inputs.old) (I.held inputs.new)
         (I.faults inputs.old) (I.faults inputs.new) result }
     ensures sink { LeavesSink (S.faults out.old) (S.faults out.new) result }
@@ -191,8 +191,8 @@ pub fn center<R: Threads + Wait + Sync, I: Inputs, S: Sink, K: Keeper, G: Gate>(
     ensures done { ForSome (I.held inputs.old) (λ files. ForSome (K.held keeper.old) (λ records.
         Centers election.now moment.now device.now items.now files records
         (S.taken out.old) (S.taken out.new) (K.held keeper.old) (K.held keeper.new) result)) }
-    ensures nothing_written { writes_nothing true result ≡ true → S.taken out.new ≡ S.taken out.old }
-    ensures nothing_kept { writes_nothing true result ≡ true → K.held keeper.new ≡ K.held keeper.old }
+    ensures nothing_written { is_refusal result ≡ true → S.taken out.new ≡ S.taken out.old }
+    ensures nothing_kept { is_refusal result ≡ true → K.held keeper.new ≡ K.held keeper.old }
     ensures inputs { LeavesInputs (I.held inputs.old) (I.held inputs.new)
         (I.faults inputs.old) (I.faults inputs.new) result }
     ensures sink { LeavesSink (S.faults out.old) (S.faults out.new) result }

@@ -2,6 +2,7 @@
 //! events, each reply is the machine's, what is done is kept, and the report is what `export` writes behind it.
 
 use crate::centers::{DEVICE, MOMENT, ONE_SHEET, assert_left, center, files_of, make_scan};
+use crate::gates::ShutGate;
 use std::alloc::Global;
 use std::process::Abort;
 use std::test::Fail;
@@ -163,6 +164,8 @@ fn a_history_interleaves_a_scan_and_two_scripts(rt: HostRuntime) -> Result<(), F
     for before in journals {
         let answer = center(&rt, &files, before, WORDS, Failing::NONE, &OpenGate)?;
         assert_center(&rt, &files, before, &answer)?;
+        let through = center(&rt, &files, before, WORDS, Failing::NONE, &ShutGate)?;
+        assert_center(&rt, &files, before, &through)?;
     }
     Ok(())
 }

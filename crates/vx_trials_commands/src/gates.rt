@@ -1,7 +1,8 @@
-//! A gate that shows that the workers of a count read its images side by side.
+//! A gate that shows that the workers of a count read its images side by side, and one that answers false.
 
 use crate::rows::{ONE_SHEET, Row, assert_told, files_of, make_scan};
 use crate::trials::ADDED;
+use std::process::Abort;
 use std::sync::atomic::{AtomicBool, AtomicU64, Ordering};
 use std::test::Fail;
 use std::thread::Threads;
@@ -48,6 +49,16 @@ impl Gate for Meeting {
     }
 }
 
+/// A gate that never answers true.
+#[derive(Clone, Copy, Debug)]
+pub(crate) struct ShutGate;
+
+impl Gate for ShutGate {
+    fn enter(&self, _call: u32) -> bool {
+        false
+    }
+}
+
 /// Runs a count through a gate; none where the words are no count.
 fn count_through<R: Threads + Sync + AllocGlobal, G: Gate>(
     rt: &R,
@@ -70,9 +81,12 @@ fn count_through<R: Threads + Sync + AllocGlobal, G: Gate>(
     Ok(None)
 }
 
-#[test]
-fn two_workers_read_a_sheet_side_by_side(rt: HostRuntime) -> Result<(), Fail> {
-    let scan = make_scan(&rt)?;
+/// Counts the sheet through a gate, which has to come to the row.
+fn assert_counted<R: Threads + Sync + AllocGlobal + Abort, G: Gate>(
+    rt: &R,
+    gate: &G,
+) -> Result<(), Fail> {
+    let scan = make_scan(rt)?;
     let records = Records::new(rt.alloc());
     let files = files_of(scan.as_slice(), b"");
     let held = Held {
@@ -86,12 +100,23 @@ fn two_workers_read_a_sheet_side_by_side(rt: HostRuntime) -> Result<(), Fail> {
         status: "ok",
         after: ONE_SHEET,
     };
-    let meeting = Meeting::new();
-    let answer = count_through(&rt, held, row.words, &meeting)?;
+    let answer = count_through(rt, held, row.words, gate)?;
     assert!(rt; answer.is_some());
     if let Some(answer) = &answer {
-        assert_told(&rt, &row, answer)?;
+        assert_told(rt, &row, answer)?;
     }
+    Ok(())
+}
+
+#[test]
+fn two_workers_read_a_sheet_side_by_side(rt: HostRuntime) -> Result<(), Fail> {
+    let meeting = Meeting::new();
+    assert_counted(&rt, &meeting)?;
     assert!(rt; meeting.is_met());
     Ok(())
+}
+
+#[test]
+fn a_gate_that_answers_false_changes_nothing(rt: HostRuntime) -> Result<(), Fail> {
+    assert_counted(&rt, &ShutGate)
 }

@@ -71,6 +71,89 @@ fn squares<R: Threads + Sync, G: Gate>(
     map_tasks(rt, alloc, items, workers, gate, &task)
 }
 
+/// A gate that never answers true.
+#[derive(Clone, Copy, Debug)]
+struct ShutGate;
+
+impl Gate for ShutGate {
+    fn enter(&self, _call: u32) -> bool {
+        false
+    }
+}
+
+/// Sees whether a task begins before the one in front of it has ended, and which numbers come.
+#[derive(Drop)]
+struct Watch {
+    begun: AtomicU64,
+    ended: AtomicU64,
+    is_crossed: AtomicBool,
+    is_out_of_order: AtomicBool,
+}
+
+impl Watch {
+    fn new() -> Self {
+        Watch {
+            begun: AtomicU64::new(0),
+            ended: AtomicU64::new(0),
+            is_crossed: AtomicBool::new(false),
+            is_out_of_order: AtomicBool::new(false),
+        }
+    }
+
+    fn end(&self) {
+        self.ended.fetch_add(1, Ordering::SeqCst);
+    }
+}
+
+impl Gate for Watch {
+    fn enter(&self, call: u32) -> bool {
+        let before = self.begun.fetch_add(1, Ordering::SeqCst);
+        if self.ended.load(Ordering::SeqCst) != before {
+            self.is_crossed.store(true, Ordering::SeqCst);
+        }
+        if before.checked_add(1) != Some(u64::from(call)) {
+            self.is_out_of_order.store(true, Ordering::SeqCst);
+        }
+        true
+    }
+}
+
+/// The items by one worker, which says when each of them has ended.
+fn watched<R: Threads + Sync>(
+    rt: &R,
+    alloc: Global,
+    items: &[u32],
+    watch: &Watch,
+) -> Result<Vec<u32>, OutOfMemory>
+    requires few_items { length items.now < 2 ^ 32 }
+{
+    let task = |item: &u32| -> Result<u32, OutOfMemory> {
+        watch.end();
+        Ok(*item)
+    };
+    map_tasks(rt, alloc, items, 1, watch, &task)
+}
+
+#[test]
+fn one_worker_does_one_item_at_a_time(rt: HostRuntime) -> Result<(), Fail> {
+    let watch = Watch::new();
+    let answers = watched(&rt, rt.alloc(), &[9, 8, 7, 6, 5], &watch)?;
+    assert_eq!(rt; answers.as_slice(), [9, 8, 7, 6, 5].as_slice());
+    assert_eq!(rt; watch.begun.load(Ordering::SeqCst), 5);
+    assert!(rt; !watch.is_crossed.load(Ordering::SeqCst));
+    assert!(rt; !watch.is_out_of_order.load(Ordering::SeqCst));
+    Ok(())
+}
+
+#[test]
+fn a_gate_that_answers_false_changes_nothing(rt: HostRuntime) -> Result<(), Fail> {
+    for workers in [1, 2, 7, 64] {
+        let answers = squares(&rt, rt.alloc(), &[1, 2, 3], workers, &ShutGate)?;
+        assert_eq!(rt; answers.as_slice(), [1, 4, 9].as_slice());
+    }
+    Ok(())
+}
+
 #[test]
 fn squares_of_three_and_of_none(rt: HostRuntime) -> Result<(), Fail> {
     for workers in [1, 2, 7, 64] {
