@@ -4,3 +4,4 @@ mod Journals
 mod Named
 pub mod Adding
 mod Adds
+mod Ended

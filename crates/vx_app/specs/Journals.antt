@@ -1,18 +1,20 @@
 -- What runs of commands for an election leave of its journal.
-use Rattle.std.specs.Prelude.{◌≡◌, ℕ, false, List, [], ◌∷◌, ◌++◌, Some, Ok}
+use Rattle.std.specs.Prelude.{◌≡◌, ℕ, true, false, List, [], ◌∷◌, ◌++◌, Some, Ok}
+use Rattle.std.specs.List.{flat_map}
 use Rattle.vx_io.specs.Outside.{Files}
 use Rattle.vx_election_model.specs.declared.election.Election.{Election}
 use Rattle.vx_events.specs.declared.event.Event.{Event}
-use Rattle.vx_command.specs.Acts.{Answer}
+use Rattle.vx_command.specs.Acts.{Answer, records_of}
 use Rattle.vx_command.specs.Done.{Taken, Held, IsDone}
 use Rattle.vx_command.specs.Elections.{election_in}
 use Rattle.vx_command_center.specs.Runs.{Centers}
-use Rattle.vx_journal.specs.Laws.{IsJournal}
+use Rattle.vx_journal.specs.Laws.{AreRecordsOf, IsJournal}
 use Rattle.vx_journal.specs.Replay.{replay_of}
 use Rattle.vx_words.specs.declared.command.Command.{Command}
 use Rattle.vx_words.specs.declared.command.Command.TheVariants.{Print, Read, Check, Count, Decide, Queue, Export, Demo, Center}
 use Rattle.vx_words.specs.Words.{Spells}
 use Rattle.vx_app.specs.Outcome.{appends, outcome_of}
+use Rattle.vx_app.specs.Runs.{is_run}
 
 -- the election under a name
 abbrev pub IsNamed : List ℕ → Files → Election → Type 0
@@ -83,6 +85,22 @@ abbrev pub RunsKeepEvents : Type 0
 RunsKeepEvents =
     (election : Election) (records : List (List ℕ)) (runs : List Run) (left : List (List ℕ)) (events : List Event)
     → replay_of election records ≡ Ok events → AreRuns election records runs left → KeepsMore election events left
+
+-- A run over a journal that keeps some events has appended exactly the records of its command's acts, and the journal keeps
+-- further events behind those that it kept, whose records these are: none else is there.
+pub record KeepsItsActs (election : Election) (records : List (List ℕ)) (events : List Event) (one : Run) : Type 0 where
+  pub appended : one.left ≡ records ++ flat_map records_of (outcome_of one.command one.files records).acts
+  pub further : List Event
+  pub keeps : replay_of election one.left ≡ Ok (events ++ further)
+  pub are_records : AreRecordsOf election (events ++ further) one.left
+
+-- so it is of each run of a command of `run` that ended well: of a `count` or a `decide` these are the sheets and the lines
+-- that were accepted, in order
+abbrev pub EndedRunsKeepTheirActs : Type 0
+EndedRunsKeepTheirActs =
+    (election : Election) (records : List (List ℕ)) (events : List Event) (one : Run)
+    → replay_of election records ≡ Ok events → IsRun election records one → is_run one.command ≡ true
+    → one.answer ≡ Ok tt → KeepsItsActs election records events one
 
 -- records with perhaps more behind them
 pub record AddsRecords (records left : List (List ℕ)) : Type 0 where

@@ -2,13 +2,13 @@
 //! nothing; their contracts are the laws.
 
 ghost use Rattle.vx_app.specs.Adding.{FittingSheetsAreInTheirItems};
-ghost use Rattle.vx_app.specs.Journals.{RunsAddRecords, RunsKeepEvents, RunsLeaveJournals};
+ghost use Rattle.vx_app.specs.Journals.{EndedRunsKeepTheirActs, RunsAddRecords, RunsKeepEvents, RunsLeaveJournals};
 
 use vx_command::taken_elections_are_valid;
 use vx_command_center::center_keeps_journals;
 use vx_command_count::count_keeps_journals;
 use vx_command_decide::decide_keeps_journals;
-use vx_journal::{fronts_are_journals, journals_stay};
+use vx_journal::{fronts_are_journals, journals_are_their_events, journals_stay};
 use vx_pbm::images_are_whole;
 use vx_sheet::fitting_sheets_are_read;
 
@@ -34,6 +34,15 @@ pub fn runs_keep_events()
     center_keeps_journals();
     journals_stay();
     fronts_are_journals();
+}
+
+/// A run of a command of `run` that ended well, over a journal of its election, has appended exactly the records of
+/// its acts, and the journal then keeps the events of these behind those that it kept, in order, and none else.
+pub fn ended_runs_keep_their_acts()
+    ensures { EndedRunsKeepTheirActs }
+{
+    runs_keep_events();
+    journals_are_their_events();
 }
 
 /// Runs for one election leave the records that were there, and perhaps more behind them, whatever each of

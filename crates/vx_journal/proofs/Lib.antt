@@ -6,3 +6,4 @@ mod Read
 mod Recorded
 mod Replayed
 mod Standing
+mod Spelled

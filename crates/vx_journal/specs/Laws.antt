@@ -1,5 +1,5 @@
 -- Laws of journals: what they grow by, and that whatever stands of a command's acts leaves one.
-use Rattle.std.specs.Prelude.{◌≡◌, ℕ, Bool, List, [], ◌∷◌, ◌++◌, Option, None, Some, Result, Ok, Err, IsOk, IsSomeAnd}
+use Rattle.std.specs.Prelude.{◌≡◌, ℕ, Bool, List, [], ◌∷◌, ◌++◌, map, Option, None, Some, Result, Ok, Err, IsOk, IsSomeAnd}
 use Rattle.std.specs.List.{flat_map}
 use Rattle.vx_io.specs.Outside.{Files, Took}
 use Rattle.vx_election_model.specs.declared.election.Election.{Election}
@@ -108,6 +108,18 @@ abbrev pub JournalsAreHistories : Type 0
 JournalsAreHistories =
     (election : Election) (records : List (List ℕ)) (events : List Event)
     → replay_of election records ≡ Ok events → IsHistory election events
+
+-- the records of a journal that keeps some events: the header, and behind it the record of each of them, in their order;
+-- or none, where no event is kept
+abbrev pub AreRecordsOf : Election → List Event → List (List ℕ) → Type 0
+AreRecordsOf election events [] = events ≡ []
+AreRecordsOf election events (header ∷ bodies) = (header ≡ header_of election) × (bodies ≡ map record_of events)
+
+-- a journal has no other record
+abbrev pub JournalsAreTheirEvents : Type 0
+JournalsAreTheirEvents =
+    (election : Election) (records : List (List ℕ)) (events : List Event)
+    → replay_of election records ≡ Ok events → AreRecordsOf election events records
 
 -- the election under a name was read, the records are a journal of it, and all that was written is a text of exactly the
 -- events that the journal keeps, which are a history of the counting machine

@@ -5,6 +5,7 @@ ghost use Rattle.vx_journal.specs.Laws.{
   FrontsAreJournals,
   HeadersBeginJournals,
   JournalsAreHistories,
+  JournalsAreTheirEvents,
   JournalsGrow,
   JournalsStay,
   ReadLaws,
@@ -54,6 +55,13 @@ pub fn fronts_are_journals()
 pub fn records_are_events()
     ensures { RecordsAreEvents }
 {}
+
+/// The records of a journal are its header and the records of the events that it keeps, in order, and no other.
+pub fn journals_are_their_events()
+    ensures { JournalsAreTheirEvents }
+{
+    records_are_read();
+}
 
 /// What a journal keeps is a history of the counting machine.
 pub fn journals_are_histories()

@@ -21,8 +21,8 @@ pub use journal::Journal;
 pub use keeping::{append_event, begin_journal, keep_event};
 pub use laws::{
     begun_journals_are_journals, fronts_are_journals, headers_begin_journals,
-    journals_are_histories, journals_grow, journals_in_order, journals_stay, records_are_events,
-    texts_are_of_journals,
+    journals_are_histories, journals_are_their_events, journals_grow, journals_in_order,
+    journals_stay, records_are_events, texts_are_of_journals,
 };
 pub use reading::read_journal;
 pub use replaying::replay;
