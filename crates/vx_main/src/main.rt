@@ -7,7 +7,7 @@ use std::alloc::Global;
 use std::process::ExitCode;
 use std::sync::Wait;
 use std::thread::Threads;
-use std::{env, fmt};
+use std::{env, fmt, fs};
 use vx_app::{arguments_status, command_words, is_center, run, run_center};
 use vx_command::{Halt, Message, Status};
 use vx_command_gray::{GrayMessage, GrayStatus, run_gray};
@@ -79,6 +79,17 @@ fn run_on_file<R: Threads + Wait + Sync>(
     }
 }
 
+/// Whether a command reads the journal and appends nothing to it.
+fn only_reads(words: &Words) -> bool {
+    begins_with(words, "queue") || begins_with(words, "export")
+}
+
+/// Whether the journal is one in memory: it is called `-`, or it is a file that isn't there and that the
+/// command would only read. Such a file is an empty journal, and isn't made.
+fn is_in_memory(rt: &HostRuntime, journal: &str, words: &Words) -> bool {
+    journal == "-" || (only_reads(words) && matches!(fs::exists(rt, journal), Ok(false)))
+}
+
 /// Does a command with the journal that the first argument names.
 fn run_with<R: Threads + Wait + Sync>(
     rt: &HostRuntime,
@@ -86,7 +97,7 @@ fn run_with<R: Threads + Wait + Sync>(
     journal: &str,
     words: &Words,
 ) -> Status {
-    if journal == "-" {
+    if is_in_memory(rt, journal, words) {
         run_in_memory(rt, threads, words)
     } else {
         run_on_file(rt, threads, journal, words)
