@@ -1,3 +1,4 @@
+pub mod Lanes
 pub mod Packs
 pub mod Sizes
 pub mod Steps

@@ -4,6 +4,7 @@ ghost use Rattle.vx_gray.specs.Packing.{below, row_below};
 
 use crate::near::TILE;
 use std::alloc::AllocError;
+use std::simd::prelude::*;
 
 /// Eight pixels packed, the first of them the highest bit: those with a value below a number are dark.
 #[inline]
@@ -11,14 +12,8 @@ fn whole_byte(pixels: &[u8], half: u8) -> u8
     requires { length pixels.now ≡ 8 }
     ensures { result ≡ packed_byte (below half pixels.now) 0 }
 {
-    128 * u8::from(pixels[0] < half)
-        + 64 * u8::from(pixels[1] < half)
-        + 32 * u8::from(pixels[2] < half)
-        + 16 * u8::from(pixels[3] < half)
-        + 8 * u8::from(pixels[4] < half)
-        + 4 * u8::from(pixels[5] < half)
-        + 2 * u8::from(pixels[6] < half)
-        + u8::from(pixels[7] < half)
+    let last_first = u8x8::from_slice(pixels).reverse();
+    last_first.simd_lt(u8x8::splat(half)).to_bitmask() as u8
 }
 
 /// Up to eight pixels packed, light where there are fewer.
