@@ -25,3 +25,12 @@ next-mapped {X} {Y} f xs i x before now total y lt is so_far pushed same =
     ∙ append_assoc before (f x ∷ []) (map f (drop (i + 1) xs))
     ∙ ap (λ (one : X). before ++ f one ∷ map f (drop (i + 1) xs)) is
     ∙ ap (λ (some : List Y). before ++ some) (sym (at_drop_more (λ (left : List X). map f left) xs i x lt)) ∙ so_far
+
+-- a turn of a walk over a list that makes lists
+pub next-listed : {X Y : Type 0} (f : X → List Y) (xs : List X) (i : ℕ) (x : X) (before now total : List Y) → i < length xs → x ≡ get_or xs i x
+    → before ++ flat_map f (drop i xs) ≡ total → now ≡ before ++ f x → now ++ flat_map f (drop (i + 1) xs) ≡ total
+next-listed {X} {Y} f xs i x before now total lt is so_far pushed =
+    ap (λ (some : List Y). some ++ flat_map f (drop (i + 1) xs)) pushed
+    ∙ append_assoc before (f x) (flat_map f (drop (i + 1) xs))
+    ∙ ap (λ (one : X). before ++ (f one ++ flat_map f (drop (i + 1) xs))) is
+    ∙ ap (λ (some : List Y). before ++ some) (sym (at_drop_more (λ (left : List X). flat_map f left) xs i x lt)) ∙ so_far

@@ -161,7 +161,7 @@ impl SheetRankings {
 }
 
 /// What the sheets rank in a group.
-fn rank_group(
+pub(crate) fn rank_group(
     alloc: Global,
     center: &Center<'_>,
     rows: &[ExportSheet],
