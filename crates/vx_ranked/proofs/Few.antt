@@ -1,8 +1,9 @@
 -- The rankings of a count's sheets are few and short.
-use Rattle.std.proofs.Common.{◌≡◌, ◌+◌, ◌*◌, ◌-◌, ◌^◌, ◌<◌, ◌≤◌, ◌&&◌, ◌||◌, ℕ, zero, suc, Bool, true, false, cond, not, List, [], ◌∷◌, ◌++◌, length, map, take, get_or, Option, Some, None, inl, inr, refl, sym, ap, subst, ◌∙◌, arith, length-append, length-map, length-take-le}
+use Rattle.std.proofs.Common.{◌≡◌, ◌+◌, ◌*◌, ◌-◌, ◌^◌, ◌<◌, ◌≤◌, ◌&&◌, ◌||◌, ℕ, zero, suc, Bool, true, false, cond, not, List, [], ◌∷◌, ◌++◌, length, map, take, get_or, Option, Some, None, inl, inr, refl, sym, ap, subst, ◌∙◌, arith, length-append, length-take-le}
 use Rattle.std.specs.Prelude.{All, IsPermutation, fold, nat_lt, slice_get}
 use Rattle.std.specs.List.{flat_map, list_any}
 use Rattle.std.proofs.lemmas.Bool.{cases_lt}
+use Rattle.std.proofs.lemmas.List.{length-map}
 use Rattle.std.proofs.lemmas.List.Elements.{All-cons, All-nil}
 use Rattle.std.proofs.lemmas.Option.{slice_get-get_or}
 use Rattle.vx_base.proofs.Lists.{All-always, All-flat_map, length-flat_map_le}
@@ -44,16 +45,12 @@ one_named (Some one) goes = below-from_no 1 (length one.selected) (or_false one.
 -- a list grows by one candidate a rank at most
 length-listed : (ranking : List ℕ) (ranks : List (Option Final)) → length (listed ranking ranks) ≤ length ranking + length ranks
 length-listed ranking [] = omega arith
-length-listed ranking (rank ∷ ranks) = step (ends_list rank) refl
+length-listed ranking (rank ∷ ranks) = step (ends_list rank) refl (length-listed (fold joined ranking (named_by rank)) ranks)
   where
-    step : (ends : Bool) → ends_list rank ≡ ends → length (listed ranking (rank ∷ ranks)) ≤ length ranking + length (rank ∷ ranks)
-    step true ends = omega (arith, ap length (list-ends ranking rank ranks ends))
-    step false goes = omega (
-      arith,
-      ap length (list-goes ranking rank ranks goes),
-      length-listed (fold joined ranking (named_by rank)) ranks,
-      few_joined ranking (named_by rank) (one_named rank goes),
-    )
+    step : (ends : Bool) → ends_list rank ≡ ends → length (listed (fold joined ranking (named_by rank)) ranks) ≤ length (fold joined ranking (named_by rank)) + length ranks
+        → length (listed ranking (rank ∷ ranks)) ≤ length ranking + length (rank ∷ ranks)
+    step true ends less = omega (arith, ap length (list-ends ranking rank ranks ends))
+    step false goes less = omega (arith, ap length (list-goes ranking rank ranks goes), less, few_joined ranking (named_by rank) (one_named rank goes))
 
 length-ranking : (finals : List Final) (contests : List ℕ) → length (ranking_of finals contests) ≤ length contests
 unfolding ranking_of

@@ -27,5 +27,5 @@ pub use fault::RankedFault;
 pub use groups::{Group, Groups};
 pub use laws::{read_groups_are_groups, undecided_sheets_are_ranked_as_marked};
 pub use reading::read_ranked;
-pub use sheets::{SheetRankings, SheetRankingsList, rank_sheets};
+pub use sheets::SheetRankings;
 pub use telling::ranked_text;
