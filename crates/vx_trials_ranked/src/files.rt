@@ -6,7 +6,7 @@ use std::alloc::{AllocError, Global};
 use std::test::*;
 
 /// The bytes of a file, and the status of its `ranked`, which writes nothing.
-const BAD: [(&str, &str); 34] = [
+const BAD: [(&str, &str); 36] = [
     ("", "ranked 1"),
     ("{\"ranked\":[]", "ranked 1"),
     ("[]", "ranked 3 "),
@@ -17,6 +17,10 @@ const BAD: [(&str, &str); 34] = [
     (r#"{"ranked":[{"id":1}]}"#, "ranked 3 ranked[0].id"),
     (r#"{"ranked":[{"id":""}]}"#, "ranked 4 ranked[0].id"),
     (r#"{"ranked":[{"id":"a b"}]}"#, "ranked 4 ranked[0].id"),
+    (
+        r#"{"ranked":[{"id":"ggggggggggggggggggggggggggggggggggggggggggggggggggggggggggggggggg"}]}"#,
+        "ranked 4 ranked[0].id",
+    ),
     (r#"{"ranked":[{"id":"g"}]}"#, "ranked 2 ranked[0].contests"),
     (
         r#"{"ranked":[{"id":"g","contests":"m1"}]}"#,
@@ -40,6 +44,10 @@ const BAD: [(&str, &str); 34] = [
     ),
     (
         r#"{"ranked":[{"id":"g","contests":["m 1"]}]}"#,
+        "ranked 4 ranked[0].contests[0]",
+    ),
+    (
+        r#"{"ranked":[{"id":"g","contests":[""]}]}"#,
         "ranked 4 ranked[0].contests[0]",
     ),
     (
