@@ -11,6 +11,7 @@ use std::{env, fmt, fs};
 use vx_app::{arguments_status, command_words, is_center, run, run_center};
 use vx_command::{Halt, Message, Status};
 use vx_command_gray::{GrayMessage, GrayStatus, run_gray};
+use vx_command_ranked::{RankedMessage, RankedStatus, run_ranked};
 use vx_io::{Inputs, Keeper, KeeperCalls, MemKeeper, Records, Sink, StdInputs, StdSink, Words};
 use vx_keep_sqlite::SqliteKeeper;
 use vx_workers::OpenGate;
@@ -109,6 +110,7 @@ fn run_with<R: Threads + Wait + Sync>(
 enum Ending {
     Command(Status),
     Gray(GrayStatus),
+    Ranked(RankedStatus),
 }
 
 /// Whether the words begin with this command's name.
@@ -123,6 +125,20 @@ fn make_bitmaps(rt: &HostRuntime, words: &Words) -> GrayStatus {
     run_gray(rt.alloc(), words, &mut inputs, &mut out)
 }
 
+/// Counts the ranked contests of the journal with this name, or of one in memory.
+fn rank_with(rt: &HostRuntime, journal: &str, words: &Words) -> RankedStatus {
+    let mut inputs = StdInputs::new(rt);
+    let mut out = StdSink::new(rt);
+    if journal == "-" {
+        let mut keeper = MemKeeper::new(Records::new(rt.alloc()), KeeperCalls::new(rt.alloc()));
+        return run_ranked(rt.alloc(), words, &mut inputs, &mut out, &mut keeper);
+    }
+    match SqliteKeeper::new(rt, journal) {
+        Ok(mut keeper) => run_ranked(rt.alloc(), words, &mut inputs, &mut out, &mut keeper),
+        Err(_refused) => RankedStatus::Halted(Halt::NoMemory),
+    }
+}
+
 /// Does the command of the command line.
 fn answer<R: Threads + Wait + Sync>(rt: &HostRuntime, threads: &R) -> Result<Ending, Status> {
     let arguments = arguments_of_line(rt)?;
@@ -130,6 +146,9 @@ fn answer<R: Threads + Wait + Sync>(rt: &HostRuntime, threads: &R) -> Result<End
     match arguments.as_slice() {
         [_program, _journal, ..] if begins_with(&words, "gray") => {
             Ok(Ending::Gray(make_bitmaps(rt, &words)))
+        }
+        [_program, journal, ..] if begins_with(&words, "ranked") => {
+            Ok(Ending::Ranked(rank_with(rt, journal.as_str(), &words)))
         }
         [_program, journal, ..] => {
             let status = run_with(rt, threads, journal.as_str(), &words);
@@ -149,6 +168,7 @@ fn main(rt: HostRuntime) -> ExitCode {
     match answer(&rt, &rt) {
         Ok(Ending::Command(status)) => end(&rt, &Message(&status), status.number()),
         Ok(Ending::Gray(status)) => end(&rt, &GrayMessage(&status), status.number()),
+        Ok(Ending::Ranked(status)) => end(&rt, &RankedMessage(&status), status.number()),
         Err(status) => end(&rt, &Message(&status), status.number()),
     }
 }

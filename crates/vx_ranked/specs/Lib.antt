@@ -5,3 +5,6 @@ pub mod Members
 pub mod Splits
 pub mod Reading
 pub mod Rankings
+pub mod Texts
+pub mod Groups
+pub mod Marked

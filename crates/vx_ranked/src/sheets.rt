@@ -1,17 +1,15 @@
 //! The rankings of the sheets of a count.
 
-ghost use Rattle.std.specs.Prelude.{◌≡◌, ◌+◌, ◌<◌, ◌≤◌, ◌^◌, ◌++◌, All, Contains, MatchOption, IfOk, OnOk, Some, true, false, if◌then◌else◌, flat_map, count_by, length, map, slice_get};
+ghost use Rattle.std.specs.Prelude.{◌≡◌, ◌+◌, ◌<◌, ◌≤◌, ◌^◌, ◌++◌, All, Contains, MatchOption, IfOk, OnOk, Some, true, false, if◌then◌else◌, flat_map, count_by, slice_get};
 ghost use Rattle.vx_center.specs.Exports.{AreExportRows};
 ghost use Rattle.vx_center.specs.Sheets.{added_by, same_key};
-ghost use Rattle.vx_ranked.specs.declared.groups.Group.{Group};
 ghost use Rattle.vx_ranked.specs.Rankings as words;
-ghost use Rattle.vx_ranked.specs.Rankings.{rankings_by, rankings_on, waits_on, finals_of, group_ranked};
+ghost use Rattle.vx_ranked.specs.Rankings.{rankings_by, rankings_on, waits_on, finals_of};
 
-use crate::groups::Group;
 use crate::ranking::{is_waiting, ranking_by};
 use std::alloc::Global;
 use std::cmp::Ordering;
-use vx_base::{ListOf, OutOfMemory};
+use vx_base::OutOfMemory;
 use vx_center::{Center, Event, ExportSheet, Final, Key, sheets_have_own_keys};
 use vx_rounds::Rankings;
 use vx_rules::SheetMarks;
@@ -24,9 +22,6 @@ pub struct SheetRankings {
     /// How many sheets wait: a contest of the group on them isn't exported.
     pub waiting: u64,
 }
-
-/// What the sheets of a count rank in each of some groups.
-pub type SheetRankingsList = ListOf<SheetRankings>;
 
 fn has_key(row: &ExportSheet, key: &Key) -> bool
     ensures { result ≡ same_key row.now.key key.now }
@@ -160,8 +155,9 @@ impl SheetRankings {
     }
 }
 
-/// What the sheets rank in a group.
-fn rank_group(
+/// What the sheets of a count rank in a group, by the events that were kept. A sheet of the group waits, and
+/// has no ranking, where one of the group's contests on it isn't exported.
+pub(crate) fn rank_group(
     alloc: Global,
     center: &Center<'_>,
     rows: &[ExportSheet],
@@ -174,25 +170,6 @@ fn rank_group(
     let mut ranked = SheetRankings::new(alloc);
     for (index, event) in center.events().as_slice().iter().enumerate() {
         ranked.take_event(alloc, center, rows, contests, index, event)?;
-    }
-    Ok(ranked)
-}
-
-/// What the sheets of a count rank in each of some groups, by the events that were kept.
-/// A sheet of a group waits, and has no ranking, where one of the group's contests on it isn't
-/// exported. Time is in proportion to the groups and the events, and memory to the sheets.
-pub fn rank_sheets(
-    alloc: Global,
-    center: &Center<'_>,
-    groups: &[Group],
-) -> Result<SheetRankingsList, OutOfMemory>
-    ensures { IfOk result (λ ranked. ranked
-        ≡ map (group_ranked center.now.election center.now.events) groups.now) }
-{
-    let rows = center.export_rows(alloc)?;
-    let mut ranked = SheetRankingsList::new(alloc);
-    for group in groups {
-        ranked.push(rank_group(alloc, center, rows.as_slice(), group.contests.as_slice())?)?;
     }
     Ok(ranked)
 }

@@ -1,0 +1,100 @@
+ghost use Rattle.std.specs.Prelude.{◌≡◌, false};
+ghost use Rattle.std.specs.Option.{ForSome};
+ghost use Rattle.vx_election_model.specs.Valid.{IsValid};
+ghost use Rattle.vx_layout.specs.Plans.{ArePlansOf};
+ghost use Rattle.vx_command.specs.Devices.{LeavesInputs, LeavesKeeper, LeavesSink, is_keeper_fault};
+ghost use Rattle.vx_command_ranked.specs.Done.{IsRankedDone, IsRankedWritten};
+ghost use Rattle.vx_command_ranked.specs.Outcome.{file_outcome, journal_outcome, ranked_outcome};
+ghost use Rattle.vx_command_ranked.specs.Status.{may_have_written, status_of};
+
+use crate::writing::write_rounds;
+use std::alloc::Global;
+use vx_base::Bytes;
+use vx_center::Center;
+use vx_command::{Halt, INPUT_LIMIT, plan_all, steps_in_order, take_election, take_input};
+use vx_election_model::Election;
+use vx_io::{Inputs, Keeper, Sink};
+use vx_journal::{journals_in_order, read_journal};
+use vx_layout::CardPlans;
+use vx_ranked::RankedFault;
+
+/// Takes the file of ranked contests under its name, which is word 2, and writes the rounds of its groups.
+fn rank_file<I: Inputs, S: Sink>(
+    alloc: Global,
+    election: &Election,
+    plans: &CardPlans,
+    center: &Center<'_>,
+    ranked: &str,
+    inputs: &mut I,
+    out: &mut S,
+) -> Result<Option<RankedFault>, Halt>
+    requires valid { IsValid election.now }
+    requires plans { ArePlansOf election.now plans.now }
+    requires same { center.now.election ≡ election.now }
+    ensures done { ForSome (I.held inputs.old) (λ files.
+        IsRankedWritten (file_outcome election.now plans.now center.now.events (files ranked.now))
+        (S.taken out.old) (S.taken out.new) (status_of result)) }
+    ensures nothing_written { may_have_written (status_of result) ≡ false → S.taken out.new ≡ S.taken out.old }
+    ensures no_keeper_fault { is_keeper_fault result ≡ false }
+    ensures inputs { LeavesInputs (I.held inputs.old) (I.held inputs.new)
+        (I.faults inputs.old) (I.faults inputs.new) result }
+    ensures sink { LeavesSink (S.faults out.old) (S.faults out.new) result }
+{
+    steps_in_order::<Bytes>();
+    let bytes = take_input(Bytes::new(alloc), inputs, ranked, 2, INPUT_LIMIT)?;
+    write_rounds(alloc, election, plans, center, bytes.as_slice(), out)
+}
+
+/// Reads the journal, and writes the rounds of the groups of a file.
+fn rank_journal<I: Inputs, S: Sink, K: Keeper>(
+    alloc: Global,
+    election: &Election,
+    plans: &CardPlans,
+    ranked: &str,
+    inputs: &mut I,
+    out: &mut S,
+    keeper: &mut K,
+) -> Result<Option<RankedFault>, Halt>
+    requires valid { IsValid election.now }
+    requires plans { ArePlansOf election.now plans.now }
+    ensures done { ForSome (I.held inputs.old) (λ files. ForSome (K.held keeper.old) (λ records.
+        IsRankedDone (journal_outcome election.now plans.now (files ranked.now) records)
+        (S.taken out.old) (S.taken out.new) (K.held keeper.old) (K.held keeper.new) (status_of result))) }
+    ensures nothing_written { may_have_written (status_of result) ≡ false → S.taken out.new ≡ S.taken out.old }
+    ensures held { K.held keeper.new ≡ K.held keeper.old }
+    ensures inputs { LeavesInputs (I.held inputs.old) (I.held inputs.new)
+        (I.faults inputs.old) (I.faults inputs.new) result }
+    ensures sink { LeavesSink (S.faults out.old) (S.faults out.new) result }
+    ensures keeper { LeavesKeeper (K.faults keeper.old) (K.faults keeper.new) result }
+{
+    journals_in_order();
+    let journal = read_journal(alloc, election, keeper)?;
+    rank_file(alloc, election, plans, &journal.center, ranked, inputs, out)
+}
+
+/// Takes the election under its name, which is word 1, plans its cards, and writes the rounds of the groups
+/// of the file under the other name by its journal.
+pub(crate) fn rank<I: Inputs, S: Sink, K: Keeper>(
+    alloc: Global,
+    election: &str,
+    ranked: &str,
+    inputs: &mut I,
+    out: &mut S,
+    keeper: &mut K,
+) -> Result<Option<RankedFault>, Halt>
+    ensures done { ForSome (I.held inputs.old) (λ files. ForSome (K.held keeper.old) (λ records.
+        IsRankedDone (ranked_outcome election.now ranked.now files records)
+        (S.taken out.old) (S.taken out.new) (K.held keeper.old) (K.held keeper.new) (status_of result))) }
+    ensures nothing_written { may_have_written (status_of result) ≡ false → S.taken out.new ≡ S.taken out.old }
+    ensures held { K.held keeper.new ≡ K.held keeper.old }
+    ensures inputs { LeavesInputs (I.held inputs.old) (I.held inputs.new)
+        (I.faults inputs.old) (I.faults inputs.new) result }
+    ensures sink { LeavesSink (S.faults out.old) (S.faults out.new) result }
+    ensures keeper { LeavesKeeper (K.faults keeper.old) (K.faults keeper.new) result }
+{
+    steps_in_order::<Election>();
+    steps_in_order::<CardPlans>();
+    let given = take_election(alloc, inputs, election)?;
+    let plans = plan_all(alloc, &given)?;
+    rank_journal(alloc, &given, &plans, ranked, inputs, out, keeper)
+}
