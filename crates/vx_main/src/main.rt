@@ -82,7 +82,7 @@ fn run_on_file<R: Threads + Wait + Sync>(
 
 /// Whether a command reads the journal and appends nothing to it.
 fn only_reads(words: &Words) -> bool {
-    begins_with(words, "queue") || begins_with(words, "export")
+    begins_with(words, "queue") || begins_with(words, "export") || begins_with(words, "ranked")
 }
 
 /// Whether the journal is one in memory: it is called `-`, or it is a file that isn't there and that the
@@ -129,7 +129,7 @@ fn make_bitmaps(rt: &HostRuntime, words: &Words) -> GrayStatus {
 fn rank_with(rt: &HostRuntime, journal: &str, words: &Words) -> RankedStatus {
     let mut inputs = StdInputs::new(rt);
     let mut out = StdSink::new(rt);
-    if journal == "-" {
+    if is_in_memory(rt, journal, words) {
         let mut keeper = MemKeeper::new(Records::new(rt.alloc()), KeeperCalls::new(rt.alloc()));
         return run_ranked(rt.alloc(), words, &mut inputs, &mut out, &mut keeper);
     }
