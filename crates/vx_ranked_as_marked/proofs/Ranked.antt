@@ -1,17 +1,19 @@
 -- An export could be run behind the runs, which shows what the journal keeps of the sheets that they counted.
-use Rattle.std.proofs.Common.{◌≡◌, ℕ, zero, suc, Bool, true, false, cond, List, [], ◌∷◌, ◌++◌, append-nil, Option, Some, None, Result, Ok, Err, inl, inr, refl, sym, ap, subst, ◌∙◌, arith}
+use Rattle.std.proofs.Common.{◌≡◌, ℕ, suc, Bool, true, false, cond, List, [], ◌∷◌, append-nil, Some, None, Ok, inl, inr, refl, sym, ap, subst, ◌∙◌, arith}
 use Rattle.std.specs.Prelude.{codes, filter, slice_get}
 use Rattle.vx_io.specs.Outside.{Files}
+use Rattle.uuid.specs.Text.{by_index}
+use Rattle.vx_election_model.specs.Dates.{is_date}
 use Rattle.vx_election_model.specs.declared.election.Election.{Election}
 use Rattle.vx_events.specs.declared.event.Event.{Event}
 use Rattle.vx_events.specs.declared.key.Key.{Key}
-use Rattle.vx_sheet.specs.Margin.{MarkedSheet, sheet_marked}
+use Rattle.vx_sheet.specs.Margin.{MarkedSheet}
 use Rattle.vx_rules.specs.declared.marks.SheetMarks.{SheetMarks}
 use Rattle.vx_center.specs.Histories.{IsHistory}
-use Rattle.vx_center.specs.Sheets.{Added, has_key, sheets_in}
+use Rattle.vx_center.specs.Sheets.{has_key, sheets_in}
 use Rattle.vx_cvr.specs.Report.{report_of}
 use Rattle.vx_command.specs.Acts.{Outcome, Write, writing}
-use Rattle.vx_command.specs.Done.{Taken, IsDone}
+use Rattle.vx_command.specs.Done.{IsDone}
 use Rattle.vx_command.specs.Elections.{election_in}
 use Rattle.vx_command.specs.Laws.{StepLaws}
 use Rattle.vx_journal.specs.declared.journal.Journal.{Journal}
@@ -21,16 +23,16 @@ use Rattle.vx_journal.specs.Replay.{replay_of}
 use Rattle.vx_journal.specs.Steps.{once_read}
 use Rattle.vx_command_export.specs.Outcome.{export_outcome}
 use Rattle.vx_words.specs.declared.command.Command.{Command}
-use Rattle.vx_words.specs.declared.command.Command.TheVariants.{Center, Count, Export}
+use Rattle.vx_words.specs.declared.command.Command.TheVariants.{Count, Export}
 use Rattle.vx_words.specs.Devices.{device_of}
 use Rattle.vx_words.specs.Moments.{is_moment}
-use Rattle.vx_words.specs.Words.{IsArgument, IsSound, Spells}
-use Rattle.vx_app.specs.Journals.{AreRuns, IsFor, IsNamed, IsRun, Run}
-use Rattle.vx_headline.specs.Counted.{CountedBy, Counts, CenterCounts, Recounts, IsScanned, IsItemOf}
-use Rattle.vx_headline.specs.Exported.{Exports, IsExport, MarkedPagesAreExported, StandsMarked}
+use Rattle.vx_words.specs.Words.{IsArgument, IsSound}
+use Rattle.vx_app.specs.Journals.{AreRuns, IsFor, IsRun, Run}
+use Rattle.vx_headline.specs.Counted.{CountedBy}
+use Rattle.vx_headline.specs.Exported.{IsExport, MarkedPagesAreExported}
 use Rattle.vx_ranked.specs.Marked.{AreUndecided, UndecidedSheetsAreRankedAsMarked, marked_ranking}
 use Rattle.vx_ranked.specs.Rankings.{finals_of, is_ranked, rankings_on}
-use Rattle.vx_ranked_as_marked.specs.Ranked.{IsRankedAsMarked, MarkedPagesAreRanked}
+use Rattle.vx_ranked_as_marked.specs.Ranked.{MarkedPagesAreRanked}
 
 -- the election was taken under a name that may be an argument
 record Named (election : Election) : Type 0 where
@@ -71,11 +73,11 @@ device : List ℕ
 device = codes "00000000-0000-4000-8000-000000000001"
 
 moment_is : is_moment moment ≡ true
-unfolding moment is_moment
+unfolding moment is_moment is_date
 moment_is = refl
 
 device_is : device_of device ≡ Some device
-unfolding device
+unfolding device by_index
 device_is = refl
 
 moment_argument : IsArgument moment
