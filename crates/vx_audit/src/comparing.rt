@@ -1,0 +1,223 @@
+//! The text of an audit: what the records say, beside what hands read.
+
+ghost use Rattle.std.specs.Prelude.{◌≡◌, ◌<◌, ◌≤◌, ◌+◌, ◌++◌, [], All, Some, bytes_eq, if◌then◌else◌, IfOk, OnOk, length, option_copied, slice_get, string_bytes};
+ghost use Rattle.std.specs.List.{flat_map};
+ghost use Rattle.vx_audit.specs.Audit as lines;
+ghost use Rattle.vx_audit.specs.Found.{AtMost, Finds, GrowsBy, pair_lines};
+ghost use Rattle.vx_audit.specs.Pairs.{pair_of, pairs_of};
+ghost use Rattle.vx_audit.specs.Sized.{HasFew, IsSized};
+
+use crate::hand::{Hand, HandLine};
+use crate::marks::{counted_for, marked_text, record_text};
+use std::alloc::Global;
+use vx_base::OutOfMemory;
+use vx_tally::{CvrRecord, RecordContest, Report, ReportContest};
+
+/// The lines so far, and how many contests of records were compared, differ and are missing.
+#[derive(Drop)]
+pub(crate) struct Findings {
+    pub(crate) text: String,
+    pub(crate) compared: u64,
+    pub(crate) different: u64,
+    pub(crate) missing: u64,
+}
+
+impl Findings {
+    /// Nothing yet; takes no memory.
+    fn new(alloc: Global) -> Findings
+        ensures text { string_bytes result.text ≡ [] }
+        ensures none { AtMost 0 result }
+    {
+        Findings {
+            text: String::new(alloc),
+            compared: 0,
+            different: 0,
+            missing: 0,
+        }
+    }
+
+    /// A sampled record.
+    fn put_sampled(&mut self, unique: &str) -> Result<(), OutOfMemory>
+        ensures text { OnOk result (string_bytes self.new.text ≡ string_bytes self.old.text
+            ++ lines.sampled_line unique.now) }
+        ensures compared { OnOk result (self.new.compared ≡ self.old.compared) }
+        ensures different { OnOk result (self.new.different ≡ self.old.different) }
+        ensures missing { OnOk result (self.new.missing ≡ self.old.missing) }
+    {
+        write!(&mut self.text, "sampled {unique}\n")?;
+        Ok(())
+    }
+
+    /// A contest of a record of which there is no line.
+    fn put_missing(&mut self, unique: &str, contest: &str) -> Result<(), OutOfMemory>
+        requires { self.old.missing < 2000000000000 }
+        ensures text { OnOk result (string_bytes self.new.text ≡ string_bytes self.old.text
+            ++ lines.missing_line unique.now contest.now) }
+        ensures compared { OnOk result (self.new.compared ≡ self.old.compared) }
+        ensures different { OnOk result (self.new.different ≡ self.old.different) }
+        ensures missing { OnOk result (self.new.missing ≡ self.old.missing + 1) }
+    {
+        write!(&mut self.text, "missing {unique} {contest}\n")?;
+        self.missing += 1;
+        Ok(())
+    }
+
+    /// A contest of a record of which there is a line, with what both say.
+    fn put_compared(
+        &mut self,
+        unique: &str,
+        contest: &str,
+        said: &str,
+        read: &str,
+    ) -> Result<(), OutOfMemory>
+        requires compared { self.old.compared < 2000000000000 }
+        requires different { self.old.different < 2000000000000 }
+        ensures text { OnOk result (string_bytes self.new.text ≡ string_bytes self.old.text
+            ++ lines.read_text unique.now contest.now said.now (Some read.now)) }
+        ensures compared { OnOk result (self.new.compared ≡ self.old.compared + 1) }
+        ensures different { OnOk result (self.new.different ≡ self.old.different
+            + (if bytes_eq said.now read.now then 0 else 1)) }
+        ensures missing { OnOk result (self.new.missing ≡ self.old.missing) }
+    {
+        self.compared += 1;
+        if said == read {
+            return Ok(());
+        }
+        self.different += 1;
+        write!(
+            &mut self.text,
+            "differs {unique} {contest} record {said} hand {read}\n"
+        )
+    }
+
+    /// A contest of a record, where the record has it or there is a line.
+    fn take_contest(
+        &mut self,
+        alloc: Global,
+        one: &CvrRecord,
+        contest: &ReportContest,
+        counted: Option<&RecordContest>,
+        line: Option<&HandLine>,
+    ) -> Result<(), OutOfMemory>
+        requires few { HasFew contest.now }
+        requires room { AtMost 1999999999999 self.old }
+        ensures finds { OnOk result (Finds
+            (pair_lines (pair_of one.now contest.now (option_copied counted.entry) (option_copied line.entry)))
+            (pair_of one.now contest.now (option_copied counted.entry) (option_copied line.entry)) self.old self.new) }
+        ensures grows { OnOk result (GrowsBy 1 self.old self.new) }
+    {
+        let (unique, id) = (one.unique.as_str(), contest.id.as_str());
+        let selections = contest.selections.as_slice();
+        match line {
+            None => match counted {
+                None => Ok(()),
+                Some(_) => self.put_missing(unique, id),
+            },
+            Some(line) => {
+                let said = record_text(alloc, selections, counted)?;
+                let read = marked_text(alloc, selections, line.marks.as_slice())?;
+                self.put_compared(unique, id, said.as_str(), read.as_str())
+            }
+        }
+    }
+
+    /// The contests of the record at a place.
+    #[tactic(auto, unfolding(crate::specs::Pairs::pairs_of))]
+    fn take_contests(
+        &mut self,
+        alloc: Global,
+        contests: &[ReportContest],
+        hand: &Hand,
+        at: u32,
+        one: &CvrRecord,
+    ) -> Result<(), OutOfMemory>
+        requires count { length contests.now ≤ 1000000 }
+        requires few { All HasFew contests.now }
+        requires room { AtMost 1000000000000 self.old }
+        ensures finds { OnOk result (Finds (pair_lines (pairs_of contests.now hand.now at one.now))
+            (pairs_of contests.now hand.now at one.now) self.old self.new) }
+        ensures grows { OnOk result (GrowsBy 1000000 self.old self.new) }
+    {
+        for (place, contest) in contests.iter().enumerate() {
+            let counted = counted_for(one, place as u32);
+            let read = hand.line(at, place as u32);
+            self.take_contest(alloc, one, contest, counted, read)?;
+        }
+        Ok(())
+    }
+
+    /// The record at a place.
+    fn take_record(
+        &mut self,
+        alloc: Global,
+        report: &Report,
+        hand: &Hand,
+        at: u32,
+    ) -> Result<(), OutOfMemory>
+        requires sized { IsSized report.now }
+        requires within { at < length report.now.records }
+        requires room { AtMost 1000000000000 self.old }
+        ensures finds { OnOk result (Finds
+            (lines.record_lines report.now.contests hand.now at (slice_get report.now.records at))
+            (lines.pairs_at report.now.contests hand.now at (slice_get report.now.records at)) self.old self.new) }
+        ensures grows { OnOk result (GrowsBy 1000000 self.old self.new) }
+    {
+        let one = &report.records.as_slice()[at as usize];
+        self.put_sampled(one.unique.as_str())?;
+        self.take_contests(alloc, report.contests.as_slice(), hand, at, one)?;
+        Ok(())
+    }
+
+    /// The last line.
+    fn push_sums(&mut self, sampled: usize) -> Result<(), OutOfMemory>
+        ensures { OnOk result (string_bytes self.new.text ≡ string_bytes self.old.text
+            ++ lines.sums_line sampled self.old.compared self.old.different self.old.missing) }
+    {
+        let (compared, different, missing) = (self.compared, self.different, self.missing);
+        write!(
+            &mut self.text,
+            "sample {sampled} compared {compared} differs {different} missing {missing}\n"
+        )
+    }
+
+    /// The records at those places.
+    fn take_records(
+        &mut self,
+        alloc: Global,
+        report: &Report,
+        hand: &Hand,
+        sample: &[u32],
+    ) -> Result<(), OutOfMemory>
+        requires sized { IsSized report.now }
+        requires within { All (λ at. at < length report.now.records) sample.now }
+        requires few { length sample.now ≤ 1000000 }
+        requires none { AtMost 0 self.old }
+        ensures { OnOk result (Finds
+            (flat_map (λ at. lines.record_lines report.now.contests hand.now at (slice_get report.now.records at)) sample.now)
+            (lines.all_pairs report.now hand.now sample.now) self.old self.new) }
+    {
+        for at in sample {
+            self.take_record(alloc, report, hand, *at)?;
+        }
+        Ok(())
+    }
+}
+
+/// What `audit` writes of a report, what hands read, and the places of the records of the sample.
+#[tactic(auto, unfolding(crate::specs::Audit::audit_text))]
+pub fn audit_text(
+    alloc: Global,
+    report: &Report,
+    hand: &Hand,
+    sample: &[u32],
+) -> Result<String, OutOfMemory>
+    requires sized { IsSized report.now }
+    requires within { All (λ at. at < length report.now.records) sample.now }
+    requires few { length sample.now ≤ 1000000 }
+    ensures { IfOk result (λ text. string_bytes text ≡ lines.audit_text report.now hand.now sample.now) }
+{
+    let mut findings = Findings::new(alloc);
+    findings.take_records(alloc, report, hand, sample)?;
+    findings.push_sums(sample.len())?;
+    Ok(findings.text)
+}
