@@ -1,5 +1,5 @@
 -- How far an audit has come: its lines so far, and its counts.
-use Rattle.std.specs.Prelude.{◌≡◌, ◌≤◌, ℕ, ◌+◌, List, ◌++◌, string_bytes}
+use Rattle.std.specs.Prelude.{◌≡◌, ℕ, ◌+◌, List, ◌++◌, string_bytes}
 use Rattle.std.specs.List.{flat_map}
 use Rattle.vx_audit.specs.declared.comparing.Findings.{Findings}
 use Rattle.vx_audit.specs.Audit.{how_many, pair_text}
@@ -15,15 +15,3 @@ pub record Finds (lines : List ℕ) (pairs : List Pair) (old new : Findings) : T
   pub compared : new.compared ≡ old.compared + how_many is_compared pairs
   pub different : new.different ≡ old.different + how_many is_different pairs
   pub missing : new.missing ≡ old.missing + how_many is_missing pairs
-
--- no count is above a number
-pub record AtMost (most : ℕ) (findings : Findings) : Type 0 where
-  pub compared : findings.compared ≤ most
-  pub different : findings.different ≤ most
-  pub missing : findings.missing ≤ most
-
--- no count grew by more than a number
-pub record GrowsBy (most : ℕ) (old new : Findings) : Type 0 where
-  pub compared : new.compared ≤ old.compared + most
-  pub different : new.different ≤ old.different + most
-  pub missing : new.missing ≤ old.missing + most

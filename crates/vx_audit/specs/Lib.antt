@@ -7,3 +7,6 @@ pub mod Finding
 pub mod Pairs
 pub mod Audit
 pub mod Found
+pub mod Ascending
+pub mod Cells
+pub mod Places

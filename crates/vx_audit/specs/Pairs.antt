@@ -1,5 +1,5 @@
 -- The contests of a record that are looked at, each with what the record says and what the hand's line says.
-use Rattle.std.specs.Prelude.{ℕ, ◌==◌, Bool, true, false, not, if◌then◌else◌, List, [], ◌∷◌, ◌++◌, map, filter, codes, bytes_eq, nat_lt, Option, Some, None, is_some}
+use Rattle.std.specs.Prelude.{ℕ, ◌==◌, Bool, true, false, not, if◌then◌else◌, List, [], ◌∷◌, ◌++◌, map, filter, codes, bytes_eq, nat_lt, slice_get, Option, Some, None, is_some}
 use Rattle.std.specs.List.{find, flat_map, list_any}
 use Rattle.std.specs.Option.{option_map}
 use Rattle.vx_tally.specs.declared.report.ReportContest.{ReportContest}
@@ -87,3 +87,11 @@ pair_at lines at one place contest = pair_of one contest (counted_for place one)
 -- those of the record at a place
 unfoldable pub pairs_of : List ReportContest → List HandLine → ℕ → CvrRecord → List Pair
 pairs_of contests lines at one = by_place (pair_at lines at one) 0 contests
+
+-- those of the contest at a place, where there is one
+abbrev pub pairs_if : List HandLine → ℕ → CvrRecord → ℕ → Option ReportContest → List Pair
+pairs_if lines at one place None = []
+pairs_if lines at one place (Some contest) = pair_at lines at one place contest
+
+abbrev pub pairs_at_place : List ReportContest → List HandLine → ℕ → CvrRecord → ℕ → List Pair
+pairs_at_place contests lines at one place = pairs_if lines at one place (slice_get contests place)

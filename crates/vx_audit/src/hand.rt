@@ -1,13 +1,14 @@
 //! What hands read, line after line, with the places of the lines.
 
-ghost use Rattle.std.specs.Prelude.{◌≡◌, ◌++◌, ◌∷◌, [], false, if◌then◌else◌, is_ok, length, option_copied};
+ghost use Rattle.std.specs.Prelude.{◌≡◌, ◌++◌, ◌∷◌, [], false, if◌then◌else◌, is_ok, length, option_copied, OnOk};
 ghost use Rattle.std.specs.List.{list_any};
 ghost use Rattle.vx_audit.specs.Hand.{is_for};
 ghost use Rattle.vx_audit.specs.Pairs.{line_for};
+ghost use Rattle.vx_audit.specs.Places.{AddsContests};
 
 use crate::sample::Places;
-use indexmap::IndexSet;
 use std::alloc::{AllocError, Global};
+use std::collections::BTreeMap;
 use std::marker::Model;
 use vx_base::OutOfMemory;
 
@@ -42,23 +43,24 @@ pub struct HandLine {
     pub marks: Places,
 }
 
-/// What hands read, each contest of a ballot once. Contracts see the list of the lines.
+/// What hands read, each contest of a ballot once. Contracts see the list of the lines. The place of a line is found
+/// by its ballot and its contest.
 #[derive(Drop)]
 pub struct Hand {
     lines: Vec<HandLine>,
-    keys: IndexSet<(u32, u32)>,
+    places: BTreeMap<(u32, u32), usize>,
 }
 
 impl Model for Hand {
-    ghost use Rattle.std.specs.Prelude.{◌≡◌, List, map};
+    ghost use Rattle.std.specs.Prelude.{List};
     ghost use Rattle.vx_audit.specs.declared.hand.HandLine.{HandLine};
-    ghost use Rattle.vx_audit.specs.Hand.{key_of};
+    ghost use Rattle.vx_audit.specs.Places.{AreFound};
 
     ghost Value = { List HandLine };
 
     ghost view = { λ hand. hand.lines.items };
 
-    ghost invariant = { λ hand. hand.keys.keys ≡ map key_of hand.lines.items };
+    ghost invariant = { λ hand. AreFound hand.lines.items hand.places };
 }
 
 impl Hand {
@@ -68,7 +70,7 @@ impl Hand {
     {
         Hand {
             lines: Vec::new(alloc),
-            keys: IndexSet::new(alloc),
+            places: BTreeMap::new(alloc),
         }
     }
 
@@ -82,7 +84,7 @@ impl Hand {
     pub fn has(&self, ballot: u32, contest: u32) -> bool
         ensures { result ≡ list_any (is_for ballot contest) self.now }
     {
-        self.keys.contains(&(ballot, contest))
+        self.places.contains_key(&(ballot, contest))
     }
 
     /// Adds a line at the end. After want of memory the lines are as before.
@@ -91,7 +93,7 @@ impl Hand {
         ensures { self.new ≡ (if is_ok result then self.old ++ line ∷ [] else self.old) }
     {
         self.lines.reserve(1)?;
-        self.keys.insert((line.ballot, line.contest))?;
+        self.places.insert((line.ballot, line.contest), self.lines.len())?;
         self.lines.push(line).unwrap();
         Ok(())
     }
@@ -100,9 +102,19 @@ impl Hand {
     pub fn line(&self, ballot: u32, contest: u32) -> Option<&HandLine>
         ensures { option_copied result ≡ line_for self.now ballot contest }
     {
-        match self.keys.get_index_of(&(ballot, contest)) {
+        match self.places.get(&(ballot, contest)) {
             None => None,
-            Some(place) => Some(&self.lines[place]),
+            Some(place) => Some(&self.lines[*place]),
         }
+    }
+
+    /// Puts the contests of a ballot of which there are lines behind others.
+    pub(crate) fn push_contests(&self, ballot: u32, contests: &mut Vec<u32>) -> Result<(), OutOfMemory>
+        ensures { OnOk result (AddsContests self.now ballot contests.old.items contests.new.items) }
+    {
+        for (key, _place) in self.places.range((ballot, 0)..=(ballot, u32::MAX)) {
+            contests.push(key.1)?;
+        }
+        Ok(())
     }
 }

@@ -14,6 +14,7 @@ mod hand;
 mod lines;
 mod marks;
 mod naming;
+mod places;
 mod reading;
 mod sample;
 mod totals;

@@ -1,9 +1,10 @@
 //! The selections of a contest that are marked, as text.
 
-ghost use Rattle.std.specs.Prelude.{◌≡◌, ◌≤◌, ◌++◌, IfOk, OnOk, length, option_copied, string_bytes};
+ghost use Rattle.std.specs.Prelude.{◌≡◌, ◌++◌, IfOk, OnOk, option_copied, slice_get, string_bytes};
+ghost use Rattle.vx_audit.specs.Ascending.{ids_at};
 ghost use Rattle.vx_audit.specs.Pairs as texts;
 
-use crate::naming::is_among;
+use crate::places::put_in_order;
 use crate::sample::Places;
 use std::alloc::Global;
 use vx_base::OutOfMemory;
@@ -21,19 +22,21 @@ fn push_word(text: &mut String, first: bool, word: &str) -> Result<(), OutOfMemo
     }
 }
 
-/// The selections at those places, in the contest's order with commas between, or `-`.
-pub(crate) fn marked_text(
-    alloc: Global,
-    selections: &[Text],
-    places: &[u32],
-) -> Result<String, OutOfMemory>
-    requires { length selections.now ≤ 1000000 }
-    ensures { IfOk result (λ text. string_bytes text ≡ texts.marked_text selections.now places.now) }
+/// The id at a place.
+fn id_at(ids: &[Text], place: u32) -> Option<&Text>
+    ensures { option_copied result ≡ slice_get ids.now place }
+{
+    ids.get(place as usize)
+}
+
+/// The ids at those places with commas between, or `-`.
+fn listed_text(alloc: Global, ids: &[Text], places: &[u32]) -> Result<String, OutOfMemory>
+    ensures { IfOk result (λ text. string_bytes text ≡ texts.listed (ids_at ids.now places.now)) }
 {
     let mut text = String::new(alloc);
     let mut first = true;
-    for (place, id) in selections.iter().enumerate() {
-        if is_among(place as u32, places) {
+    for place in places {
+        if let Some(id) = id_at(ids, *place) {
             push_word(&mut text, first, id.as_str())?;
             first = false;
         }
@@ -41,6 +44,20 @@ pub(crate) fn marked_text(
     if first {
         text.push_str("-")?;
     }
+    Ok(text)
+}
+
+/// The selections at those places, in the contest's order with commas between, or `-`.
+pub(crate) fn marked_text(
+    alloc: Global,
+    selections: &[Text],
+    places: &[u32],
+) -> Result<String, OutOfMemory>
+    ensures { IfOk result (λ text. string_bytes text ≡ texts.marked_text selections.now places.now) }
+{
+    let mut sorted = Vec::from_slice(alloc, places)?;
+    put_in_order(&mut sorted);
+    let text = listed_text(alloc, selections, sorted.as_slice())?;
     Ok(text)
 }
 
@@ -63,7 +80,6 @@ pub(crate) fn record_text(
     selections: &[Text],
     counted: Option<&RecordContest>,
 ) -> Result<String, OutOfMemory>
-    requires { length selections.now ≤ 1000000 }
     ensures { IfOk result (λ text. string_bytes text
         ≡ texts.record_text selections.now (option_copied counted.entry)) }
 {

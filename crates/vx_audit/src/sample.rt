@@ -57,7 +57,6 @@ pub fn draw_sample(
 ) -> Result<Places, OutOfMemory>
     requires { count ≤ 1000000 }
     ensures value { IfOk result (λ places. places ≡ sample_of seed size count) }
-    ensures few { IfOk result (λ places. length places ≤ count) }
     ensures within { IfOk result (λ places. All (λ place. place < count) places) }
 {
     if count == 0 {

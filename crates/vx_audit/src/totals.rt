@@ -24,6 +24,14 @@ fn tally_of(alloc: Global, records: &[CvrRecord]) -> Result<Tally, OutOfMemory>
     Ok(tally)
 }
 
+/// Adds the line of a selection.
+fn push_total(text: &mut String, contest: &str, selection: &str, votes: u64) -> Result<(), OutOfMemory>
+    ensures { OnOk result (string_bytes text.new ≡ string_bytes text.old
+        ++ lines.total_line contest.now selection.now votes) }
+{
+    write!(text, "total {contest} {selection} {votes}\n")
+}
+
 /// Adds the lines of the selections of the contest at a place.
 fn push_selections(
     text: &mut String,
@@ -38,7 +46,7 @@ fn push_selections(
 {
     for (selection, name) in selections.iter().enumerate() {
         let votes = tally.total(place, selection as u32);
-        write!(text, "total {contest} {} {votes}\n", name.as_str())?;
+        push_total(text, contest, name.as_str(), votes)?;
     }
     Ok(())
 }
@@ -88,7 +96,7 @@ pub fn totals_text(alloc: Global, report: &Report) -> Result<String, OutOfMemory
     let contests = report.contests.as_slice();
     let mut text = String::new(alloc);
     push_contests(&mut text, &tally, contests)?;
-    push_units(&mut text, &tally, contests, report.units.as_slice())?;
+    push_units(alloc, &mut text, &tally, report)?;
     write!(text, "records {}\n", report.records.len())?;
     Ok(text)
 }

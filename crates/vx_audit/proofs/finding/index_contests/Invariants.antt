@@ -1,0 +1,7 @@
+use Rattle.std.proofs.Common.{◌≡◌, ◌+◌, ◌*◌, ◌<◌, ◌≤◌, ◌++◌, ◌==◌, ℕ, Bool, true, false, [], List, None, Some, length, map, take, drop, slice_index_or, get_or}
+use Rattle.vx_audit.specs.Finding.{place_of}
+use Rattle.vx_audit.specs.Hand.{contest_with}
+use Rattle.vx_audit.proofs.finding.index_contests.Given as goal
+
+abbrev pub invariant-loop-place : goal.invariant-loop-place
+invariant-loop-place l = (id : List ℕ) → place_of l.index id ≡ contest_with (take l.place l.contests) id

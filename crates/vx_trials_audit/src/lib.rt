@@ -1,0 +1,2 @@
+//! Trials of `totals` and `audit`. Nothing stands on it.
+#![tactic(auto)]
