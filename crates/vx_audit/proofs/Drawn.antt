@@ -1,5 +1,5 @@
 -- Which places are drawn.
-use Rattle.std.proofs.Common.{◌≡◌, ◌⊎◌, inl, inr, ◌≢◌, ℕ, suc, ◌+◌, ◌%◌, ◌<◌, ◌==◌, ◌||◌, Bool, true, false, cond, List, [], ◌∷◌, ◌++◌, length, get_or, set, refl, ap, sym, ◌∙◌, arith}
+use Rattle.std.proofs.Common.{◌≡◌, ◌⊎◌, inl, inr, ◌≢◌, ℕ, zero, suc, ◌+◌, ◌%◌, ◌<◌, ◌==◌, ◌||◌, Bool, true, false, cond, List, [], ◌∷◌, ◌++◌, length, get_or, set, refl, ap, sym, ◌∙◌, arith}
 use Rattle.std.specs.Prelude.{All, filter}
 use Rattle.std.specs.List.{list_any, range_with_len}
 use Rattle.std.proofs.lemmas.Bool.{cases_eq}
@@ -56,14 +56,11 @@ one-drawn seed n count word drawn is sized within before place inside = by (case
 pub held-filter : (test : ℕ → Bool) (n : ℕ) (drawn : List Bool) → ((i : ℕ) → i < length drawn → get_or drawn i false ≡ test (n + i))
     → by_place where_held n drawn ≡ filter test (range_with_len n (length drawn))
 held-filter test n [] told = refl
-held-filter test n (held ∷ drawn) told = by held (test n) first rest
+held-filter test n (held ∷ drawn) told =
+    let at : n + 0 ≡ n = omega arith in
+    by held (test n) (told 0 (omega arith) ∙ ap test at)
+    (held-filter test (n + 1) drawn (λ i inside. let on : n + suc i ≡ n + 1 + i = omega arith in told (suc i) (omega (arith, inside)) ∙ ap test on))
   where
-    first : held ≡ test n
-    first = let at : n + 0 ≡ n = omega arith in told 0 (omega arith) ∙ ap test at
-
-    rest : by_place where_held (n + 1) drawn ≡ filter test (range_with_len (n + 1) (length drawn))
-    rest = held-filter test (n + 1) drawn (λ i inside. let at : n + suc i ≡ n + 1 + i = omega arith in told (suc i) (omega (arith, inside)) ∙ ap test at)
-
     by : (b c : Bool) → b ≡ c → by_place where_held (n + 1) drawn ≡ filter test (range_with_len (n + 1) (length drawn))
         → where_held n b ++ by_place where_held (n + 1) drawn
         ≡ cond c (n ∷ filter test (range_with_len (n + 1) (length drawn))) (filter test (range_with_len (n + 1) (length drawn)))
@@ -73,7 +70,7 @@ held-filter test n (held ∷ drawn) told = by held (test n) first rest
     by false false e more = more
 
 range-below : (a n : ℕ) (end : ℕ) → a + n ≡ end → All (λ k. k < end) (range_with_len a n)
-range-below a 0 end is = All-nil (λ k. k < end)
+range-below a zero end is = All-nil (λ k. k < end)
 range-below a (suc n) end is = All-cons (λ k. k < end) a (range_with_len (a + 1) n) (omega (arith, is)) (range-below (a + 1) n end (omega (arith, is)))
 
 pub filter-below : (test : ℕ → Bool) (n : ℕ) → All (λ k. k < n) (filter test (range_with_len 0 n))

@@ -10,3 +10,5 @@ pub mod LinePlaces
 pub mod Indexed
 pub mod Drawn
 pub mod Blanks
+pub mod Looked
+pub mod Feeds

@@ -1,9 +1,10 @@
 //! The text of an audit: what the records say, beside what hands read.
 
-ghost use Rattle.std.specs.Prelude.{◌≡◌, ◌<◌, ◌+◌, ◌++◌, [], All, Some, bytes_eq, if◌then◌else◌, IfOk, OnOk, length, option_copied, slice_get, string_bytes};
+ghost use Rattle.std.specs.Prelude.{◌≡◌, ◌<◌, ◌≤◌, ◌+◌, ◌++◌, [], All, Some, bytes_eq, if◌then◌else◌, IfOk, OnOk, length, option_copied, slice_get, string_bytes};
 ghost use Rattle.std.specs.List.{flat_map};
 ghost use Rattle.vx_audit.specs.Audit as lines;
 ghost use Rattle.vx_audit.specs.Found.{Finds, pair_lines};
+ghost use Rattle.vx_audit.specs.Sized.{IsSized};
 ghost use Rattle.vx_audit.specs.Pairs.{pair_of, pairs_at_place, pairs_of};
 
 use crate::hand::{Hand, HandLine};
@@ -193,7 +194,6 @@ impl Findings {
     }
 
     /// The contests of the record at a place. Only those are looked at that it has, or of which there is a line.
-    #[tactic(auto, unfolding(crate::specs::Pairs::pairs_of))]
     fn take_contests(
         &mut self,
         alloc: Global,
@@ -202,6 +202,7 @@ impl Findings {
         at: u32,
         one: &CvrRecord,
     ) -> Result<(), OutOfMemory>
+        requires { length contests.now ≤ 1000000 }
         ensures { OnOk result (Finds (pair_lines (pairs_of contests.now hand.now at one.now))
             (pairs_of contests.now hand.now at one.now) self.old self.new) }
     {
@@ -218,7 +219,8 @@ impl Findings {
         hand: &Hand,
         at: u32,
     ) -> Result<(), OutOfMemory>
-        requires { at < length report.now.records }
+        requires sized { IsSized report.now }
+        requires within { at < length report.now.records }
         ensures { OnOk result (Finds
             (lines.record_lines report.now.contests hand.now at (slice_get report.now.records at))
             (lines.pairs_at report.now.contests hand.now at (slice_get report.now.records at)) self.old self.new) }
@@ -249,7 +251,8 @@ impl Findings {
         hand: &Hand,
         sample: &[u32],
     ) -> Result<(), OutOfMemory>
-        requires { All (λ at. at < length report.now.records) sample.now }
+        requires sized { IsSized report.now }
+        requires within { All (λ at. at < length report.now.records) sample.now }
         ensures { OnOk result (Finds
             (flat_map (λ at. lines.record_lines report.now.contests hand.now at (slice_get report.now.records at)) sample.now)
             (lines.all_pairs report.now hand.now sample.now) self.old self.new) }
@@ -269,7 +272,8 @@ pub fn audit_text(
     hand: &Hand,
     sample: &[u32],
 ) -> Result<String, OutOfMemory>
-    requires { All (λ at. at < length report.now.records) sample.now }
+    requires sized { IsSized report.now }
+    requires within { All (λ at. at < length report.now.records) sample.now }
     ensures { IfOk result (λ text. string_bytes text ≡ lines.audit_text report.now hand.now sample.now) }
 {
     let mut findings = Findings::new(alloc);

@@ -13,7 +13,8 @@ returns-clause-value c =
     let drawn = c.in_ok-drawn.drawn.items in
     c.in_ok-places.ensures
     ∙ ap (by_place where_held 0) c.as_slice.ensures.value
-    ∙ held-filter test 0 drawn (λ i inside. c.in_ok-drawn.ensures.value i ? ∙ ap test ?)
+    ∙ held-filter test 0 drawn (λ i inside. let at : i ≡ 0 + i = omega arith in
+    c.in_ok-drawn.ensures.value i (omega (arith, inside, c.in_ok-drawn.ensures.sized)) ∙ ap test at)
     ∙ ap (λ n. filter test (range_with_len 0 n)) c.in_ok-drawn.ensures.sized
 
 pub returns-clause-within : goal.returns-clause-within

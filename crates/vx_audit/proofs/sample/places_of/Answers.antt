@@ -1,4 +1,4 @@
-use Rattle.std.proofs.Common.{◌≡◌, ◌∙◌, ap, sym, subst, List, ℕ, ◌++◌, ◌+◌, take, get_or, false, append-nil}
+use Rattle.std.proofs.Common.{◌≡◌, ◌∙◌, ap, sym, subst, List, ℕ, ◌++◌, ◌+◌, ◌∷◌, [], take, get_or, false, append-nil}
 use Rattle.std.proofs.lemmas.List.{get_or_default}
 use Rattle.vx_audit.specs.Sample.{where_held}
 use Rattle.vx_audit.specs.Walk.{by_place}
@@ -12,6 +12,10 @@ loop-place-preserved c =
     let i = c.loop-place.place in
     let more = by_place-more where_held drawn i (get_or drawn i false) c.loop-place-test.true (get_or_default drawn i false (get_or drawn i false) c.loop-place-test.true) in
     elim c.if-is.branch [
-      | then-is+in_ok-push w ↦ (let a = w.if-is.true in let b = w.in_ok-push.ensures in let d = w.places-is in ?)
-      | else-is w ↦ (let a = w.if-is.false in let d = w.places-is in ?)
+      | then-is+in_ok-push w ↦
+          w.places-is ∙ w.in_ok-push.ensures ∙ ap (λ (places : List ℕ). places ++ i ∷ []) c.loop-place.invariant
+          ∙ sym (more ∙ ap (λ held. by_place where_held 0 (take i drawn) ++ where_held i held) w.if-is.true)
+      | else-is w ↦
+          w.places-is ∙ c.loop-place.invariant
+          ∙ sym (more ∙ ap (λ held. by_place where_held 0 (take i drawn) ++ where_held i held) w.if-is.false ∙ append-nil (by_place where_held 0 (take i drawn)))
     ]
