@@ -1,6 +1,6 @@
 -- The pairs of a record, by the contests that are looked at.
-use Rattle.std.proofs.Common.{◌≡◌, ◌⊎◌, inl, inr, ℕ, ◌+◌, ◌<◌, ◌≤◌, ◌^◌, Bool, true, false, cond, ◌==◌, ◌||◌, List, [], ◌∷◌, ◌++◌, length, Option, Some, None, refl, ap, ap₂, sym, subst, ◌∙◌, arith, append-nil}
-use Rattle.std.specs.Prelude.{filter, slice_get, Contains}
+use Rattle.std.proofs.Common.{◌≡◌, ◌⊎◌, inl, inr, ℕ, ◌<◌, ◌≤◌, ◌^◌, Bool, true, false, ◌==◌, ◌||◌, List, [], ◌∷◌, length, Some, None, refl, ap, ap₂, sym, subst, ◌∙◌, arith, append-nil}
+use Rattle.std.specs.Prelude.{slice_get, Contains}
 use Rattle.std.specs.List.{find, flat_map, list_any, AllByRecursion}
 use Rattle.std.specs.Ordering.{nat_cmp}
 use Rattle.std.specs.declared.cmp.Ordering.TheVariants.{Less}
@@ -14,9 +14,8 @@ use Rattle.vx_tally.specs.declared.report.RecordContest.{RecordContest}
 use Rattle.vx_tally.specs.declared.report.ReportContest.{ReportContest}
 use Rattle.vx_audit.specs.declared.hand.HandLine.{HandLine}
 use Rattle.vx_audit.specs.Hand.{is_for}
-use Rattle.vx_audit.specs.Pairs.{Pair, pair_of, pair_at, pairs_at_place, pairs_if, pairs_of, counted_for, line_for}
+use Rattle.vx_audit.specs.Pairs.{Pair, pair_of, pair_at, pairs_at_place, pairs_if, pairs_of}
 use Rattle.vx_audit.specs.Places.{AreLookedAt, is_looked_at}
-use Rattle.vx_audit.specs.Walk.{by_place}
 use Rattle.vx_audit.proofs.Filters.{Rises, each_passes, rises_filter, rises-sorted, at_most_one, none_filtered}
 use Rattle.vx_audit.proofs.Sparse.{at_place, walk}
 

@@ -1,20 +1,19 @@
 -- The ids at ascending places are, in their order, those whose place is among the places.
-use Rattle.std.proofs.Common.{◌≡◌, ◌⊎◌, inl, inr, ℕ, ◌<◌, ◌≤◌, Bool, true, false, cond, ◌==◌, List, [], ◌∷◌, ◌++◌, length, refl, ap, sym, subst, Some, ◌∙◌, arith, append-nil}
-use Rattle.std.specs.Prelude.{filter, slice_get, Contains}
+use Rattle.std.proofs.Common.{◌≡◌, ◌⊎◌, inl, inr, ℕ, ◌<◌, ◌≤◌, Bool, true, false, cond, ◌==◌, List, [], ◌∷◌, length, refl, ap, sym, subst, Some, ◌∙◌, arith, append-nil}
+use Rattle.std.specs.Prelude.{filter, slice_get}
 use Rattle.std.specs.List.{flat_map, list_any, AllByRecursion}
 use Rattle.std.specs.Option.{option_to_list}
 use Rattle.std.specs.Ordering.{nat_cmp}
 use Rattle.std.specs.declared.cmp.Ordering.TheVariants.{Less}
 use Rattle.std.proofs.lemmas.Bool.Decides.{nat_tests}
 use Rattle.std.proofs.lemmas.Cmp.{nat_eq_equiv}
-use Rattle.std.proofs.lemmas.List.Elements.{All-contains, All-from_recursion}
 use Rattle.std.proofs.lemmas.Map.Views.{Contains-from_any, list_any-from_Contains, exact_unsigned_eq}
 use Rattle.std.proofs.lemmas.Option.{slice_get_past}
-use Rattle.vx_base.proofs.Numbers.{equal-yes, equal-from_yes}
+use Rattle.vx_base.proofs.Numbers.{equal-from_yes}
 use Rattle.vx_audit.specs.Ascending.{IsAscending, ids_at}
 use Rattle.vx_audit.specs.Pairs.{where_among}
 use Rattle.vx_audit.specs.Walk.{by_place}
-use Rattle.vx_audit.proofs.Filters.{Rises, each_passes, rises_filter, rises-sorted, at_most_one, filter_none, none_filtered}
+use Rattle.vx_audit.proofs.Filters.{Rises, each_passes, rises_filter, rises-sorted, at_most_one}
 use Rattle.vx_audit.proofs.Sparse.{at_place, walk}
 
 any-none : {K : Type 0} (p : K → Bool) (ks : List K) → filter p ks ≡ [] → list_any p ks ≡ false

@@ -14,10 +14,12 @@ Gives P n (x ∷ xs) = P n x × Gives P (n + 1) xs
 pub gives-each : {X : Type 0} (P : ℕ → X → Type 0) (n : ℕ) (xs : List X) → ((i : ℕ) (x : X) → slice_get xs i ≡ Some x → P (n + i) x) → Gives P n xs
 gives-each P n [] f = tt
 gives-each P n (x ∷ xs) f =
-    let first : n + 0 ≡ n = omega arith in
-    (subst (λ m. P m x) first (f 0 x refl), gives-each P (n + 1) xs (λ i y e.
-    let at : n + suc i ≡ n + 1 + i = omega arith in
-    subst (λ m. P m y) at (f (suc i) y e)))
+    let first : n + 0 ≡ n = omega arith in (
+      subst (λ m. P m x) first (f 0 x refl),
+      gives-each P (n + 1) xs (λ i y e.
+          let at : n + suc i ≡ n + 1 + i = omega arith in
+          subst (λ m. P m y) at (f (suc i) y e)),
+    )
 
 below : (n k : ℕ) → k < n → nat_le n k ≡ false
 below n k lt = grind (arith, nat_tests)

@@ -1,5 +1,5 @@
 -- The selections of contests in units that records have rows of.
-use Rattle.std.specs.Prelude.{◌≡◌, ℕ, List, [], slice_get, Contains, Option, Some, None}
+use Rattle.std.specs.Prelude.{ℕ, List, [], slice_get, Contains, Option, Some, None}
 use Rattle.std.specs.List.Sorted.{IsStrictlySortedBy}
 use Rattle.std.specs.Ordering.{nat_cmp, ordering_then}
 use Rattle.std.specs.declared.cmp.Ordering.{Ordering}

@@ -1,5 +1,5 @@
 -- How long the lists of a report are at most: the limits of its reader.
-use Rattle.std.specs.Prelude.{ℕ, ◌≤◌, All, length}
+use Rattle.std.specs.Prelude.{◌≤◌, All, length}
 use Rattle.vx_tally.specs.declared.report.Report.{Report}
 use Rattle.vx_tally.specs.declared.report.ReportContest.{ReportContest}
 use Rattle.vx_tally.specs.Members.{list_limit}

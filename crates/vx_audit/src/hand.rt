@@ -93,7 +93,8 @@ impl Hand {
         ensures { self.new ≡ (if is_ok result then self.old ++ line ∷ [] else self.old) }
     {
         self.lines.reserve(1)?;
-        self.places.insert((line.ballot, line.contest), self.lines.len())?;
+        self.places
+            .insert((line.ballot, line.contest), self.lines.len())?;
         self.lines.push(line).unwrap();
         Ok(())
     }
@@ -109,7 +110,11 @@ impl Hand {
     }
 
     /// Puts the contests of a ballot of which there are lines behind others.
-    pub(crate) fn push_contests(&self, ballot: u32, contests: &mut Vec<u32>) -> Result<(), OutOfMemory>
+    pub(crate) fn push_contests(
+        &self,
+        ballot: u32,
+        contests: &mut Vec<u32>,
+    ) -> Result<(), OutOfMemory>
         ensures { OnOk result (AddsContests self.now ballot contests.old.items contests.new.items) }
     {
         for (key, _place) in self.places.range((ballot, 0)..=(ballot, u32::MAX)) {

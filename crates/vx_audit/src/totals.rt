@@ -25,7 +25,12 @@ fn tally_of(alloc: Global, records: &[CvrRecord]) -> Result<Tally, OutOfMemory>
 }
 
 /// Adds the line of a selection.
-fn push_total(text: &mut String, contest: &str, selection: &str, votes: u64) -> Result<(), OutOfMemory>
+fn push_total(
+    text: &mut String,
+    contest: &str,
+    selection: &str,
+    votes: u64,
+) -> Result<(), OutOfMemory>
     ensures { OnOk result (string_bytes text.new ≡ string_bytes text.old
         ++ lines.total_line contest.now selection.now votes) }
 {

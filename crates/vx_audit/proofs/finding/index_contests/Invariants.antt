@@ -1,4 +1,4 @@
-use Rattle.std.proofs.Common.{◌≡◌, ◌+◌, ◌*◌, ◌<◌, ◌≤◌, ◌++◌, ◌==◌, ℕ, Bool, true, false, [], List, None, Some, length, map, take, drop, slice_index_or, get_or}
+use Rattle.std.proofs.Common.{◌≡◌, ℕ, List, take}
 use Rattle.vx_audit.specs.Finding.{place_of}
 use Rattle.vx_audit.specs.Hand.{contest_with}
 use Rattle.vx_audit.proofs.finding.index_contests.Given as goal

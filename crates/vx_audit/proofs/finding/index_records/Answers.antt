@@ -1,4 +1,4 @@
-use Rattle.std.proofs.Common.{◌≡◌, ◌∙◌, ap, sym, refl, List, ℕ}
+use Rattle.std.proofs.Common.{◌∙◌, ap, sym, refl, List, ℕ}
 use Rattle.std.specs.Prelude.{bytes_eq}
 use Rattle.vx_tally.specs.declared.report.CvrRecord.{CvrRecord}
 use Rattle.vx_audit.specs.Finding.{place_of, placed}

@@ -1,4 +1,4 @@
-use Rattle.std.proofs.Common.{◌≡◌, ◌∙◌, ap, sym}
+use Rattle.std.proofs.Common.{sym}
 use Rattle.vx_audit.proofs.Feeds.{last-line, no-feed, fed-line}
 use Rattle.vx_audit.proofs.lines.first_line.Goals as goal
 

@@ -1,4 +1,4 @@
-use Rattle.std.proofs.Common.{◌≡◌, ◌∙◌, ap, sym, List, ℕ, length}
+use Rattle.std.proofs.Common.{◌∙◌, ap, sym, List, ℕ, length}
 use Rattle.std.proofs.lemmas.List.{nil_from_length}
 use Rattle.vx_base.proofs.Numbers.{equal-from_yes}
 use Rattle.vx_audit.specs.Hand.{hand_of, hand_behind, lines_of}

@@ -1,4 +1,4 @@
-use Rattle.std.proofs.Common.{◌≡◌, ◌+◌, ◌*◌, ◌<◌, ◌≤◌, ◌++◌, ◌==◌, ℕ, Bool, true, false, [], List, None, Some, length, map, take, drop, slice_index_or, get_or}
+use Rattle.std.proofs.Common.{◌≡◌, ◌+◌, ◌≤◌, [], length}
 use Rattle.vx_audit.specs.Hand.{hand_behind, lines_of}
 use Rattle.vx_audit.proofs.lines.read_hand.Given as goal
 

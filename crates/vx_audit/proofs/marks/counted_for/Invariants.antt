@@ -1,4 +1,4 @@
-use Rattle.std.proofs.Common.{◌≡◌, ◌+◌, ◌*◌, ◌<◌, ◌≤◌, ◌++◌, ◌==◌, ℕ, Bool, true, false, [], List, None, Some, length, map, take, drop, slice_index_or, get_or}
+use Rattle.std.proofs.Common.{◌≡◌, ◌==◌, drop}
 use Rattle.std.specs.List.{find}
 use Rattle.vx_tally.specs.declared.report.RecordContest.{RecordContest}
 use Rattle.vx_audit.proofs.marks.counted_for.Given as goal

@@ -1,6 +1,6 @@
 use Rattle.std.proofs.Common.{◌≡◌, ◌∙◌, ap, sym, get_or, false, subst, Bool, List, ℕ, Some, None, take, ◌+◌}
 use Rattle.std.specs.Prelude.{string_bytes, option_copied, slice_get}
-use Rattle.vx_audit.proofs.Joined.{IsJoined, id-joined, none-joined, some-all, none-all}
+use Rattle.vx_audit.proofs.Joined.{IsJoined, id-joined, none-joined}
 use Rattle.vx_audit.proofs.marks.listed_text.Goals.{in-Some+in_ok-push_word, in_default}
 use Rattle.vx_audit.proofs.marks.listed_text.Goals as goal
 

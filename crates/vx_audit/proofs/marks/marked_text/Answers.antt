@@ -1,6 +1,6 @@
 use Rattle.std.proofs.Common.{◌≡◌, ◌∙◌, ap, subst, List, ℕ}
 use Rattle.vx_audit.specs.Ascending.{IsAscending, ids_at}
-use Rattle.vx_audit.specs.Pairs.{listed, marked_text}
+use Rattle.vx_audit.specs.Pairs.{listed}
 use Rattle.std.specs.Prelude.{string_bytes}
 use Rattle.vx_audit.proofs.Marked.{all-marked}
 use Rattle.vx_audit.proofs.marks.marked_text.Goals as goal

@@ -1,4 +1,4 @@
-use Rattle.std.proofs.Common.{◌≡◌, ◌+◌, ◌*◌, ◌<◌, ◌≤◌, ◌++◌, ◌==◌, ℕ, Bool, true, false, [], List, None, Some, length, map, take, drop, slice_index_or, get_or}
+use Rattle.std.proofs.Common.{◌≡◌, [], length}
 use Rattle.vx_audit.specs.Hand.{marks_behind}
 use Rattle.vx_audit.proofs.naming.marks_behind.Given as goal
 

@@ -1,4 +1,4 @@
-use Rattle.std.proofs.Common.{◌≡◌, ◌∙◌, ap, sym, subst, Option, ℕ, length, ◌<◌, arith}
+use Rattle.std.proofs.Common.{◌∙◌, sym, subst, Option, ℕ, length, ◌<◌, arith}
 use Rattle.std.specs.Prelude.{IfSome, bytes_eq}
 use Rattle.vx_tally.specs.declared.report.ReportContest.{ReportContest}
 use Rattle.vx_audit.proofs.Feeds.{position-within}

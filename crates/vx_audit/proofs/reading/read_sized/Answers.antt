@@ -1,9 +1,7 @@
-use Rattle.std.proofs.Common.{Ok, Result, ap, sym, ◌∙◌}
-use Rattle.std.specs.Prelude.{IfOk}
+use Rattle.std.proofs.Common.{Ok}
 use Rattle.vx_base.proofs.Results.{Gives-holds}
 use Rattle.vx_tally.specs.Faults.{is_no_memory}
-use Rattle.vx_audit.specs.Sized.{IsSized}
-use Rattle.vx_audit.proofs.Lengths.{HasShortLists, report_short}
+use Rattle.vx_audit.proofs.Lengths.{report_short}
 use Rattle.vx_audit.proofs.reading.read_sized.Goals as goal
 
 pub returns-clause-sized : goal.returns-clause-sized

@@ -1,4 +1,4 @@
-use Rattle.std.proofs.Common.{◌≡◌, ◌∙◌, ap, sym, subst, List, ℕ, Bool, length, arith, ◌+◌}
+use Rattle.std.proofs.Common.{◌≡◌, ◌∙◌, ap, sym, subst, arith, ◌+◌}
 use Rattle.std.specs.Prelude.{All, filter, ◌<◌}
 use Rattle.std.specs.List.{range_with_len}
 use Rattle.vx_audit.specs.Sample.{sample_of, is_drawn, where_held}

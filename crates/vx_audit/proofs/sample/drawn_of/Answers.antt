@@ -1,4 +1,4 @@
-use Rattle.std.proofs.Common.{◌∙◌, ap, sym, length, arith, length-set}
+use Rattle.std.proofs.Common.{◌∙◌, length-set}
 use Rattle.std.specs.Prelude.{◌%◌}
 use Rattle.std.proofs.lemmas.Nat.{mod_below}
 use Rattle.vx_audit.proofs.Drawn.{one-drawn}

@@ -1,4 +1,4 @@
-use Rattle.std.proofs.Common.{◌≡◌, ◌∙◌, ap, sym, subst, List, ℕ, ◌++◌, ◌+◌, ◌∷◌, [], take, get_or, false, append-nil}
+use Rattle.std.proofs.Common.{◌∙◌, ap, sym, List, ℕ, ◌++◌, ◌∷◌, [], take, get_or, false, append-nil}
 use Rattle.std.proofs.lemmas.List.{get_or_default}
 use Rattle.vx_audit.specs.Sample.{where_held}
 use Rattle.vx_audit.specs.Walk.{by_place}

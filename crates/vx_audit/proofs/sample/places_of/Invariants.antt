@@ -1,4 +1,4 @@
-use Rattle.std.proofs.Common.{◌≡◌, ◌+◌, ◌*◌, ◌<◌, ◌≤◌, ◌++◌, ◌==◌, ℕ, Bool, true, false, [], List, None, Some, length, map, take, drop, slice_index_or, get_or}
+use Rattle.std.proofs.Common.{◌≡◌, take}
 use Rattle.vx_audit.specs.Sample.{where_held}
 use Rattle.vx_audit.specs.Walk.{by_place}
 use Rattle.vx_audit.proofs.sample.places_of.Given as goal

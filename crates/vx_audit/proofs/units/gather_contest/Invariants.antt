@@ -1,4 +1,4 @@
-use Rattle.std.proofs.Common.{◌≡◌, ◌+◌, ◌*◌, ◌<◌, ◌≤◌, ◌++◌, ◌==◌, ℕ, Bool, true, false, [], List, None, Some, length, map, take, drop, slice_index_or, get_or}
+use Rattle.std.proofs.Common.{◌≡◌, ◌++◌, map, take}
 use Rattle.vx_tally.specs.Totals.{row_of}
 use Rattle.vx_audit.specs.Cells.{cell_of}
 use Rattle.vx_audit.proofs.units.gather_contest.Given as goal

@@ -1,4 +1,4 @@
-use Rattle.std.proofs.Common.{◌≡◌, ◌∙◌, ap, List, ℕ, subst}
+use Rattle.std.proofs.Common.{◌∙◌, ap, List, subst}
 use Rattle.std.specs.List.{flat_map}
 use Rattle.vx_audit.specs.Found.{Finds, pair_lines}
 use Rattle.vx_audit.specs.Pairs.{Pair, pairs_at_place}

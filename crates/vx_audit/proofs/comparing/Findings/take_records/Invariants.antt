@@ -1,4 +1,4 @@
-use Rattle.std.proofs.Common.{◌≡◌, ◌+◌, ◌*◌, ◌<◌, ◌≤◌, ◌++◌, ◌==◌, ℕ, Bool, true, false, [], List, None, Some, length, map, take, drop, slice_index_or, get_or}
+use Rattle.std.proofs.Common.{take}
 use Rattle.std.specs.Prelude.{slice_get}
 use Rattle.std.specs.List.{flat_map}
 use Rattle.vx_audit.specs.Audit.{record_lines, all_pairs}

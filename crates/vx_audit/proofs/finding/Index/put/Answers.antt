@@ -1,5 +1,5 @@
-use Rattle.std.proofs.Common.{◌≡◌, ◌∙◌, ap, sym, List, ℕ, ◌++◌, ◌∷◌, [], None}
-use Rattle.std.specs.Prelude.{bytes_eq, string_bytes, String}
+use Rattle.std.proofs.Common.{◌≡◌, ◌∙◌, ap, sym, List, ℕ}
+use Rattle.std.specs.Prelude.{bytes_eq, string_bytes}
 use Rattle.std.specs.Map.{lookup}
 use Rattle.std.specs.String.{string_eq}
 use Rattle.indexmap.specs.IndexMap.{get_by}

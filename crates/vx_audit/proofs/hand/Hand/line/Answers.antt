@@ -1,11 +1,10 @@
-use Rattle.std.proofs.Common.{◌≡◌, ◌∙◌, ap, sym, List, Some, ℕ, ◌<◌, length, arith, rules}
+use Rattle.std.proofs.Common.{◌≡◌, ◌∙◌, ap, sym, List, Some, ℕ, ◌<◌, length, arith}
 use Rattle.std.specs.Prelude.{slice_get}
 use Rattle.std.proofs.lemmas.Option.{slice_get-get_or}
 use Rattle.vx_audit.specs.declared.hand.HandLine.{HandLine}
 use Rattle.vx_audit.specs.Hand.{is_for}
 use Rattle.vx_audit.specs.Pairs.{line_for}
 use Rattle.vx_audit.proofs.LinePlaces.{none-position, at-position}
-
 use Rattle.vx_audit.proofs.hand.Hand.line.Goals as goal
 
 pub index-requires : goal.index-requires

@@ -1,6 +1,5 @@
-use Rattle.std.proofs.Common.{◌≡◌, ◌∙◌, ap, sym, subst, List, ◌++◌, ◌∷◌, [], length, arith, rules}
+use Rattle.std.proofs.Common.{◌≡◌, ◌∙◌, ap, subst, List, ◌++◌, ◌∷◌, [], length, rules}
 use Rattle.std.specs.List.{list_any}
-use Rattle.std.proofs.lemmas.Grind.{common_steps}
 use Rattle.vx_audit.specs.declared.hand.HandLine.{HandLine}
 use Rattle.vx_audit.specs.Hand.{is_for}
 use Rattle.vx_audit.specs.Places.{AreFound}

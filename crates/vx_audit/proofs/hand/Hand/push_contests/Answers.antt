@@ -11,7 +11,6 @@ use Rattle.vx_audit.proofs.hand.Hand.push_contests.Goals as goal
 abbrev contest_of : (ℕ × ℕ) × ℕ → ℕ
 contest_of entry = entry.0.1
 
-
 pub returns : goal.returns
 returns c =
     let lines = c.self.inside.lines.items in

@@ -1,7 +1,4 @@
-use Rattle.std.proofs.Common.{◌≡◌, ◌++◌, ℕ, List, map}
-use Rattle.std.specs.declared.ops.Bound.TheVariants.{Included}
-use Rattle.std.specs.BTreeMap.Range.{entries_between}
-use Rattle.vx_audit.specs.Places.{key_cmp}
+use Rattle.std.proofs.Common.{◌≡◌, ◌++◌, ℕ, map}
 use Rattle.vx_audit.proofs.hand.Hand.push_contests.Given as goal
 
 abbrev pub invariant-loop-key : goal.invariant-loop-key

@@ -1,4 +1,4 @@
-use Rattle.std.proofs.Common.{◌≡◌, ◌∙◌, ap, sym, List, ℕ, []}
+use Rattle.std.proofs.Common.{◌∙◌, ap, sym, []}
 use Rattle.std.specs.Prelude.{if◌then◌else◌}
 use Rattle.vx_audit.specs.Hand.{is_dash, words_of}
 use Rattle.vx_audit.proofs.Blanks.{dash-alone}

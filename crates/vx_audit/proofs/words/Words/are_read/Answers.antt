@@ -1,4 +1,4 @@
-use Rattle.std.proofs.Common.{◌≡◌, ◌∙◌, ap, sym, List, ℕ, ◌==◌, length}
+use Rattle.std.proofs.Common.{◌∙◌, ap, List, ℕ, ◌==◌, length}
 use Rattle.vx_audit.proofs.Blanks.{read-where-ended}
 use Rattle.vx_audit.proofs.words.Words.are_read.Goals as goal
 

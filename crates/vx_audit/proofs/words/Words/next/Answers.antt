@@ -1,4 +1,4 @@
-use Rattle.std.proofs.Common.{◌≡◌, ◌∙◌, ap, ap₂, sym, List, ℕ, [], ◌∷◌, ◌==◌, ◌<◌, arith}
+use Rattle.std.proofs.Common.{◌∙◌, ap, ap₂, sym, List, ℕ, [], ◌∷◌, ◌==◌, arith}
 use Rattle.std.specs.Prelude.{if◌then◌else◌}
 use Rattle.std.proofs.lemmas.List.Splits.{slice_split_first}
 use Rattle.std.proofs.lemmas.Option.{MatchOption-at_none, MatchOption-at_some}
