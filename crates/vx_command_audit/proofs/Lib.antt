@@ -1,1 +1,2 @@
-mod Acts
+pub mod Acts
+pub mod Spelled

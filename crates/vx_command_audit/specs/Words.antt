@@ -31,15 +31,23 @@ pub record SpellsTotals (words : List (List ℕ)) (report : List ℕ) : Type 0 w
   pub words_are : words ≡ codes "totals" ∷ report ∷ []
   pub is_argument : IsArgument report
 
--- `audit REPORT SEED SIZE HAND`
-pub record SpellsAudit (words : List (List ℕ)) (report seed : List ℕ) (size : ℕ) (hand : List ℕ) : Type 0 where
+-- five words, `audit` in front, the second and the last of which may be arguments
+pub record HasAuditForm (words : List (List ℕ)) : Type 0 where
+  pub report : List ℕ
   pub seed_word : List ℕ
   pub size_word : List ℕ
+  pub hand : List ℕ
   pub words_are : words ≡ codes "audit" ∷ report ∷ seed_word ∷ size_word ∷ hand ∷ []
   pub is_argument : IsArgument report
-  pub is_seed : IsSeed seed_word seed
-  pub is_size : IsSize size_word size
   pub hand_is_argument : IsArgument hand
+
+-- `audit REPORT SEED SIZE HAND`
+pub record SpellsAudit (words : List (List ℕ)) (report seed : List ℕ) (size : ℕ) (hand : List ℕ) : Type 0 where
+  pub form : HasAuditForm words
+  pub report_is : form.report ≡ report
+  pub is_seed : IsSeed form.seed_word seed
+  pub is_size : IsSize form.size_word size
+  pub hand_is : form.hand ≡ hand
 
 -- the words ask for that
 abbrev pub Asks : List (List ℕ) → Asked → Type 0

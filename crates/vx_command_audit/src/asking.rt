@@ -1,7 +1,7 @@
-ghost use Rattle.std.specs.Prelude.{◌≡◌, ◌<◌, ◌≤◌, ◌×◌, ◌↔◌, ℕ, List, IsTrue, MatchOption, length, slice_get};
+ghost use Rattle.std.specs.Prelude.{◌≡◌, ◌↔◌, ℕ, List, IsTrue, MatchBool, MatchOption};
 ghost use Rattle.std.specs.List.{list_all};
 ghost use Rattle.vx_words.specs.Words.{IsArgument};
-ghost use Rattle.vx_command_audit.specs.Words.{IsSeed, IsSize, SpellsAudit, SpellsTotals, is_lower_digit};
+ghost use Rattle.vx_command_audit.specs.Words.{HasAuditForm, IsSeed, IsSize, SpellsTotals, is_lower_digit};
 
 use hex::FromHex;
 use vx_base::read_number;
@@ -33,7 +33,7 @@ fn are_lower_digits(word: &[u8]) -> bool
 }
 
 /// The seed that a word spells: 64 hexadecimal digits, in lower case.
-fn seed_of(word: &str) -> Option<[u8; 32]>
+pub(crate) fn seed_of(word: &str) -> Option<[u8; 32]>
     ensures { MatchOption result ((seed : List ℕ) → IsSeed word.now seed → ⊥) (λ seed. IsSeed word.now seed) }
 {
     if !are_lower_digits(word.as_bytes()) {
@@ -46,37 +46,45 @@ fn seed_of(word: &str) -> Option<[u8; 32]>
 }
 
 /// How many words are drawn: 1 to 10,000.
-fn size_of(word: &str) -> Option<u32>
+#[tactic(auto, using(std::proofs::lemmas::Fmt::decimal_injective))]
+pub(crate) fn size_of(word: &str) -> Option<u32>
     ensures { MatchOption result ((size : ℕ) → IsSize word.now size → ⊥) (λ size. IsSize word.now size) }
 {
     match read_number(word, MOST_WORDS) {
         None => None,
-        Some(0) => None,
-        Some(size) => Some(size),
+        Some(size) => { if size == 0 { None } else { Some(size) } }
     }
 }
 
-/// Whether the words are a `totals`.
-pub(crate) fn is_totals(words: &Words) -> bool
-    ensures told { IsTrue result → (report : List ℕ) × SpellsTotals words.now report }
-    ensures none { result ≡ false → (report : List ℕ) → SpellsTotals words.now report → ⊥ }
+/// The report of a `totals`, if the words are one.
+pub(crate) fn totals_in(words: &Words) -> Option<&str>
+    ensures { MatchOption result ((report : List ℕ) → SpellsTotals words.now report → ⊥)
+        (λ report. SpellsTotals words.now report.now) }
 {
-    words.count() == 2 && words.word(0) == "totals" && is_argument(words.word(1))
+    if words.count() != 2 {
+        return None;
+    }
+    if words.word(0) != "totals" {
+        return None;
+    }
+    if !is_argument(words.word(1)) {
+        return None;
+    }
+    Some(words.word(1))
 }
 
-/// The seed and the size of an `audit`, if the words are one.
-pub(crate) fn audit_in(words: &Words) -> Option<([u8; 32], u32)>
-    ensures { MatchOption result
-        ((report seed : List ℕ) (size : ℕ) (hand : List ℕ) → SpellsAudit words.now report seed size hand → ⊥)
-        (λ drawn. (report hand : List ℕ) × SpellsAudit words.now report drawn.0 drawn.1 hand) }
+/// Whether the words are as many as those of an `audit`, with its name in front, and name a report and what hands read.
+pub(crate) fn is_audit_form(words: &Words) -> bool
+    ensures { MatchBool result (HasAuditForm words.now) (HasAuditForm words.now → ⊥) }
 {
-    if words.count() != 5 || words.word(0) != "audit" {
-        return None;
+    if words.count() != 5 {
+        return false;
     }
-    if !is_argument(words.word(1)) || !is_argument(words.word(4)) {
-        return None;
+    if words.word(0) != "audit" {
+        return false;
     }
-    let seed = seed_of(words.word(2))?;
-    let size = size_of(words.word(3))?;
-    Some((seed, size))
+    if !is_argument(words.word(1)) {
+        return false;
+    }
+    is_argument(words.word(4))
 }

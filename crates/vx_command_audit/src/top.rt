@@ -7,7 +7,7 @@ ghost use Rattle.vx_command_audit.specs.Outcome.{asked_outcome};
 ghost use Rattle.vx_command_audit.specs.Status.{answer_of};
 ghost use Rattle.vx_command_audit.specs.Words.{Asked, Audit, Totals, Asks, AsksNothing};
 
-use crate::asking::{audit_in, is_totals};
+use crate::asking::{is_audit_form, seed_of, size_of, totals_in};
 use crate::status::AuditStatus;
 use crate::taking::{take_hand, take_report};
 use crate::writing::{write_audit, write_totals};
@@ -79,11 +79,17 @@ pub fn run_audit<I: Inputs, S: Sink>(
         (I.faults inputs.old) (I.faults inputs.new) (answer_of result) }
     ensures sink { LeavesSink (S.faults out.old) (S.faults out.new) (answer_of result) }
 {
-    if is_totals(words) {
-        return totals(alloc, words.word(1), inputs, out);
+    if let Some(report) = totals_in(words) {
+        return totals(alloc, report, inputs, out);
     }
-    match audit_in(words) {
-        None => AuditStatus::Usage,
-        Some((seed, size)) => audit(alloc, words.word(1), seed, size, words.word(4), inputs, out),
+    if !is_audit_form(words) {
+        return AuditStatus::Usage;
     }
+    let Some(seed) = seed_of(words.word(2)) else {
+        return AuditStatus::Usage;
+    };
+    let Some(size) = size_of(words.word(3)) else {
+        return AuditStatus::Usage;
+    };
+    audit(alloc, words.word(1), seed, size, words.word(4), inputs, out)
 }
