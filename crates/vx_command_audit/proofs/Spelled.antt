@@ -1,6 +1,7 @@
 -- Words that ask for totals or an audit ask for one thing alone.
-use Rattle.std.proofs.Common.{◌≡◌, ℕ, zero, suc, ◌+◌, ◌<◌, ◌≤◌, ◌^◌, List, [], ◌∷◌, length, Option, Some, None, Result, Ok, Err, refl, ap, sym, subst, ◌∙◌, arith}
-use Rattle.std.specs.Prelude.{codes, slice_get}
+use Rattle.std.proofs.Common.{◌≡◌, ℕ, Bool, true, false, zero, suc, ◌+◌, ◌<◌, ◌≤◌, ◌^◌, List, [], ◌∷◌, length, Option, Some, None, Result, Ok, Err, refl, ap, sym, subst, ◌∙◌, arith}
+use Rattle.std.specs.Prelude.{codes, slice_get, MatchBool}
+use Rattle.std.proofs.lemmas.Bool.{false≢true}
 use Rattle.std.proofs.lemmas.Fmt.{decimal_injective}
 use Rattle.vx_words.specs.Words.{IsArgument}
 use Rattle.vx_command_audit.specs.Words.{Asked, Totals, Audit, Asks, AsksNothing, HasAuditForm, IsSeed, IsSize, SpellsAudit, SpellsTotals}
@@ -74,8 +75,17 @@ pub form-word : (words : List (List ℕ)) (form : HasAuditForm words) (n : ℕ) 
     → slice_get (codes "audit" ∷ form.report ∷ form.seed_word ∷ form.size_word ∷ form.hand ∷ []) n ≡ Some word
 form-word words form n word is = ap (λ (all : List (List ℕ)). slice_get all n) (sym form.words_are) ∙ is
 
-same-some : (a b : List ℕ) → ◌≡◌ {A = Option (List ℕ)} (Some a) (Some b) → a ≡ b
+pub same-some : (a b : List ℕ) → ◌≡◌ {A = Option (List ℕ)} (Some a) (Some b) → a ≡ b
 same-some a b e = cc
+
+-- whether they have it is told by the last word, where all before it are so
+pub form-told : (words : List (List ℕ)) (name report hand : List ℕ) → length words ≡ 5 → slice_get words 0 ≡ Some name → slice_get words 1 ≡ Some report
+    → slice_get words 4 ≡ Some hand → name ≡ codes "audit" → IsArgument report → (b : Bool) → (b ≡ true → IsArgument hand) → (IsArgument hand → b ≡ true)
+    → MatchBool b (HasAuditForm words) (HasAuditForm words → ⊥)
+form-told words name report hand n first second last is argument true told back =
+    has-form words name report hand n first second last is argument (told refl)
+form-told words name report hand n first second last is argument false told back = λ form.
+    false≢true (back (subst IsArgument (same-some form.hand hand (form-word words form 4 hand last)) form.hand_is_argument))
 
 module _ (words : List (List ℕ)) (report seed_word size_word hand : List ℕ) (second : slice_get words 1 ≡ Some report)
     (third : slice_get words 2 ≡ Some seed_word) (fourth : slice_get words 3 ≡ Some size_word) (last : slice_get words 4 ≡ Some hand) where
