@@ -10,6 +10,7 @@ use std::thread::Threads;
 use std::{env, fmt, fs};
 use vx_app::{arguments_status, command_words, is_center, run, run_center};
 use vx_command::{Halt, Message, Status};
+use vx_command_audit::{AuditMessage, AuditStatus, run_audit};
 use vx_command_gray::{GrayMessage, GrayStatus, run_gray};
 use vx_command_ranked::{RankedMessage, RankedStatus, run_ranked};
 use vx_io::{Inputs, Keeper, KeeperCalls, MemKeeper, Records, Sink, StdInputs, StdSink, Words};
@@ -111,6 +112,7 @@ enum Ending {
     Command(Status),
     Gray(GrayStatus),
     Ranked(RankedStatus),
+    Audit(AuditStatus),
 }
 
 /// Whether the words begin with this command's name.
@@ -123,6 +125,13 @@ fn make_bitmaps(rt: &HostRuntime, words: &Words) -> GrayStatus {
     let mut inputs = StdInputs::new(rt);
     let mut out = StdSink::new(rt);
     run_gray(rt.alloc(), words, &mut inputs, &mut out)
+}
+
+/// Sums a report, or compares a sample of it with what hands read; the journal has no part in it.
+fn audit(rt: &HostRuntime, words: &Words) -> AuditStatus {
+    let mut inputs = StdInputs::new(rt);
+    let mut out = StdSink::new(rt);
+    run_audit(rt.alloc(), words, &mut inputs, &mut out)
 }
 
 /// Counts the ranked contests of the journal with this name, or of one in memory.
@@ -147,6 +156,8 @@ fn answer<R: Threads + Wait + Sync>(rt: &HostRuntime, threads: &R) -> Result<End
         [_program, _journal, ..] if begins_with(&words, "gray") => {
             Ok(Ending::Gray(make_bitmaps(rt, &words)))
         }
+        [_program, _journal, ..] if begins_with(&words, "totals") || begins_with(&words, "audit") =>
+            { Ok(Ending::Audit(audit(rt, &words))) }
         [_program, journal, ..] if begins_with(&words, "ranked") => {
             Ok(Ending::Ranked(rank_with(rt, journal.as_str(), &words)))
         }
@@ -169,6 +180,7 @@ fn main(rt: HostRuntime) -> ExitCode {
         Ok(Ending::Command(status)) => end(&rt, &Message(&status), status.number()),
         Ok(Ending::Gray(status)) => end(&rt, &GrayMessage(&status), status.number()),
         Ok(Ending::Ranked(status)) => end(&rt, &RankedMessage(&status), status.number()),
+        Ok(Ending::Audit(status)) => end(&rt, &AuditMessage(&status), status.number()),
         Err(status) => end(&rt, &Message(&status), status.number()),
     }
 }

@@ -1,0 +1,14 @@
+pub mod Filters
+pub mod Sparse
+pub mod Gathered
+pub mod Marked
+pub mod Lengths
+pub mod Walked
+pub mod InOrder
+pub mod Joined
+pub mod LinePlaces
+pub mod Indexed
+pub mod Drawn
+pub mod Blanks
+pub mod Looked
+pub mod Feeds

@@ -1,0 +1,12 @@
+pub mod Walk
+pub mod Sized
+pub mod Totals
+pub mod Sample
+pub mod Hand
+pub mod Finding
+pub mod Pairs
+pub mod Audit
+pub mod Found
+pub mod Ascending
+pub mod Cells
+pub mod Places

@@ -1,0 +1,84 @@
+//! The lines of what hands read.
+
+ghost use Rattle.std.specs.Prelude.{◌≡◌, ◌<◌, ◌≤◌, ◌∷◌, ◌==◌, ◌+◌, IfSome, OnOk, length};
+ghost use Rattle.std.specs.List.{position_from};
+ghost use Rattle.vx_base.specs.Refusals.{Gives, GivesAs};
+ghost use Rattle.vx_audit.specs.Finding.{Finds};
+ghost use Rattle.vx_audit.specs.Hand.{hand_of, is_no_memory, lines_of, with_line};
+ghost use Rattle.vx_audit.specs.Sized.{IsSized};
+
+use crate::finding::{Directory, directory_of};
+use crate::hand::{Hand, HandFault};
+use crate::naming::line_said;
+use std::alloc::Global;
+use vx_tally::Report;
+
+/// The place of the first line feed.
+fn line_feed(text: &[u8]) -> Option<usize>
+    ensures place { result ≡ position_from (λ b. b == 10) 0 text.now }
+    ensures within { IfSome result (λ at. at < length text.now) }
+{
+    for (at, byte) in text.iter().enumerate() {
+        if *byte == b'\n' {
+            return Some(at);
+        }
+    }
+    None
+}
+
+/// The first line, and what lies behind its line feed, if there is one.
+fn first_line(text: &[u8]) -> (&[u8], &[u8])
+    requires { 0 < length text.now }
+    ensures lines { lines_of text.now ≡ result.0.now ∷ lines_of result.1.now }
+    ensures shorter { length result.1.now < length text.now }
+{
+    match line_feed(text) {
+        None => (text, &text[text.len()..]),
+        Some(at) => (&text[..at], &text[at + 1..]),
+    }
+}
+
+/// Reads a line and puts it behind the others.
+fn take_line(
+    alloc: Global,
+    report: &Report,
+    directory: &Directory,
+    hand: &mut Hand,
+    line: &[u8],
+) -> Result<(), HandFault>
+    requires sized { IsSized report.now }
+    requires finds { Finds report.now directory.now }
+    requires few { length hand.old < 67108864 }
+    ensures exact { GivesAs (λ _. hand.new) is_no_memory result (with_line report.now hand.old line.now) }
+    ensures count { OnOk result (length hand.new ≡ length hand.old + 1) }
+{
+    let number = hand.len() as u32 + 1;
+    let Some(said) = line_said(alloc, report, directory, line)? else {
+        return Err(HandFault::BadLine(number));
+    };
+    if hand.has(said.ballot, said.contest) {
+        return Err(HandFault::BadLine(number));
+    }
+    hand.push(said)?;
+    Ok(())
+}
+
+/// What hands read of a report, or the first line that isn't one of the form `hand UNIQUE CONTEST SEL SEL`,
+/// names what the report hasn't, or repeats a contest of a ballot. Lines end with a line feed, which the last
+/// may lack.
+#[tactic(auto, unfolding(crate::specs::Hand::hand_of))]
+pub fn read_hand(alloc: Global, report: &Report, bytes: &[u8]) -> Result<Hand, HandFault>
+    requires sized { IsSized report.now }
+    requires few { length bytes.now ≤ 67108864 }
+    ensures { Gives is_no_memory result (hand_of report.now bytes.now) }
+{
+    let directory = directory_of(alloc, report)?;
+    let mut hand = Hand::new(alloc);
+    let mut text = bytes;
+    'lines: while !text.is_empty() {
+        let (line, behind) = first_line(text);
+        take_line(alloc, report, &directory, &mut hand, line)?;
+        text = behind;
+    }
+    Ok(hand)
+}

@@ -1,0 +1,15 @@
+use Rattle.vx_audit.specs.Totals.{totals_text}
+use Rattle.vx_command_audit.specs.Outcome.{asked_outcome, writes}
+use Rattle.vx_command_audit.specs.Words.{Totals}
+use Rattle.vx_command_audit.proofs.Acts.{comes_done}
+use Rattle.vx_command_audit.proofs.top.totals.Goals as goal
+
+pub returns-in-Ok-clause-done : goal.returns-in-Ok-clause-done
+returns-in-Ok-clause-done g c files told =
+    let taken = g.S.Sink.taken c.args.out.now in
+    comes_done (asked_outcome (Totals c.args.name.now) files) (writes (totals_text c.in-Ok.report)) taken (g.S.Sink.taken c.write_totals.new.out)
+    c.write_totals.result (c.in-Ok.ensures.done files told taken (λ given. writes (totals_text given))) c.write_totals.ensures.done
+
+pub returns-in-Err-clause-done : goal.returns-in-Err-clause-done
+returns-in-Err-clause-done g c files told =
+    c.in-Err.ensures.done files told (g.S.Sink.taken c.args.out.now) (λ given. writes (totals_text given))

@@ -1,0 +1,4 @@
+pub mod Done
+pub mod Outcome
+pub mod Status
+pub mod Words

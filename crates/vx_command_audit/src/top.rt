@@ -1,0 +1,95 @@
+ghost use Rattle.std.specs.Prelude.{◌≡◌, ◌≢◌, ◌↔◌, Some};
+ghost use Rattle.std.specs.Option.{ForSome};
+ghost use Rattle.vx_io.specs.Outside.{Files};
+ghost use Rattle.vx_command.specs.Devices.{LeavesInputs, LeavesSink};
+ghost use Rattle.vx_command_audit.specs.Done.{IsAuditDone};
+ghost use Rattle.vx_command_audit.specs.Outcome.{asked_outcome};
+ghost use Rattle.vx_command_audit.specs.Status.{answer_of};
+ghost use Rattle.vx_command_audit.specs.Words.{Asked, Audit, Totals, Asks, AsksNothing};
+
+use crate::asking::{is_audit_form, seed_of, size_of, totals_in};
+use crate::status::AuditStatus;
+use crate::taking::{take_hand, take_report};
+use crate::writing::{write_audit, write_totals};
+use std::alloc::Global;
+use vx_io::{Inputs, Sink, Words};
+
+/// Does the command `totals` of the report under a name.
+fn totals<I: Inputs, S: Sink>(alloc: Global, name: &str, inputs: &mut I, out: &mut S) -> AuditStatus
+    ensures done { ForSome (I.held inputs.old) (λ files.
+        IsAuditDone (asked_outcome (Totals name.now) files) (S.taken out.old) (S.taken out.new) result) }
+    ensures inputs { LeavesInputs (I.held inputs.old) (I.held inputs.new)
+        (I.faults inputs.old) (I.faults inputs.new) (answer_of result) }
+    ensures sink { LeavesSink (S.faults out.old) (S.faults out.new) (answer_of result) }
+    ensures no_usage { result ≢ AuditStatus.Usage }
+{
+    match take_report(alloc, name, inputs) {
+        Ok(report) => write_totals(alloc, &report, out),
+        Err(status) => status,
+    }
+}
+
+/// Does the command `audit` of the report and what hands read, under their names.
+fn audit<I: Inputs, S: Sink>(
+    alloc: Global,
+    name: &str,
+    seed: [u8; 32],
+    size: u32,
+    hand: &str,
+    inputs: &mut I,
+    out: &mut S,
+) -> AuditStatus
+    ensures done { ForSome (I.held inputs.old) (λ files.
+        IsAuditDone (asked_outcome (Audit name.now seed size hand.now) files)
+        (S.taken out.old) (S.taken out.new) result) }
+    ensures inputs { LeavesInputs (I.held inputs.old) (I.held inputs.new)
+        (I.faults inputs.old) (I.faults inputs.new) (answer_of result) }
+    ensures sink { LeavesSink (S.faults out.old) (S.faults out.new) (answer_of result) }
+    ensures no_usage { result ≢ AuditStatus.Usage }
+{
+    let report = match take_report(alloc, name, inputs) {
+        Ok(report) => report,
+        Err(status) => return status,
+    };
+    match take_hand(alloc, &report, hand, inputs) {
+        Ok(hand) => write_audit(alloc, &report, &hand, seed, size, out),
+        Err(status) => status,
+    }
+}
+
+/// Does the command `totals` or `audit`, whole: reads its words, takes and reads its inputs in their order, each
+/// before the next, and then writes its text.
+///
+/// Where the inputs tell what they hold, the acts of the outcome are done in order: all of them, and the
+/// status is the outcome's; or up to one at which a device failed, with that device's fault as the status, or
+/// before which memory ran out. A device's count of faults rises where the status is its fault, and stands
+/// still otherwise. Nothing is written before the last input is accepted.
+pub fn run_audit<I: Inputs, S: Sink>(
+    alloc: Global,
+    words: &Words,
+    inputs: &mut I,
+    out: &mut S,
+) -> AuditStatus
+    ensures usage { (result ≡ AuditStatus.Usage) ↔ AsksNothing words.now }
+    ensures done { (files : Files) → I.held inputs.old ≡ Some files →
+        (asked : Asked) → Asks words.now asked →
+        IsAuditDone (asked_outcome asked files) (S.taken out.old) (S.taken out.new) result }
+    ensures usage_writes_nothing { result ≡ AuditStatus.Usage → S.taken out.new ≡ S.taken out.old }
+    ensures inputs { LeavesInputs (I.held inputs.old) (I.held inputs.new)
+        (I.faults inputs.old) (I.faults inputs.new) (answer_of result) }
+    ensures sink { LeavesSink (S.faults out.old) (S.faults out.new) (answer_of result) }
+{
+    if let Some(report) = totals_in(words) {
+        return totals(alloc, report, inputs, out);
+    }
+    if !is_audit_form(words) {
+        return AuditStatus::Usage;
+    }
+    let Some(seed) = seed_of(words.word(2)) else {
+        return AuditStatus::Usage;
+    };
+    let Some(size) = size_of(words.word(3)) else {
+        return AuditStatus::Usage;
+    };
+    audit(alloc, words.word(1), seed, size, words.word(4), inputs, out)
+}
