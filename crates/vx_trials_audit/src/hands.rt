@@ -52,11 +52,7 @@ fn lines_are_read(rt: HostRuntime) -> Result<(), Fail> {
         let files = [("R", THREE), ("H", hand)];
         let line = ["audit", "R", NOUGHT, "1", "H"];
         let answer = attempt(rt.alloc(), &files, &line, Failing::NONE)?;
-        assert!(rt;
-            answer.status.as_str() == status,
-            "{status}: {}",
-            answer.status
-        );
+        assert!(rt; answer.status.as_str() == status, "{}", answer.status);
         assert!(rt;
             status == "ok" || answer.text.is_empty(),
             "nothing is written"

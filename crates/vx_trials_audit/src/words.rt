@@ -36,11 +36,7 @@ const LINES: [(&[&str], &str); 22] = [
 fn words_are_read(rt: HostRuntime) -> Result<(), Fail> {
     for (line, status) in LINES {
         let answer = attempt(rt.alloc(), &FILES, line, Failing::NONE)?;
-        assert!(rt;
-            answer.status.as_str() == status,
-            "{status}: {}",
-            answer.status
-        );
+        assert!(rt; answer.status.as_str() == status, "{}", answer.status);
     }
     Ok(())
 }
