@@ -7,8 +7,7 @@ use std::process::Abort;
 use std::sync::Wait;
 use std::test::Fail;
 use std::thread::Threads;
-use vx_town::{Answer, Failing};
-use vx_workers::OpenGate;
+use vx_town::{Answer, Failing, TrialGate};
 
 /// Words, the records before them, and how many calls of the inputs, the sink and the keeper are made.
 ///
@@ -69,13 +68,13 @@ fn each_fails<R: Threads + Wait + Sync + AllocGlobal + Abort>(
     calls: u64,
 ) -> Result<(), Fail> {
     let files = files_of(scan, b"");
-    let whole = center(rt, &files, before, words, Failing::NONE, &OpenGate)?;
+    let whole = center(rt, &files, before, words, Failing::NONE, &TrialGate::open())?;
     let (text, records) = (whole.text.as_slice(), &whole.records);
     for call in 1..calls.saturating_add(2) {
         for kept in [false, true] {
             let (one, keeps) = ([call], [(call, kept)]);
             let failing = failing_at(device, &one, &keeps);
-            let now = center(rt, &files, before, words, failing, &OpenGate)?;
+            let now = center(rt, &files, before, words, failing, &TrialGate::open())?;
             if call > calls {
                 assert_left(rt, &now, "ok", text, records, records.len(), words);
             } else {

@@ -2,7 +2,7 @@
 
 use crate::centers::{DEVICE, MOMENT, center};
 use std::test::Fail;
-use vx_town::{Crossing, Failing, TOWN, TOWN_HEADER};
+use vx_town::{Failing, TOWN, TOWN_HEADER, TrialGate};
 
 #[test]
 fn two_scripts_of_a_center_run_side_by_side(rt: HostRuntime) -> Result<(), Fail> {
@@ -11,7 +11,7 @@ fn two_scripts_of_a_center_run_side_by_side(rt: HostRuntime) -> Result<(), Fail>
         ("a", b"claim 1 b1 1\nrelease 1 b1 1\n"),
         ("b", b"claim 2 b1 1\nrelease 2 b1 1\n"),
     ];
-    let gate = Crossing::new();
+    let gate = TrialGate::crossing();
     let words = ["center", "e", MOMENT, DEVICE, "script:a", "script:b"];
     let answer = center(&rt, &files, &[], &words, Failing::NONE, &gate)?;
     assert_eq!(rt; answer.status.as_str(), "ok");

@@ -2,7 +2,6 @@
 //! events, each reply is the machine's, what is done is kept, and the report is what `export` writes behind it.
 
 use crate::centers::{DEVICE, MOMENT, ONE_SHEET, assert_left, center, files_of, make_scan};
-use crate::gates::ShutGate;
 use std::alloc::Global;
 use std::process::Abort;
 use std::test::Fail;
@@ -11,8 +10,7 @@ use vx_center::{Center, Reply};
 use vx_election::read_election;
 use vx_io::Records;
 use vx_records::decode;
-use vx_town::{Answer, Failing, Held, TOWN, TOWN_HEADER, attempt, records_of};
-use vx_workers::OpenGate;
+use vx_town::{Answer, Failing, Held, TOWN, TOWN_HEADER, TrialGate, attempt, records_of};
 
 const WORDS: &[&str] = &[
     "center",
@@ -162,9 +160,23 @@ fn a_history_interleaves_a_scan_and_two_scripts(rt: HostRuntime) -> Result<(), F
     let files = files_of(scan.as_slice(), b"");
     let journals: [&[&str]; 2] = [&[], ONE_SHEET];
     for before in journals {
-        let answer = center(&rt, &files, before, WORDS, Failing::NONE, &OpenGate)?;
+        let answer = center(
+            &rt,
+            &files,
+            before,
+            WORDS,
+            Failing::NONE,
+            &TrialGate::open(),
+        )?;
         assert_center(&rt, &files, before, &answer)?;
-        let through = center(&rt, &files, before, WORDS, Failing::NONE, &ShutGate)?;
+        let through = center(
+            &rt,
+            &files,
+            before,
+            WORDS,
+            Failing::NONE,
+            &TrialGate::shut(),
+        )?;
         assert_center(&rt, &files, before, &through)?;
     }
     Ok(())

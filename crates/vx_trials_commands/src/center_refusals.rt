@@ -6,8 +6,7 @@ use std::process::Abort;
 use std::sync::Wait;
 use std::test::Fail;
 use std::thread::Threads;
-use vx_town::{Failing, records_of};
-use vx_workers::OpenGate;
+use vx_town::{Failing, TrialGate, records_of};
 
 /// A journal of another election.
 const OTHERS: &[&str] = &[
@@ -50,7 +49,7 @@ fn assert_refused<R: Threads + Wait + Sync + AllocGlobal + Abort>(
     status: &str,
 ) -> Result<(), Fail> {
     let files = files_of(b"", script);
-    let answer = center(rt, &files, before, words, Failing::NONE, &OpenGate)?;
+    let answer = center(rt, &files, before, words, Failing::NONE, &TrialGate::open())?;
     let records = records_of(rt.alloc(), before)?;
     assert_left(rt, &answer, status, b"", &records, before.len(), words);
     Ok(())

@@ -7,8 +7,9 @@ use std::test::Fail;
 use std::thread::Threads;
 use vx_app::run_center;
 use vx_io::Records;
-use vx_town::{Answer, Devices, Failing, Held, TOWN, TOWN_HEADER, answer_of, records_of, words_of};
-use vx_workers::Gate;
+use vx_town::{
+    Answer, Devices, Failing, Held, TOWN, TOWN_HEADER, TrialGate, answer_of, records_of, words_of,
+};
 
 pub(crate) const MOMENT: &str = "2024-11-06T08:00:00Z";
 
@@ -52,13 +53,13 @@ pub(crate) fn make_scan<R: Threads + Sync + AllocGlobal>(rt: &R) -> Result<Vec<u
 }
 
 /// Runs a `center` over files and records through a gate, while calls fail.
-pub(crate) fn center<R: Threads + Wait + Sync + AllocGlobal, G: Gate>(
+pub(crate) fn center<R: Threads + Wait + Sync + AllocGlobal>(
     rt: &R,
     files: &[(&str, &[u8])],
     before: &[&str],
     line: &[&str],
     failing: Failing<'_>,
-    gate: &G,
+    gate: &TrialGate,
 ) -> Result<Answer, Fail> {
     let alloc = rt.alloc();
     let words = words_of(alloc, line)?;

@@ -10,23 +10,35 @@ use vx_workers::*;
 /// The turns for which a gate holds an item, each of them one load.
 const TURNS: u32 = 100_000_000;
 
-/// Holds the items up to number `held` until `all` items have entered.
+/// Holds the items up to number `held` until `all` items have entered, and answers so of the others.
 #[derive(Drop)]
 struct Meeting {
     held: u32,
     all: u64,
+    answer: bool,
     entered: AtomicU64,
     is_spent: AtomicBool,
 }
 
 impl Meeting {
-    fn new(held: u32, all: u64) -> Self {
+    fn new(held: u32, all: u64, answer: bool) -> Self {
         Meeting {
             held,
             all,
+            answer,
             entered: AtomicU64::new(0),
             is_spent: AtomicBool::new(false),
         }
+    }
+
+    /// Lets everybody through.
+    fn open() -> Self {
+        Meeting::new(0, 0, true)
+    }
+
+    /// Never answers true.
+    fn shut() -> Self {
+        Meeting::new(0, 0, false)
     }
 
     /// Each item has entered once, and none was held for all its turns.
@@ -39,7 +51,7 @@ impl Gate for Meeting {
     fn enter(&self, call: u32) -> bool {
         self.entered.fetch_add(1, Ordering::SeqCst);
         if call > self.held {
-            return true;
+            return self.answer;
         }
         for _ in 0..TURNS {
             if self.entered.load(Ordering::SeqCst) >= self.all {
@@ -51,12 +63,12 @@ impl Gate for Meeting {
     }
 }
 
-fn squares<R: Threads + Sync, G: Gate>(
+fn squares<R: Threads + Sync>(
     rt: &R,
     alloc: Global,
     items: &[u32],
     workers: u32,
-    gate: &G,
+    gate: &Meeting,
 ) -> Result<Vec<u32>, OutOfMemory>
     requires some_worker { 0 < workers }
     requires few_workers { workers ≤ 64 }
@@ -69,16 +81,6 @@ fn squares<R: Threads + Sync, G: Gate>(
         ensures { IfOk result (λ answer. answer ≡ item.now * item.now) }
     { Ok(*item * *item) };
     map_tasks(rt, alloc, items, workers, gate, &task)
-}
-
-/// A gate that never answers true.
-#[derive(Clone, Copy, Debug)]
-struct ShutGate;
-
-impl Gate for ShutGate {
-    fn enter(&self, _call: u32) -> bool {
-        false
-    }
 }
 
 /// Sees whether a task begins before the one in front of it has ended, and which numbers come.
@@ -148,7 +150,7 @@ fn one_worker_does_one_item_at_a_time(rt: HostRuntime) -> Result<(), Fail> {
 #[test]
 fn a_gate_that_answers_false_changes_nothing(rt: HostRuntime) -> Result<(), Fail> {
     for workers in [1, 2, 7, 64] {
-        let answers = squares(&rt, rt.alloc(), &[1, 2, 3], workers, &ShutGate)?;
+        let answers = squares(&rt, rt.alloc(), &[1, 2, 3], workers, &Meeting::shut())?;
         assert_eq!(rt; answers.as_slice(), [1, 4, 9].as_slice());
     }
     Ok(())
@@ -157,17 +159,17 @@ fn a_gate_that_answers_false_changes_nothing(rt: HostRuntime) -> Result<(), Fail
 #[test]
 fn squares_of_three_and_of_none(rt: HostRuntime) -> Result<(), Fail> {
     for workers in [1, 2, 7, 64] {
-        let answers = squares(&rt, rt.alloc(), &[1, 2, 3], workers, &OpenGate)?;
+        let answers = squares(&rt, rt.alloc(), &[1, 2, 3], workers, &Meeting::open())?;
         assert_eq!(rt; answers.as_slice(), [1, 4, 9].as_slice());
     }
-    let none = squares(&rt, rt.alloc(), &[], 2, &OpenGate)?;
+    let none = squares(&rt, rt.alloc(), &[], 2, &Meeting::open())?;
     assert!(rt; none.is_empty());
     Ok(())
 }
 
 #[test]
 fn two_items_are_done_side_by_side(rt: HostRuntime) -> Result<(), Fail> {
-    let meeting = Meeting::new(2, 2);
+    let meeting = Meeting::new(2, 2, true);
     let answers = squares(&rt, rt.alloc(), &[5, 6], 2, &meeting)?;
     assert_eq!(rt; answers.as_slice(), [25, 36].as_slice());
     assert!(rt; meeting.is_met());
@@ -176,7 +178,7 @@ fn two_items_are_done_side_by_side(rt: HostRuntime) -> Result<(), Fail> {
 
 #[test]
 fn a_free_worker_takes_the_next_item(rt: HostRuntime) -> Result<(), Fail> {
-    let meeting = Meeting::new(1, 4);
+    let meeting = Meeting::new(1, 4, true);
     let answers = squares(&rt, rt.alloc(), &[5, 6, 7, 8], 2, &meeting)?;
     assert_eq!(rt; answers.as_slice(), [25, 36, 49, 64].as_slice());
     assert!(rt; meeting.is_met());
