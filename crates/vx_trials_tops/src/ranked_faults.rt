@@ -1,7 +1,7 @@
 //! Words that are no `ranked`, inputs that aren't there, journals that can't be read, and devices that fail.
 
-use crate::devices::{Failing, attempt, is_answer};
-use crate::elections::{AB, AB_HEADER, ABC_HEADER};
+use crate::devices::{Failing, is_answer, ranked};
+use crate::ranked_elections::{AB, AB_HEADER, ABC_HEADER};
 use std::test::*;
 
 const FILE: &str = r#"{"ranked":[{"id":"g","contests":["m1"]}]}"#;
@@ -28,8 +28,8 @@ fn words_are_read(rt: HostRuntime) -> Result<(), Fail> {
         (&["ranked", "E", "F"][..], "no input 2"),
         (&["ranked", "R", "E"][..], "election 2 title"),
     ] {
-        let answer = attempt(alloc, &files, &[], words, Failing::NONE)?;
-        assert!(rt; is_answer(&answer, status, ""), "{status}");
+        let answer = ranked(alloc, &files, &[], words, Failing::NONE)?;
+        assert!(rt; is_answer(&answer, status, b""), "{status}");
     }
     Ok(())
 }
@@ -52,8 +52,8 @@ fn journals_come_before_files(rt: HostRuntime) -> Result<(), Fail> {
     let files = [("E", AB.as_bytes()), ("R", b"".as_slice())];
     for (records, status) in JOURNALS {
         let line = ["ranked", "E", "R"];
-        let answer = attempt(alloc, &files, records, &line, Failing::NONE)?;
-        assert!(rt; is_answer(&answer, status, ""), "{status}");
+        let answer = ranked(alloc, &files, records, &line, Failing::NONE)?;
+        assert!(rt; is_answer(&answer, status, b""), "{status}");
         assert!(rt; answer.records == records.len(), "records");
     }
     Ok(())
@@ -85,8 +85,8 @@ fn failing_devices_are_told(rt: HostRuntime) -> Result<(), Fail> {
             room,
         };
         let line = ["ranked", "E", "R"];
-        let answer = attempt(alloc, &files, &[AB_HEADER, SHEET], &line, failing)?;
-        assert!(rt; is_answer(&answer, status, text), "{status}");
+        let answer = ranked(alloc, &files, &[AB_HEADER, SHEET], &line, failing)?;
+        assert!(rt; is_answer(&answer, status, text.as_bytes()), "{status}");
         assert!(rt; answer.records == 2, "records");
     }
     Ok(())

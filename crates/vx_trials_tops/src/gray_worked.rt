@@ -1,6 +1,6 @@
 //! Images that were worked by hand.
 
-use crate::devices::{Failing, attempt, is_answer};
+use crate::devices::{Failing, gray, is_answer};
 use std::test::*;
 
 /// The bytes of a scan, the status and the text of its `gray`.
@@ -26,7 +26,7 @@ const ROWS: [(&[u8], &str, &[u8]); 8] = [
 #[test]
 fn images_are_as_worked_by_hand(rt: HostRuntime) -> Result<(), Fail> {
     for (scan, status, text) in ROWS {
-        let answer = attempt(rt.alloc(), &[("A", scan)], &["gray", "A"], Failing::NONE)?;
+        let answer = gray(rt.alloc(), &[("A", scan)], &["gray", "A"], Failing::NONE)?;
         assert!(rt; is_answer(&answer, status, text), "{status}");
     }
     Ok(())

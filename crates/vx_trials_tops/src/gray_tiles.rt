@@ -1,6 +1,6 @@
 //! Lines of four tiles, the first of which is lighter than the others: that reaches its neighbour and no further.
 
-use crate::devices::{Answer, Failing, attempt, is_answer};
+use crate::devices::{Answer, Failing, gray, is_answer};
 use std::alloc::{AllocError, Global};
 use std::test::*;
 use vx_base::Bytes;
@@ -11,7 +11,7 @@ fn of_line(alloc: Global, header: &[u8]) -> Result<Answer, AllocError> {
     values[0] = 200;
     let mut scan = Bytes::from_slice(alloc, header)?;
     scan.extend_from_slice(&values)?;
-    attempt(
+    gray(
         alloc,
         &[("A", scan.as_slice())],
         &["gray", "A"],

@@ -1,11 +1,13 @@
-//! A `ranked` over devices in memory.
+//! The top calls beside `run` over devices in memory.
 
 use std::alloc::{AllocError, Global};
 use vx_base::{Bytes, ListOf};
+use vx_command_audit::run_audit;
+use vx_command_gray::run_gray;
 use vx_command_ranked::run_ranked;
 use vx_io::{MemInputs, MemKeeper, MemSink, NamedBytes, Records, Words};
 
-/// What a `ranked` answered, what the sink had taken, and how many records the keeper held.
+/// What a command answered, what the sink had taken, and how many records the keeper held.
 #[derive(Drop)]
 pub struct Answer {
     pub status: String,
@@ -66,7 +68,7 @@ fn words_of(alloc: Global, line: &[&str]) -> Result<Words, AllocError> {
     Ok(words)
 }
 
-/// The devices of a `ranked`.
+/// The devices of a command.
 #[derive(Drop)]
 struct Devices {
     inputs: MemInputs,
@@ -88,7 +90,7 @@ fn devices_of(
     })
 }
 
-/// What a `ranked` answered that ended so and left its devices so.
+/// What a command answered that ended so and left its devices so.
 fn answer_of(alloc: Global, status: String, devices: &Devices) -> Result<Answer, AllocError> {
     Ok(Answer {
         status,
@@ -97,8 +99,36 @@ fn answer_of(alloc: Global, status: String, devices: &Devices) -> Result<Answer,
     })
 }
 
-/// Runs words over files and a journal.
-pub fn attempt(
+/// Runs the words of a `gray` over files.
+pub fn gray(
+    alloc: Global,
+    files: &[(&str, &[u8])],
+    line: &[&str],
+    failing: Failing<'_>,
+) -> Result<Answer, AllocError> {
+    let words = words_of(alloc, line)?;
+    let mut devices = devices_of(alloc, files, &[], failing)?;
+    let Devices { inputs, out, .. } = &mut devices;
+    let status = run_gray(alloc, &words, inputs, out);
+    answer_of(alloc, format!(in alloc; "{status}")?, &devices)
+}
+
+/// Runs the words of a `totals` or an `audit` over files.
+pub fn audit(
+    alloc: Global,
+    files: &[(&str, &[u8])],
+    line: &[&str],
+    failing: Failing<'_>,
+) -> Result<Answer, AllocError> {
+    let words = words_of(alloc, line)?;
+    let mut devices = devices_of(alloc, files, &[], failing)?;
+    let Devices { inputs, out, .. } = &mut devices;
+    let status = run_audit(alloc, &words, inputs, out);
+    answer_of(alloc, format!(in alloc; "{status}")?, &devices)
+}
+
+/// Runs the words of a `ranked` over files and a journal.
+pub fn ranked(
     alloc: Global,
     files: &[(&str, &[u8])],
     records: &[&str],
@@ -124,10 +154,10 @@ pub fn rank(
     records: &[&str],
 ) -> Result<Answer, AllocError> {
     let files = [("E", election.as_bytes()), ("R", file.as_bytes())];
-    attempt(alloc, &files, records, &["ranked", "E", "R"], Failing::NONE)
+    ranked(alloc, &files, records, &["ranked", "E", "R"], Failing::NONE)
 }
 
 /// Whether an answer is this status with this text.
-pub fn is_answer(answer: &Answer, status: &str, text: &str) -> bool {
-    answer.status.as_str() == status && answer.text.as_slice() == text.as_bytes()
+pub fn is_answer(answer: &Answer, status: &str, text: &[u8]) -> bool {
+    answer.status.as_str() == status && answer.text.as_slice() == text
 }

@@ -1,7 +1,7 @@
 //! Files of ranked contests that are refused.
 
 use crate::devices::{is_answer, rank};
-use crate::elections::MIXED;
+use crate::ranked_elections::MIXED;
 use std::alloc::{AllocError, Global};
 use std::test::*;
 
@@ -124,7 +124,7 @@ const BAD: [(&str, &str); 36] = [
 fn bad_files_are_refused(rt: HostRuntime) -> Result<(), Fail> {
     for (file, status) in BAD {
         let answer = rank(rt.alloc(), MIXED, file, &[])?;
-        assert!(rt; is_answer(&answer, status, ""), "{status}");
+        assert!(rt; is_answer(&answer, status, b""), "{status}");
     }
     Ok(())
 }
@@ -144,10 +144,10 @@ fn a_file_has_at_most_a_hundred_groups(rt: HostRuntime) -> Result<(), Fail> {
     let alloc = rt.alloc();
     let hundred = groups(alloc, 100)?;
     let answer = rank(alloc, MIXED, hundred.as_str(), &[])?;
-    assert!(rt; is_answer(&answer, "ranked 3 ranked[0]", ""), "100 groups");
+    assert!(rt; is_answer(&answer, "ranked 3 ranked[0]", b""), "100 groups");
     let more = groups(alloc, 101)?;
     let answer = rank(alloc, MIXED, more.as_str(), &[])?;
-    assert!(rt; is_answer(&answer, "ranked 4 ranked", ""), "101 groups");
+    assert!(rt; is_answer(&answer, "ranked 4 ranked", b""), "101 groups");
     Ok(())
 }
 
@@ -197,7 +197,7 @@ fn a_group_on_two_sheets_is_refused(rt: HostRuntime) -> Result<(), Fail> {
         ),
     ] {
         let answer = rank(alloc, election.as_str(), file, &[])?;
-        assert!(rt; is_answer(&answer, status, ""), "{status}");
+        assert!(rt; is_answer(&answer, status, b""), "{status}");
     }
     Ok(())
 }

@@ -1,7 +1,7 @@
 //! Words that are neither a `totals` nor an `audit`, and some that are.
 
-use crate::devices::{Failing, attempt};
-use crate::reports::{NOUGHT, WORKED};
+use crate::audit_reports::{NOUGHT, WORKED};
+use crate::devices::{Failing, audit};
 use std::test::*;
 
 const FILES: [(&str, &[u8]); 2] = [("R", WORKED), ("H", b"")];
@@ -35,7 +35,7 @@ const LINES: [(&[&str], &str); 22] = [
 #[test]
 fn words_are_read(rt: HostRuntime) -> Result<(), Fail> {
     for (line, status) in LINES {
-        let answer = attempt(rt.alloc(), &FILES, line, Failing::NONE)?;
+        let answer = audit(rt.alloc(), &FILES, line, Failing::NONE)?;
         assert!(rt; answer.status.as_str() == status, "{}", answer.status);
     }
     Ok(())
@@ -70,7 +70,7 @@ const SEEDS: [(&str, &str); 6] = [
 fn seeds_are_read(rt: HostRuntime) -> Result<(), Fail> {
     for (seed, status) in SEEDS {
         let line = ["audit", "R", seed, "1", "H"];
-        let answer = attempt(rt.alloc(), &FILES, &line, Failing::NONE)?;
+        let answer = audit(rt.alloc(), &FILES, &line, Failing::NONE)?;
         assert!(rt;
             answer.status.as_str() == status,
             "{seed}: {}",
@@ -98,7 +98,7 @@ const SIZES: [(&str, &str); 11] = [
 fn sizes_are_read(rt: HostRuntime) -> Result<(), Fail> {
     for (size, status) in SIZES {
         let line = ["audit", "R", NOUGHT, size, "H"];
-        let answer = attempt(rt.alloc(), &FILES, &line, Failing::NONE)?;
+        let answer = audit(rt.alloc(), &FILES, &line, Failing::NONE)?;
         assert!(rt;
             answer.status.as_str() == status,
             "{size}: {}",

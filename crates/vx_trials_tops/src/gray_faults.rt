@@ -1,6 +1,6 @@
 //! Inputs that leave the grammar, words that are no `gray`, inputs that aren't there, and devices that fail.
 
-use crate::devices::{Failing, attempt, is_answer};
+use crate::devices::{Failing, gray, is_answer};
 use std::test::*;
 
 /// The bytes of a scan, and the status of its `gray`, which writes nothing.
@@ -29,7 +29,7 @@ const DARK_TEXT: &[u8] = b"P4\n2 1\n\x80";
 #[test]
 fn bad_scans_are_refused(rt: HostRuntime) -> Result<(), Fail> {
     for (scan, status) in BAD {
-        let answer = attempt(rt.alloc(), &[("A", scan)], &["gray", "A"], Failing::NONE)?;
+        let answer = gray(rt.alloc(), &[("A", scan)], &["gray", "A"], Failing::NONE)?;
         assert!(rt; is_answer(&answer, status, b""), "{status}");
     }
     Ok(())
@@ -39,13 +39,13 @@ fn bad_scans_are_refused(rt: HostRuntime) -> Result<(), Fail> {
 fn what_stands_before_a_refusal_is_written(rt: HostRuntime) -> Result<(), Fail> {
     let alloc = rt.alloc();
     let second = [("A", b"P5 2 1 255 \x3f\x80P6".as_slice())];
-    let answer = attempt(alloc, &second, &["gray", "A", "B"], Failing::NONE)?;
+    let answer = gray(alloc, &second, &["gray", "A", "B"], Failing::NONE)?;
     assert!(rt;
         is_answer(&answer, "pgm 1 1 13", DARK_TEXT),
         "another magic"
     );
     let two = [("A", DARK), ("B", b"".as_slice())];
-    let answer = attempt(alloc, &two, &["gray", "A", "B", "C"], Failing::NONE)?;
+    let answer = gray(alloc, &two, &["gray", "A", "B", "C"], Failing::NONE)?;
     assert!(rt;
         is_answer(&answer, "no input 3", DARK_TEXT),
         "a missing third scan"
@@ -68,7 +68,7 @@ fn words_are_read(rt: HostRuntime) -> Result<(), Fail> {
         (&line[..], "usage"),
         (&line[..65], "ok"),
     ] {
-        let answer = attempt(alloc, &empty, words, Failing::NONE)?;
+        let answer = gray(alloc, &empty, words, Failing::NONE)?;
         assert!(rt; is_answer(&answer, status, b""), "{status}");
     }
     Ok(())
@@ -78,7 +78,7 @@ fn words_are_read(rt: HostRuntime) -> Result<(), Fail> {
 fn sixty_four_scans_are_written(rt: HostRuntime) -> Result<(), Fail> {
     let mut line = ["A"; 65];
     line[0] = "gray";
-    let answer = attempt(rt.alloc(), &[("A", DARK)], &line, Failing::NONE)?;
+    let answer = gray(rt.alloc(), &[("A", DARK)], &line, Failing::NONE)?;
     assert!(rt; answer.status.as_str() == "ok", "64 scans");
     assert!(rt; answer.text.len() == 64 * 8, "all of them");
     for piece in answer.text.chunks(8) {
@@ -112,8 +112,9 @@ fn failing_devices_are_told(rt: HostRuntime) -> Result<(), Fail> {
             reads,
             writes,
             room,
+            ..Failing::NONE
         };
-        let answer = attempt(alloc, &files, &["gray", "A", "B"], failing)?;
+        let answer = gray(alloc, &files, &["gray", "A", "B"], failing)?;
         assert!(rt; is_answer(&answer, status, text), "{status}");
     }
     Ok(())

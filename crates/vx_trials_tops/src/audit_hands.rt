@@ -1,7 +1,7 @@
 //! What hands read: the first line that leaves its form is told by its number, counted from 1.
 
-use crate::devices::{Failing, attempt, is_answer};
-use crate::reports::{NOUGHT, THREE};
+use crate::audit_reports::{NOUGHT, THREE};
+use crate::devices::{Failing, audit, is_answer};
 use std::test::*;
 
 /// What hands read, and the status of an audit with it.
@@ -51,7 +51,7 @@ fn lines_are_read(rt: HostRuntime) -> Result<(), Fail> {
     for (hand, status) in HANDS {
         let files = [("R", THREE), ("H", hand)];
         let line = ["audit", "R", NOUGHT, "1", "H"];
-        let answer = attempt(rt.alloc(), &files, &line, Failing::NONE)?;
+        let answer = audit(rt.alloc(), &files, &line, Failing::NONE)?;
         assert!(rt; answer.status.as_str() == status, "{}", answer.status);
         assert!(rt;
             status == "ok" || answer.text.is_empty(),
@@ -70,7 +70,7 @@ fn a_line_of_a_megabyte_is_refused(rt: HostRuntime) -> Result<(), Fail> {
     }
     let files = [("R", THREE), ("H", hand.as_bytes())];
     let line = ["audit", "R", NOUGHT, "1", "H"];
-    let answer = attempt(alloc, &files, &line, Failing::NONE)?;
+    let answer = audit(alloc, &files, &line, Failing::NONE)?;
     assert!(rt; is_answer(&answer, "hand 1", b""), "{}", answer.status);
     Ok(())
 }

@@ -1,7 +1,7 @@
 //! Texts that were worked by hand.
 
-use crate::devices::{Failing, attempt, is_answer};
-use crate::reports::{NOUGHT, THREE, WORKED};
+use crate::audit_reports::{NOUGHT, THREE, WORKED};
+use crate::devices::{Failing, audit, is_answer};
 use std::test::*;
 
 const WORKED_TOTALS: &[u8] = b"contest contest-mayor over 0 under 0
@@ -26,7 +26,7 @@ records 3
 fn totals_are_as_worked_by_hand(rt: HostRuntime) -> Result<(), Fail> {
     let alloc = rt.alloc();
     for (report, text) in [(WORKED, WORKED_TOTALS), (THREE, THREE_TOTALS)] {
-        let answer = attempt(alloc, &[("R", report)], &["totals", "R"], Failing::NONE)?;
+        let answer = audit(alloc, &[("R", report)], &["totals", "R"], Failing::NONE)?;
         assert!(rt; is_answer(&answer, "ok", text), "{}", answer.status);
     }
     Ok(())
@@ -55,7 +55,7 @@ fn the_worked_report_is_audited(rt: HostRuntime) -> Result<(), Fail> {
     for (hand, text) in WORKED_AUDITS {
         let files = [("R", WORKED), ("H", hand)];
         let line = ["audit", "R", NOUGHT, "3", "H"];
-        let answer = attempt(rt.alloc(), &files, &line, Failing::NONE)?;
+        let answer = audit(rt.alloc(), &files, &line, Failing::NONE)?;
         assert!(rt; is_answer(&answer, "ok", text), "{}", answer.status);
     }
     Ok(())
@@ -111,7 +111,7 @@ fn samples_are_as_worked_by_hand(rt: HostRuntime) -> Result<(), Fail> {
     for (size, text) in AUDITS {
         let files = [("R", THREE), ("H", HAND)];
         let line = ["audit", "R", NOUGHT, size, "H"];
-        let answer = attempt(rt.alloc(), &files, &line, Failing::NONE)?;
+        let answer = audit(rt.alloc(), &files, &line, Failing::NONE)?;
         assert!(rt; is_answer(&answer, "ok", text), "{size}: {}", answer.status);
     }
     Ok(())

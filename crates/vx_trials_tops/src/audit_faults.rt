@@ -1,7 +1,7 @@
 //! Reports that are refused, inputs that are too long, and devices that fail.
 
-use crate::devices::{Failing, attempt, is_answer};
-use crate::reports::{NOUGHT, WORKED};
+use crate::audit_reports::{NOUGHT, WORKED};
+use crate::devices::{Failing, audit, is_answer};
 use std::test::*;
 
 const HAND: &[u8] = b"hand b1-1 contest-mayor selection-mayor-1";
@@ -27,7 +27,7 @@ const REPORTS: [(&[u8], &str); 5] = [
 fn reports_are_refused_before_what_hands_read(rt: HostRuntime) -> Result<(), Fail> {
     for (report, status) in REPORTS {
         let line = ["audit", "R", NOUGHT, "1", "H"];
-        let answer = attempt(rt.alloc(), &[("R", report)], &line, Failing::NONE)?;
+        let answer = audit(rt.alloc(), &[("R", report)], &line, Failing::NONE)?;
         assert!(rt;
             is_answer(&answer, status, b""),
             "{status}: {}",
@@ -43,14 +43,14 @@ fn long_inputs_are_refused(rt: HostRuntime) -> Result<(), Fail> {
     let long = vec![in alloc; b' '; 67_108_865]?;
     let line = ["audit", "R", NOUGHT, "1", "H"];
     let files = [("R", long.as_slice()), ("H", HAND)];
-    let answer = attempt(alloc, &files, &line, Failing::NONE)?;
+    let answer = audit(alloc, &files, &line, Failing::NONE)?;
     assert!(rt;
         is_answer(&answer, "too long 1 67108865", b""),
         "{}",
         answer.status
     );
     let files = [("R", WORKED), ("H", long.as_slice())];
-    let answer = attempt(alloc, &files, &line, Failing::NONE)?;
+    let answer = audit(alloc, &files, &line, Failing::NONE)?;
     assert!(rt;
         is_answer(&answer, "too long 4 67108865", b""),
         "{}",
@@ -83,8 +83,9 @@ fn failing_devices_are_told(rt: HostRuntime) -> Result<(), Fail> {
             reads,
             writes,
             room,
+            ..Failing::NONE
         };
-        let answer = attempt(rt.alloc(), &files, &line, failing)?;
+        let answer = audit(rt.alloc(), &files, &line, failing)?;
         assert!(rt;
             is_answer(&answer, status, text),
             "{status}: {}",
@@ -118,7 +119,7 @@ fn failing_devices_are_told_of_totals(rt: HostRuntime) -> Result<(), Fail> {
             writes,
             room: 1000,
         };
-        let answer = attempt(rt.alloc(), &[("R", WORKED)], &["totals", "R"], failing)?;
+        let answer = audit(rt.alloc(), &[("R", WORKED)], &["totals", "R"], failing)?;
         assert!(rt;
             is_answer(&answer, status, text),
             "{status}: {}",

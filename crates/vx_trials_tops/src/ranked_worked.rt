@@ -1,7 +1,7 @@
 //! Counts that were worked by hand.
 
 use crate::devices::{is_answer, rank};
-use crate::elections::{AB, AB_HEADER, ABC, ABC_HEADER, MAYOR, MAYOR_HEADER};
+use crate::ranked_elections::{AB, AB_HEADER, ABC, ABC_HEADER, MAYOR, MAYOR_HEADER};
 use std::test::*;
 
 const TWO_RANKS: &str = r#"{"ranked":[{"id":"mayor","contests":["m1","m2"]}]}"#;
@@ -122,7 +122,7 @@ const ROWS: [(&str, &str, &[&str], &str); 8] = [
 fn counts_are_as_worked_by_hand(rt: HostRuntime) -> Result<(), Fail> {
     for (election, file, records, text) in ROWS {
         let answer = rank(rt.alloc(), election, file, records)?;
-        assert!(rt; is_answer(&answer, "ok", text), "{text}");
+        assert!(rt; is_answer(&answer, "ok", text.as_bytes()), "{text}");
         assert!(rt; answer.records == records.len(), "records");
     }
     Ok(())
