@@ -2,11 +2,14 @@
 
 use std::alloc::{AllocError, Global};
 use std::test::Fail;
-use std::thread::Threads;
-use vx_app::run;
 use vx_base::Bytes;
-use vx_io::{Calls, KeeperCalls, MemInputs, MemKeeper, MemSink, NamedBytes, Records};
+use vx_command::{Halt, Status, status_of};
+use vx_command_check::check;
+use vx_command_print::{Ballot, print};
+use vx_command_read::read;
+use vx_io::{Calls, MemInputs, MemSink, NamedBytes};
 use vx_town::{TOWN, words_of};
+use vx_words::{Command, parse};
 
 /// How many bytes a printed page has: a header of 13, and 213 for each of 2200 rows.
 const PAGE: usize = 468_613;
@@ -33,8 +36,46 @@ fn inputs_of(alloc: Global, scans: &[u8], readings: &[u8]) -> Result<MemInputs, 
     Ok(MemInputs::new(files, Calls::new(alloc)))
 }
 
+/// Does a `print`, a `read` or a `check` alone: the other commands would be proved here for nothing.
+fn obey(
+    alloc: Global,
+    command: &Command,
+    inputs: &mut MemInputs,
+    out: &mut MemSink,
+) -> Result<(), Halt> {
+    match command {
+        Command::Print {
+            election,
+            card,
+            kind,
+            test,
+        } => {
+            let ballot = Ballot {
+                card: *card,
+                kind: *kind,
+                test: *test,
+            };
+            print(alloc, election.as_str(), ballot, inputs, out)
+        }
+        Command::Read { election, scans } => read(alloc, election.as_str(), scans, inputs, out),
+        Command::Check {
+            election,
+            scans,
+            readings,
+        } => check(
+            alloc,
+            election.as_str(),
+            scans.as_str(),
+            readings.as_str(),
+            inputs,
+            out,
+        ),
+        _ => Ok(()),
+    }
+}
+
 /// Runs a command over the town's definition, scans and readings.
-pub(crate) fn answer_of<R: Threads + Sync + AllocGlobal>(
+pub(crate) fn answer_of<R: AllocGlobal>(
     rt: &R,
     line: &[&str],
     scans: &[u8],
@@ -42,17 +83,17 @@ pub(crate) fn answer_of<R: Threads + Sync + AllocGlobal>(
 ) -> Result<Answer, Fail> {
     let alloc = rt.alloc();
     let words = words_of(alloc, line)?;
+    let command = parse(alloc, &words).map_err(|_| "usage")?;
     let mut inputs = inputs_of(alloc, scans, readings)?;
     let mut out = MemSink::new(alloc, 2 * PAGE as u64, Calls::new(alloc))?;
-    let mut keeper = MemKeeper::new(Records::new(alloc), KeeperCalls::new(alloc));
-    let status = run(rt, alloc, &words, &mut inputs, &mut out, &mut keeper);
+    let status: Status = status_of(obey(alloc, &command, &mut inputs, &mut out));
     let status = format!(in alloc; "{status}")?;
     let text = Vec::from_slice(alloc, out.held())?;
     Ok(Answer { status, text })
 }
 
 /// What `check` answers of readings of scans.
-pub(crate) fn checked<R: Threads + Sync + AllocGlobal>(
+pub(crate) fn checked<R: AllocGlobal>(
     rt: &R,
     scans: &[u8],
     readings: &[u8],
@@ -61,12 +102,12 @@ pub(crate) fn checked<R: Threads + Sync + AllocGlobal>(
 }
 
 /// Both printed pages of the town.
-pub(crate) fn both_pages<R: Threads + Sync + AllocGlobal>(rt: &R) -> Result<Vec<u8>, Fail> {
+pub(crate) fn both_pages<R: AllocGlobal>(rt: &R) -> Result<Vec<u8>, Fail> {
     Ok(answer_of(rt, &["print", "e", "0", "precinct"], &[], &[])?.text)
 }
 
 /// The first printed page.
-pub(crate) fn first_page<R: Threads + Sync + AllocGlobal>(rt: &R) -> Result<Vec<u8>, Fail> {
+pub(crate) fn first_page<R: AllocGlobal>(rt: &R) -> Result<Vec<u8>, Fail> {
     let mut pages = both_pages(rt)?;
     pages.truncate(PAGE);
     Ok(pages)
@@ -74,7 +115,7 @@ pub(crate) fn first_page<R: Threads + Sync + AllocGlobal>(rt: &R) -> Result<Vec<
 
 /// The first printed page with 96 pixels dark within its second bubble: 8 columns from 248 on, 12 rows from
 /// 522 on.
-pub(crate) fn marked_page<R: Threads + Sync + AllocGlobal>(rt: &R) -> Result<Vec<u8>, Fail> {
+pub(crate) fn marked_page<R: AllocGlobal>(rt: &R) -> Result<Vec<u8>, Fail> {
     let mut page = first_page(rt)?;
     for y in 522..534 {
         if let Some(byte) = page.get_mut(HEADER.len() + ROW * y + 31) {

@@ -6,7 +6,6 @@ use crate::scans::{checked, first_page};
 use crate::texts::{CLEAR, first_block};
 use std::alloc::{AllocError, Global};
 use std::test::Fail;
-use std::thread::Threads;
 
 /// A number in a text: where its digits stand, and its value.
 #[derive(Clone, Copy)]
@@ -94,7 +93,7 @@ fn status_of(alloc: Global, change: Change) -> Result<String, Fail> {
 }
 
 /// Checks a change of the clean block, and says whether it is a certificate all the same.
-fn try_change<R: Threads + Sync + AllocGlobal>(
+fn try_change<R: AllocGlobal>(
     rt: &R,
     page: &[u8],
     text: &[u8],
@@ -131,7 +130,7 @@ impl Tried {
 }
 
 /// Tries each number of the block, one up or one down where it isn't 0.
-fn try_all<R: Threads + Sync + AllocGlobal>(rt: &R, is_up: bool) -> Result<Tried, Fail> {
+fn try_all<R: AllocGlobal>(rt: &R, is_up: bool) -> Result<Tried, Fail> {
     let alloc = rt.alloc();
     let page = first_page(rt)?;
     let text = first_block(alloc, "", CLEAR)?;
