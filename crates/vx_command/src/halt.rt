@@ -1,6 +1,7 @@
 ghost use Rattle.std.specs.Prelude.{◌≡◌};
 ghost use Rattle.vx_command.specs.Halts.{bitmap_halt, card_halt, election_halt, halt_number, taking_halt};
 
+use crate::causes::SheetCause;
 use std::alloc::AllocError;
 use std::fmt;
 use vx_election::ElectionFault;
@@ -31,6 +32,8 @@ pub enum Halt {
     Journal(u64, JournalStop),
     /// The items up to the one of that word may have so many events, more than a shared center takes.
     TooManyEvents(u32, u64),
+    /// The images of the sheet with that number, from 1, are no sheet.
+    NoSheet(u64, SheetCause),
     /// The inputs failed.
     ReadFault,
     /// The sink failed.
@@ -60,6 +63,7 @@ impl Halt {
             Halt::KeeperFault => 12,
             Halt::NoMemory => 13,
             Halt::TooManyEvents(_, _) => 18,
+            Halt::NoSheet(_, _) => 19,
         }
     }
 }
@@ -82,6 +86,7 @@ impl fmt::Display for Halt {
             Halt::Decision(line, fault) => write!(f, "decision line {line} {fault}"),
             Halt::Journal(index, stop) => write!(f, "journal {index} {stop}"),
             Halt::TooManyEvents(word, count) => write!(f, "too many events {word} {count}"),
+            Halt::NoSheet(number, cause) => write!(f, "sheet {number} {cause}"),
             Halt::ReadFault => f.write_str("read fault"),
             Halt::WriteFault => f.write_str("write fault"),
             Halt::KeeperFault => f.write_str("keeper fault"),

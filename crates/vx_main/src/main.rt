@@ -83,7 +83,10 @@ fn run_on_file<R: Threads + Wait + Sync>(
 
 /// Whether a command reads the journal and appends nothing to it.
 fn only_reads(words: &Words) -> bool {
-    begins_with(words, "queue") || begins_with(words, "export") || begins_with(words, "ranked")
+    begins_with(words, "queue")
+        || begins_with(words, "export")
+        || begins_with(words, "ranked")
+        || begins_with(words, "results")
 }
 
 /// Whether the journal is one in memory: it is called `-`, or it is a file that isn't there and that the

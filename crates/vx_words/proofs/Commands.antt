@@ -8,7 +8,7 @@ use Rattle.std.proofs.lemmas.List.Elements.{All-cons, All-nil}
 use Rattle.vx_grid.specs.declared.kind.Kind.{Kind}
 use Rattle.vx_grid.specs.Kinds.{kind_word}
 use Rattle.vx_words.specs.declared.command.Command.{Command}
-use Rattle.vx_words.specs.declared.command.Command.TheVariants.{Print, Read, Check, Count, Decide, Queue, Export, Demo, Center}
+use Rattle.vx_words.specs.declared.command.Command.TheVariants.{Print, Read, Check, Count, Decide, Queue, Export, Demo, Center, Try, Cards, Results}
 use Rattle.vx_words.specs.declared.command.ItemWord.{ItemWord}
 use Rattle.vx_words.specs.declared.name.Name.{Name}
 use Rattle.vx_words.specs.declared.name.Name.TheVariants as names
@@ -30,6 +30,9 @@ found names.Queue = refl
 found names.Export = refl
 found names.Demo = refl
 found names.Center = refl
+found names.Try = refl
+found names.Cards = refl
+found names.Results = refl
 
 -- the command with a name that words spell, if they spell one
 abbrev pub command_at : Name → List (List ℕ) → Command
@@ -42,6 +45,9 @@ command_at names.Queue words = Queue (get_or words 1 [])
 command_at names.Export words = Export (get_or words 1 []) (get_or words 2 []) (known (device_of (get_or words 3 [])))
 command_at names.Demo words = Demo (digits_value 10 (get_or words 1 [])) (digits_value 10 (get_or words 2 []))
 command_at names.Center words = Center (get_or words 1 []) (get_or words 2 []) (known (device_of (get_or words 3 []))) (map item_in (drop 4 words))
+command_at names.Try words = Try (get_or words 1 []) (drop 2 words)
+command_at names.Cards words = Cards (get_or words 1 [])
+command_at names.Results words = Results (get_or words 1 [])
 
 -- a command is the one that its words spell
 pub command_back : (device : List ℕ) (command : Command) → IsSound device command → command_at (name_of command) (words_with device command) ≡ command
@@ -63,6 +69,9 @@ command_back device (Demo seed sheets) sound =
 command_back device (Center election moment named items) sound =
     ap (λ (o : Option (List ℕ)). Center election moment (known o) (map item_in (map item_word items))) sound.as_export.is_named
     ∙ ap (λ (are : List ItemWord). Center election moment named are) (items_back items sound.are_items.are_items)
+command_back device (Try election scans) sound = refl
+command_back device (Cards election) sound = refl
+command_back device (Results election) sound = refl
 
 -- a command's words, its name behind them
 pub named : (device : List ℕ) (command : Command) → IsSound device command → HasName (words_with device command) (name_of command)
@@ -122,3 +131,21 @@ named device (Center election moment known items) sound =
           (All-cons IsArgument moment (device ∷ map item_word items) sound.as_export.moment_is_argument
           (All-cons IsArgument device (map item_word items) sound.as_export.device_is_argument (items_are_arguments items)));
     }
+named device (Try election scans) sound = record {
+  first = refl;
+  enough = omega (arith, sound.are_scans.some);
+  no_more = omega (arith, sound.are_scans.few);
+  arguments = All-cons IsArgument election scans sound.is_argument sound.are_scans.are_arguments;
+}
+named device (Cards election) sound = record {
+  first = refl;
+  enough = omega arith;
+  no_more = omega arith;
+  arguments = All-cons IsArgument election [] sound (All-nil IsArgument);
+}
+named device (Results election) sound = record {
+  first = refl;
+  enough = omega arith;
+  no_more = omega arith;
+  arguments = All-cons IsArgument election [] sound (All-nil IsArgument);
+}

@@ -10,7 +10,7 @@ use Rattle.vx_grid.specs.declared.kind.Kind.TheVariants.{Other}
 use Rattle.vx_grid.specs.Kinds.{kind_word}
 use Rattle.vx_events.specs.Fits.{is_batch}
 use Rattle.vx_words.specs.declared.command.Command.{Command}
-use Rattle.vx_words.specs.declared.command.Command.TheVariants.{Print, Read, Check, Count, Decide, Export, Demo}
+use Rattle.vx_words.specs.declared.command.Command.TheVariants.{Print, Read, Check, Count, Decide, Export, Demo, Try}
 use Rattle.vx_words.specs.Moments.{is_moment}
 use Rattle.vx_words.specs.Devices.{device_of}
 use Rattle.vx_words.specs.Words.{IsArgument, NoCommand, Spells}
@@ -18,7 +18,7 @@ use Rattle.vx_words.specs.declared.name.Name.TheVariants as names
 use Rattle.vx_words.specs.Names.{name_word}
 use Rattle.vx_words.proofs.OneSpelling.{spells_it}
 use Rattle.vx_words.proofs.Parts.{known}
-use Rattle.vx_words.proofs.Spellings.{check_spelled, count_spelled, decide_spelled, demo_spelled, export_spelled, no_sheets, no_workers, print_spelled, read_spelled}
+use Rattle.vx_words.proofs.Spellings.{check_spelled, count_spelled, decide_spelled, demo_spelled, export_spelled, no_sheets, no_workers, print_spelled, read_spelled, try_spelled}
 
 -- what the text past the end of a slice is
 abbrev pub nowhere : Bor (List ℕ)
@@ -64,6 +64,15 @@ read_made (a ∷ []) none least most are = absurd (omega (arith, least))
 read_made (a ∷ b ∷ more) none least most are =
     let size : length (shown more) ≡ length more = length-map more (λ (word : Bor (List ℕ)). word.now) in
     read_spelled (name_word names.Read ∷ a.now ∷ b.now ∷ shown more)
+    (record { first = refl; enough = omega (arith, size); no_more = omega (arith, size, most); arguments = are })
+
+pub try_made : (words : List (Bor (List ℕ))) (none : Bor (List ℕ)) → 2 ≤ length words → length words ≤ 65 → All IsArgument (shown words)
+    → Spells (name_word names.Try ∷ shown words) (Try (get_or words 0 none).now (drop 1 (shown words)))
+try_made [] none least most are = absurd (omega (arith, least))
+try_made (a ∷ []) none least most are = absurd (omega (arith, least))
+try_made (a ∷ b ∷ more) none least most are =
+    let size : length (shown more) ≡ length more = length-map more (λ (word : Bor (List ℕ)). word.now) in
+    try_spelled (name_word names.Try ∷ a.now ∷ b.now ∷ shown more)
     (record { first = refl; enough = omega (arith, size); no_more = omega (arith, size, most); arguments = are })
 
 pub count_made :

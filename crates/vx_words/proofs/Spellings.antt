@@ -11,7 +11,7 @@ use Rattle.vx_grid.specs.declared.kind.Kind.{Kind}
 use Rattle.vx_grid.specs.declared.kind.Kind.TheVariants.{Other}
 use Rattle.vx_grid.specs.Kinds.{kind_word}
 use Rattle.vx_words.specs.declared.command.Command.{Command}
-use Rattle.vx_words.specs.declared.command.Command.TheVariants.{Print, Read, Check, Count, Decide, Queue, Export, Demo}
+use Rattle.vx_words.specs.declared.command.Command.TheVariants.{Print, Read, Check, Count, Decide, Queue, Export, Demo, Try, Cards, Results}
 use Rattle.vx_words.specs.declared.fault.UsageFault.{UsageFault}
 use Rattle.vx_words.specs.declared.fault.UsageFault.TheVariants.{Usage, OutOfMemory}
 use Rattle.vx_events.specs.Fits.{is_batch}
@@ -77,6 +77,42 @@ queue_spelled (name ∷ election ∷ []) called = record {
   sound = All-head IsArgument election [] called.arguments;
 }
 queue_spelled (a ∷ b ∷ c ∷ more) called = absurd (omega (arith, called.no_more))
+
+pub try_spelled : (words : List (List ℕ)) → HasName words names.Try → Spells words (Try (get_or words 1 []) (drop 2 words))
+try_spelled [] called = absurd (omega (arith, called.enough))
+try_spelled (a ∷ []) called = absurd (omega (arith, called.enough))
+try_spelled (name ∷ election ∷ scans) called = record {
+  device = [];
+  words_are = (let first = called.first in cc);
+  sound = record {
+    is_argument = All-head IsArgument election scans called.arguments;
+    are_scans = record {
+      some = omega (arith, called.enough);
+      few = omega (arith, called.no_more);
+      are_arguments = All-tail IsArgument election scans called.arguments;
+    };
+  };
+}
+
+pub cards_spelled : (words : List (List ℕ)) → HasName words names.Cards → Spells words (Cards (get_or words 1 []))
+cards_spelled [] called = absurd (omega (arith, called.enough))
+cards_spelled (a ∷ []) called = absurd (omega (arith, called.enough))
+cards_spelled (name ∷ election ∷ []) called = record {
+  device = [];
+  words_are = (let first = called.first in cc);
+  sound = All-head IsArgument election [] called.arguments;
+}
+cards_spelled (a ∷ b ∷ c ∷ more) called = absurd (omega (arith, called.no_more))
+
+pub results_spelled : (words : List (List ℕ)) → HasName words names.Results → Spells words (Results (get_or words 1 []))
+results_spelled [] called = absurd (omega (arith, called.enough))
+results_spelled (a ∷ []) called = absurd (omega (arith, called.enough))
+results_spelled (name ∷ election ∷ []) called = record {
+  device = [];
+  words_are = (let first = called.first in cc);
+  sound = All-head IsArgument election [] called.arguments;
+}
+results_spelled (a ∷ b ∷ c ∷ more) called = absurd (omega (arith, called.no_more))
 
 pub print_spelled :
     (words : List (List ℕ)) (third fourth : List ℕ) (card : ℕ) (kind : Kind) (test : Bool) → HasName words names.Print

@@ -6,7 +6,7 @@ use Rattle.vx_grid.specs.declared.kind.Kind.TheVariants.{Other}
 use Rattle.vx_grid.specs.Kinds.{kind_word}
 use Rattle.vx_events.specs.Fits.{is_batch}
 use Rattle.vx_words.specs.declared.command.Command.{Command}
-use Rattle.vx_words.specs.declared.command.Command.TheVariants.{Print, Read, Check, Count, Decide, Queue, Export, Demo, Center}
+use Rattle.vx_words.specs.declared.command.Command.TheVariants.{Print, Read, Check, Count, Decide, Queue, Export, Demo, Center, Try, Cards, Results}
 use Rattle.vx_words.specs.declared.command.ItemWord.{ItemWord}
 use Rattle.vx_words.specs.declared.fault.UsageFault.{UsageFault}
 use Rattle.vx_words.specs.declared.fault.UsageFault.TheVariants.{Usage, OutOfMemory}
@@ -28,6 +28,9 @@ name_of (Queue election) = names.Queue
 name_of (Export election moment named) = names.Export
 name_of (Demo seed sheets) = names.Demo
 name_of (Center election moment named items) = names.Center
+name_of (Try election scans) = names.Try
+name_of (Cards election) = names.Cards
+name_of (Results election) = names.Results
 
 -- the words behind a command's name, where the word that names its device is this one
 abbrev pub behind_name : List ℕ → Command → List (List ℕ)
@@ -40,6 +43,9 @@ behind_name device (Queue election) = election ∷ []
 behind_name device (Export election moment named) = election ∷ moment ∷ device ∷ []
 behind_name device (Demo seed sheets) = decimal seed ∷ decimal sheets ∷ []
 behind_name device (Center election moment named items) = election ∷ moment ∷ device ∷ map item_word items
+behind_name device (Try election scans) = election ∷ scans
+behind_name device (Cards election) = election ∷ []
+behind_name device (Results election) = election ∷ []
 
 -- the words of a command
 abbrev pub words_with : List ℕ → Command → List (List ℕ)
@@ -105,6 +111,9 @@ IsSound device (Queue election) = IsArgument election
 IsSound device (Export election moment named) = IsSoundExport election moment device named
 IsSound device (Demo seed sheets) = IsSoundDemo seed sheets
 IsSound device (Center election moment named items) = IsSoundCenter election moment device named items
+IsSound device (Try election scans) = IsSoundRead election scans
+IsSound device (Cards election) = IsArgument election
+IsSound device (Results election) = IsArgument election
 
 -- The words are this command. It has one spelling, but for the word that names a device, which has several.
 pub record Spells (words : List (List ℕ)) (command : Command) : Type 0 where

@@ -66,6 +66,19 @@ pub enum Command {
         /// From 1 to 16.
         items: ItemWords,
     },
+    /// Read the sheets of the scans, and keep nothing.
+    Try {
+        election: Text,
+        scans: Texts,
+    },
+    /// List the cards, and what an office doesn't want to find on them.
+    Cards {
+        election: Text,
+    },
+    /// Write the totals of the count.
+    Results {
+        election: Text,
+    },
 }
 
 /// An item of a count, as a word names it.

@@ -122,5 +122,8 @@ pub fn is_command(words: &Words) -> bool
         Name::Export => is_export(words),
         Name::Demo => is_demo(words),
         Name::Center => is_center(words),
+        Name::Try => true,
+        Name::Cards => true,
+        Name::Results => true,
     }
 }

@@ -192,6 +192,43 @@ fn center_of(alloc: Global, arguments: &[&str]) -> Result<Command, UsageFault>
     })
 }
 
+/// `try ELECTION SCANS`.
+fn try_of(alloc: Global, arguments: &[&str]) -> Result<Command, UsageFault>
+    requires { All IsArgument (map (λ word. word.now) arguments.now) }
+    ensures { Reads (name_word Name.Try ∷ map (λ word. word.now) arguments.now) result }
+{
+    if arguments.len() < 2 || arguments.len() > 65 {
+        return Err(UsageFault::Usage);
+    }
+    let election = Text::from_str(alloc, arguments[0])?;
+    let scans = texts_from(alloc, arguments, 1)?;
+    Ok(Command::Try { election, scans })
+}
+
+/// `cards ELECTION`.
+fn cards_of(alloc: Global, arguments: &[&str]) -> Result<Command, UsageFault>
+    requires { All IsArgument (map (λ word. word.now) arguments.now) }
+    ensures { Reads (name_word Name.Cards ∷ map (λ word. word.now) arguments.now) result }
+{
+    let [election] = arguments else {
+        return Err(UsageFault::Usage);
+    };
+    let election = Text::from_str(alloc, election)?;
+    Ok(Command::Cards { election })
+}
+
+/// `results ELECTION`.
+fn results_of(alloc: Global, arguments: &[&str]) -> Result<Command, UsageFault>
+    requires { All IsArgument (map (λ word. word.now) arguments.now) }
+    ensures { Reads (name_word Name.Results ∷ map (λ word. word.now) arguments.now) result }
+{
+    let [election] = arguments else {
+        return Err(UsageFault::Usage);
+    };
+    let election = Text::from_str(alloc, election)?;
+    Ok(Command::Results { election })
+}
+
 /// The command of a row of the table, of the words behind its name.
 fn command_named(alloc: Global, name: Name, arguments: &[&str]) -> Result<Command, UsageFault>
     requires { All IsArgument (map (λ word. word.now) arguments.now) }
@@ -207,6 +244,9 @@ fn command_named(alloc: Global, name: Name, arguments: &[&str]) -> Result<Comman
         Name::Export => export_of(alloc, arguments),
         Name::Demo => demo_of(arguments),
         Name::Center => center_of(alloc, arguments),
+        Name::Try => try_of(alloc, arguments),
+        Name::Cards => cards_of(alloc, arguments),
+        Name::Results => results_of(alloc, arguments),
     }
 }
 

@@ -17,10 +17,13 @@ pub enum Name {
     Export,
     Demo,
     Center,
+    Try,
+    Cards,
+    Results,
 }
 
 /// All commands, in the table's order.
-pub const NAMES: [Name; 9] = [
+pub const NAMES: [Name; 12] = [
     Name::Print,
     Name::Read,
     Name::Check,
@@ -30,6 +33,9 @@ pub const NAMES: [Name; 9] = [
     Name::Export,
     Name::Demo,
     Name::Center,
+    Name::Try,
+    Name::Cards,
+    Name::Results,
 ];
 
 /// A command's name, and how many words it has at least and at most, its name among them.
@@ -65,6 +71,9 @@ pub fn row_in_table(name: Name) -> Row
         Name::Export => named("export", 4, 4),
         Name::Demo => named("demo", 3, 3),
         Name::Center => named("center", 5, 20),
+        Name::Try => named("try", 3, 66),
+        Name::Cards => named("cards", 2, 2),
+        Name::Results => named("results", 2, 2),
     }
 }
 

@@ -1,5 +1,5 @@
 use Rattle.std.proofs.Common.{rules}
-use Rattle.vx_words.proofs.Spellings.{no_command, read_spelled, check_spelled, decide_spelled, queue_spelled}
+use Rattle.vx_words.proofs.Spellings.{no_command, read_spelled, check_spelled, decide_spelled, queue_spelled, try_spelled, cards_spelled, results_spelled}
 use Rattle.vx_words.proofs.deciding.is_command.Goals as goal
 
 pub returns-in_default : goal.returns-in_default
@@ -16,3 +16,12 @@ returns-in-Decide c = (_, decide_spelled c.args.words.now (search rules))
 
 pub returns-in-Queue : goal.returns-in-Queue
 returns-in-Queue c = (_, queue_spelled c.args.words.now (search rules))
+
+pub returns-in-Try : goal.returns-in-Try
+returns-in-Try c = (_, try_spelled c.args.words.now (search rules))
+
+pub returns-in-Cards : goal.returns-in-Cards
+returns-in-Cards c = (_, cards_spelled c.args.words.now (search rules))
+
+pub returns-in-Results : goal.returns-in-Results
+returns-in-Results c = (_, results_spelled c.args.words.now (search rules))

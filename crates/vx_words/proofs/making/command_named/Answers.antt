@@ -26,3 +26,12 @@ returns-in-Demo c = rw c.in-Demo.is c.demo_of.ensures
 
 pub returns-in-Center : goal.returns-in-Center
 returns-in-Center c = rw c.in-Center.is c.center_of.ensures
+
+pub returns-in-Try : goal.returns-in-Try
+returns-in-Try c = rw c.in-Try.is c.try_of.ensures
+
+pub returns-in-Cards : goal.returns-in-Cards
+returns-in-Cards c = rw c.in-Cards.is c.cards_of.ensures
+
+pub returns-in-Results : goal.returns-in-Results
+returns-in-Results c = rw c.in-Results.is c.results_of.ensures
