@@ -14,5 +14,5 @@ loop-second-preserved c = record {
 
 pub returns-clause-lines : goal.returns-clause-lines
 returns-clause-lines c =
-    let all : c.loop-second.second ≡ length c.args.contest.now.choices = omega (arith, c.len-second-end.ensures, c.loop-second-test.false) in
+    let all : c.loop-second.second ≡ length c.args.contest.now.choices = omega arith in
     lines_up_to (pair_lines c.args.contest.now c.args.first) c.loop-second.second (length c.args.contest.now.choices) _ _ _ _ all c.loop-second.invariant.lines

@@ -1,4 +1,4 @@
-use Rattle.std.proofs.Common.{◌≡◌, ◌∷◌, [], true, false, ℕ, List, chars, ap, sym, ◌∙◌}
+use Rattle.std.proofs.Common.{◌≡◌, ◌∷◌, [], true, false, ℕ, List, chars, ap, sym, ◌∙◌, arith}
 use Rattle.vx_layout.specs.Blocks.{label_at}
 use Rattle.vx_command_cards.specs.Drawn.{are_same_cells, look_alike}
 use Rattle.vx_command_cards.proofs.Lined.{no_lines, lines_are}
@@ -7,7 +7,7 @@ use Rattle.vx_command_cards.proofs.alike.push_pair.Goals as goal
 
 pub returns-then-second-first-clause-lines : goal.returns-then-second-first-clause-lines
 returns-then-second-first-clause-lines c =
-    lines_are _ _ _ _ _ _ (sym (pair-before c.args.contest.now c.args.first c.args.second c.if-second-first.true)) (no_lines _ _)
+    lines_are _ _ _ _ _ _ (sym (pair-before c.args.contest.now c.args.first c.args.second (omega arith))) (no_lines _ _)
 
 pub returns-in_ok-push-clause-lines : goal.returns-in_ok-push-clause-lines
 returns-in_ok-push-clause-lines c =
@@ -15,7 +15,7 @@ returns-in_ok-push-clause-lines c =
     let same : look_alike (label_at c.args.contest.now c.args.first) (label_at c.args.contest.now c.args.second) ≡ true =
     ap (λ (cs : List ℕ). are_same_cells cs second) (sym c.requires.same) ∙ sym c.in_ok-looks_so.ensures ∙ c.if-branch.true in
     lines_are _ _ _ _ _ _
-    (ap (λ (line : List ℕ). line ∷ []) (c.as_str.ensures.value ∙ c.in_ok-line.ensures) ∙ sym (pair-alike c.args.contest.now c.args.first c.args.second c.if-second-first.false same))
+    (ap (λ (line : List ℕ). line ∷ []) (c.as_str.ensures.value ∙ c.in_ok-line.ensures) ∙ sym (pair-alike c.args.contest.now c.args.first c.args.second (omega arith) same))
     c.in_ok-push.ensures.lines
 
 pub returns-else-branch-clause-lines : goal.returns-else-branch-clause-lines

@@ -14,5 +14,5 @@ loop-first-preserved c = record {
 
 pub returns-clause-lines : goal.returns-clause-lines
 returns-clause-lines c =
-    let all : c.loop-first.first ≡ length c.args.contest.now.choices = omega (arith, c.len-first-end.ensures, c.loop-first-test.false) in
+    let all : c.loop-first.first ≡ length c.args.contest.now.choices = omega arith in
     lines_up_to (choice_pairs c.args.contest.now) c.loop-first.first (length c.args.contest.now.choices) _ _ _ _ all c.loop-first.invariant.lines

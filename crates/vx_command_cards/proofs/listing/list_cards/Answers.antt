@@ -13,5 +13,5 @@ loop-number-preserved c = record {
 pub returns : goal.returns
 unfolding card_lines
 returns c =
-    let all : c.loop-number.number ≡ length (cards_of c.args.election.now) = omega (arith, c.len-number-end.ensures, ap length c.in_ok-cards.ensures.exact, c.loop-number-test.false) in
+    let all : c.loop-number.number ≡ length (cards_of c.args.election.now) = omega (arith, ap length c.in_ok-cards.ensures.exact) in
     lines_up_to (card_at_line c.args.election.now) c.loop-number.number (length (cards_of c.args.election.now)) _ _ _ _ all c.loop-number.invariant.lines

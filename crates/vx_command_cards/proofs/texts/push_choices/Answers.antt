@@ -14,5 +14,5 @@ loop-option-preserved c = record {
 
 pub returns-clause-lines : goal.returns-clause-lines
 returns-clause-lines c =
-    let all : c.loop-option.option ≡ length c.args.contest.now.choices = omega (arith, c.len-option-end.ensures, c.loop-option-test.false) in
+    let all : c.loop-option.option ≡ length c.args.contest.now.choices = omega arith in
     lines_up_to (option_lines c.args.flaw c.args.contest.now) c.loop-option.option (length c.args.contest.now.choices) _ _ _ _ all c.loop-option.invariant.lines
