@@ -1,0 +1,4 @@
+mod Cutting
+mod Lined
+mod Looking
+mod Told
