@@ -1,3 +1,4 @@
+pub mod Ascending
 pub mod Bytes
 pub mod Each
 pub mod Few
@@ -6,3 +7,4 @@ pub mod Grouped
 pub mod Looked
 pub mod Marked
 pub mod Ranked
+pub mod Whole

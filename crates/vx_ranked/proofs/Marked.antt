@@ -195,7 +195,7 @@ added_at from (Claim station key ∷ events) place added is = let more = added_a
 added_at from (Release station key ∷ events) place added is = let more = added_at (from + 1) events place added is in (suc more.0, more.1)
 added_at from (Decide station key contest decision ∷ events) place added is = let more = added_at (from + 1) events place added is in (suc more.0, more.1)
 
-sheet-ascends : (election : Election) (sheet : SheetMarks) → is_sheet election sheet ≡ true → is_ascending (contests_of sheet.contests) ≡ true
+pub sheet-ascends : (election : Election) (sheet : SheetMarks) → is_sheet election sheet ≡ true → is_ascending (contests_of sheet.contests) ≡ true
 sheet-ascends election sheet is = and-right _ (is_ascending (contests_of sheet.contests)) (and-left _ (list_all (is_read election) sheet.contests) is)
 
 pub ranked-as-marked : UndecidedSheetsAreRankedAsMarked

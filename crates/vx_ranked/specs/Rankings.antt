@@ -5,6 +5,7 @@ use Rattle.vx_election_model.specs.declared.election.Election.{Election}
 use Rattle.vx_rules.specs.declared.marks.ContestMarks.{ContestMarks}
 use Rattle.vx_rules.specs.declared.marks.SheetMarks.{SheetMarks}
 use Rattle.vx_events.specs.declared.event.Event.{Event}
+use Rattle.vx_events.specs.Ascending.{is_ascending}
 use Rattle.vx_center.specs.declared.rows.Final.{Final}
 use Rattle.vx_center.specs.Exports.{row_of}
 use Rattle.vx_center.specs.Sheets.{Added, sheets_in}
@@ -15,6 +16,10 @@ use Rattle.vx_ranked.specs.Members.{is_among}
 -- what an exported contest of a sheet counts as
 abbrev pub final_on : List Final → ℕ → Option Final
 final_on finals contest = find (λ (one : Final). one.contest == contest) finals
+
+-- exported contests in the order of their places, each once
+abbrev pub are_ascending : List Final → Bool
+are_ascending finals = is_ascending (map (λ (one : Final). one.contest) finals)
 
 -- the options that count as selected at a rank, which are candidates
 abbrev pub named_by : Option Final → List ℕ

@@ -1,6 +1,6 @@
 //! The ranking of a sheet.
 
-ghost use Rattle.std.specs.Prelude.{◌≡◌, fold, not, if◌then◌else◌, IfOk, OnOk, Some};
+ghost use Rattle.std.specs.Prelude.{◌≡◌, false, true, fold, length, not, if◌then◌else◌, IfOk, OnOk, Some};
 ghost use Rattle.std.specs.List.{list_any};
 ghost use Rattle.std.specs.Option.{option_copied};
 ghost use Rattle.vx_ranked.specs.Rankings as words;
@@ -13,11 +13,41 @@ use vx_center::Final;
 use vx_rounds::Ranking;
 use vx_rules::{ContestMarks, SheetMarks};
 
+/// The place of an exported contest. It is no promise.
+fn place_of(finals: &[Final], contest: u32) -> usize {
+    finals
+        .iter()
+        .position(|one| one.contest == contest)
+        .unwrap_or(0)
+}
+
 /// What an exported contest counts as.
 fn final_on(finals: &[Final], contest: u32) -> Option<&Final>
     ensures { option_copied result ≡ words.final_on finals.now contest }
 {
     finals.iter().find(|one| one.contest == contest)
+}
+
+/// The same where each contest stands once. It is likely at that place.
+fn final_at(finals: &[Final], contest: u32, likely: usize) -> Option<&Final>
+    requires { words.are_ascending finals.now ≡ true }
+    ensures { option_copied result ≡ words.final_on finals.now contest }
+{
+    if let Some(one) = finals.get(likely) {
+        if one.contest == contest {
+            return Some(one);
+        }
+    }
+    final_on(finals, contest)
+}
+
+/// Where the exported contest of the first rank stands; the further ranks' mostly stand behind it. It is no
+/// promise.
+fn first_place(finals: &[Final], contests: &[u32]) -> usize {
+    match contests.first() {
+        Some(first) => place_of(finals, *first),
+        None => 0,
+    }
 }
 
 /// Whether a rank ends the list.
@@ -67,13 +97,16 @@ fn take_rank(ranking: &mut Vec<u32>, rank: Option<&Final>) -> Result<bool, OutOf
 /// The ranking of a sheet with those exported contests.
 #[tactic(auto, unfolding(crate::specs::Rankings::ranking_of))]
 fn ranking_of(alloc: Global, finals: &[Final], contests: &[u32]) -> Result<Ranking, OutOfMemory>
+    requires { words.are_ascending finals.now ≡ true }
     ensures { IfOk result (λ ranking. ranking ≡ ranking_of finals.now contests.now) }
 {
-    let mut ranking = Vec::new(alloc);
+    let mut ranking = Vec::with_capacity(alloc, contests.len())?;
+    let mut likely = first_place(finals, contests);
     for contest in contests {
-        if !take_rank(&mut ranking, final_on(finals, *contest))? {
+        if !take_rank(&mut ranking, final_at(finals, *contest, likely))? {
             return Ok(Ranking::from_vec(ranking));
         }
+        likely = likely.saturating_add(1);
     }
     Ok(Ranking::from_vec(ranking))
 }
@@ -90,8 +123,8 @@ fn waits_in(finals: &[Final], contests: &[u32], marks: &ContestMarks) -> bool
     is_of_group(contests, marks) && final_on(finals, marks.contest).is_none()
 }
 
-/// Whether a sheet waits.
-pub(crate) fn is_waiting(contests: &[u32], sheet: &SheetMarks, finals: &[Final]) -> bool
+/// Whether a sheet waits, by a look at each of its contests.
+fn is_waiting(contests: &[u32], sheet: &SheetMarks, finals: &[Final]) -> bool
     ensures { result ≡ words.is_waiting contests.now sheet.now finals.now }
 {
     sheet
@@ -99,6 +132,18 @@ pub(crate) fn is_waiting(contests: &[u32], sheet: &SheetMarks, finals: &[Final])
         .as_slice()
         .iter()
         .any(|marks| waits_in(finals, contests, marks))
+}
+
+/// Whether a sheet waits. It doesn't where as many contests are exported as it has.
+pub(crate) fn waits(contests: &[u32], sheet: &SheetMarks, finals: &[Final]) -> bool
+    requires whole { length finals.now ≡ length sheet.now.contests
+        → words.is_waiting contests.now sheet.now finals.now ≡ false }
+    ensures { result ≡ words.is_waiting contests.now sheet.now finals.now }
+{
+    if finals.len() == sheet.contests.len() {
+        return false;
+    }
+    is_waiting(contests, sheet, finals)
 }
 
 fn has_group(contests: &[u32], sheet: &SheetMarks) -> bool
@@ -111,17 +156,19 @@ fn has_group(contests: &[u32], sheet: &SheetMarks) -> bool
         .any(|marks| is_of_group(contests, marks))
 }
 
-/// The ranking of a sheet, if it has one.
+/// The ranking of a sheet that doesn't wait, if it has one.
 pub(crate) fn ranking_by(
     alloc: Global,
     contests: &[u32],
     sheet: &SheetMarks,
     finals: &[Final],
 ) -> Result<Option<Ranking>, OutOfMemory>
+    requires ascending { words.are_ascending finals.now ≡ true }
+    requires ready { words.is_waiting contests.now sheet.now finals.now ≡ false }
     ensures { IfOk result (λ ranking.
         words.rankings_by contests.now sheet.now finals.now ≡ words.list_of ranking) }
 {
-    if has_group(contests, sheet) && !is_waiting(contests, sheet, finals) {
+    if has_group(contests, sheet) {
         Ok(Some(ranking_of(alloc, finals, contests)?))
     } else {
         Ok(None)

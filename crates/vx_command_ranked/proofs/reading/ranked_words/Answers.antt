@@ -17,7 +17,7 @@ by_place (one ∷ two ∷ three ∷ four ∷ more) first second third many a b c
 
 pub returns-then-is_argument-2 : goal.returns-then-is_argument-2
 returns-then-is_argument-2 c =
-    let many : length c.args.words.now ≡ 3 = sym c.count.ensures ∙ c.if-count-ne3.false in
+    let many : length c.args.words.now ≡ 3 = search rules in
     let named : c.word.result.now ≡ codes "ranked" = search rules in
     record {
       words_are =
