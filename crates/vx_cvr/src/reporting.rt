@@ -5,6 +5,7 @@ ghost use Rattle.serde_json.specs.Written.{compact_text, has_float, members_text
 ghost use Rattle.vx_election_model.specs.Valid.{IsValid};
 ghost use Rattle.vx_cvr.specs.Json.{described};
 ghost use Rattle.vx_cvr.specs.Report as spec;
+ghost use Rattle.vx_cvr.specs.Rows.{rows_of};
 
 use crate::contests::election as election_object;
 use crate::names::device_name;
@@ -13,7 +14,7 @@ use crate::sheets::push_sheets;
 use serde_json::{Value, json};
 use std::alloc::Global;
 use vx_base::{Bytes, OutOfMemory};
-use vx_center::{Center, ExportSheet, sheets_have_own_keys};
+use vx_center::{Center, ExportSheet, ExportSheets, sheets_have_own_keys};
 use vx_election_model::Election;
 use vx_styles::cards;
 
@@ -86,6 +87,23 @@ fn push_report(
     push_members(alloc, text, &behind)
 }
 
+/// The rows of a report: what is exported of each sheet that the center has kept, in the order of their keys.
+pub fn report_rows(
+    alloc: Global,
+    election: &Election,
+    center: &Center<'_>,
+) -> Result<ExportSheets, OutOfMemory>
+    requires { center.now.election ≡ election.now }
+    ensures exact { IfOk result (λ rows. rows ≡ rows_of election.now center.now.events) }
+    ensures contests { IfOk result (All (spec.HasItsContests election.now)) }
+{
+    // What the kept events are: no key stands in them twice, so that their rows have one order.
+    let _kept = center.events();
+    sheets_have_own_keys();
+    let rows = center.export_rows(alloc)?;
+    Ok(rows)
+}
+
 /// The report of a count as one line of text: the sheets that the center has kept, with their exported
 /// contests, at a moment (`YYYY-MM-DDTHH:MM:SSZ`), from a device (its UUID in lower case with hyphens).
 pub fn report(
@@ -100,10 +118,7 @@ pub fn report(
     ensures { IfOk result (λ text. text
         ≡ spec.report_of election.now center.now.events moment.now device.now) }
 {
-    // What the kept events are: no key stands in them twice, so that their rows have one order.
-    let _kept = center.events();
-    sheets_have_own_keys();
-    let rows = center.export_rows(alloc)?;
+    let rows = report_rows(alloc, election, center)?;
     let mut text = Bytes::new(alloc);
     push_report(alloc, &mut text, election, rows.as_slice(), moment, device)?;
     text.push(b'\n')?;

@@ -204,8 +204,8 @@ fn precinct_id(election: &Election, precinct: u32) -> &str
     }
 }
 
-/// The card with a number.
-fn card_at(cards: &[Card], number: u32) -> Card
+/// The card with a number; one of the first style and precinct where none has it.
+pub fn card_at(cards: &[Card], number: u32) -> Card
     ensures { result ≡ slice_index_or cards.now number no_card }
 {
     match cards.get(number as usize) {
