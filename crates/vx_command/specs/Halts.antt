@@ -14,9 +14,9 @@ use Rattle.vx_layout.specs.FaultTexts.{layout_fault_text}
 use Rattle.vx_pbm.specs.declared.fault.PbmFault.{PbmFault}
 use Rattle.vx_pbm.specs.declared.fault.PbmFault.TheVariants as bitmap
 use Rattle.vx_pbm.specs.FaultTexts.{pbm_fault_text}
-use Rattle.vx_refusals.specs.Texts.{readings_text, decision_text, journal_text}
+use Rattle.vx_refusals.specs.Texts.{readings_text, decision_text, journal_text, sheet_text}
 use Rattle.vx_command.specs.declared.halt.Halt.{Halt}
-use Rattle.vx_command.specs.declared.halt.Halt.TheVariants.{NoInput, TooLong, Election, Layout, Pbm, NotCertified, Decision, Journal, TooManyEvents, ReadFault, WriteFault, KeeperFault, NoMemory}
+use Rattle.vx_command.specs.declared.halt.Halt.TheVariants.{NoInput, TooLong, Election, Layout, Pbm, NotCertified, Decision, Journal, TooManyEvents, NoSheet, ReadFault, WriteFault, KeeperFault, NoMemory}
 
 -- the number that the program ends with
 abbrev pub halt_number : Halt → ℕ
@@ -33,6 +33,7 @@ halt_number WriteFault = 11
 halt_number KeeperFault = 12
 halt_number NoMemory = 13
 halt_number (TooManyEvents word count) = 18
+halt_number (NoSheet number cause) = 19
 
 -- the cause in words
 abbrev pub halt_line : Halt → List ℕ
@@ -45,6 +46,7 @@ halt_line (NotCertified fault) = codes "not certified " ++ readings_text fault
 halt_line (Decision line fault) = codes "decision line " ++ decimal line ++ 32 ∷ decision_text fault
 halt_line (Journal index stop) = codes "journal " ++ decimal index ++ 32 ∷ journal_text stop
 halt_line (TooManyEvents word count) = codes "too many events " ++ decimal word ++ 32 ∷ decimal count
+halt_line (NoSheet number cause) = codes "sheet " ++ decimal number ++ 32 ∷ sheet_text cause
 halt_line ReadFault = codes "read fault"
 halt_line WriteFault = codes "write fault"
 halt_line KeeperFault = codes "keeper fault"

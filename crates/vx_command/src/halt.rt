@@ -7,7 +7,7 @@ use vx_election::ElectionFault;
 use vx_io::TakeFault;
 use vx_layout::{CardFault, LayoutFault};
 use vx_pbm::PbmFault;
-use vx_refusals::{CertFault, DecisionFault, JournalStop};
+use vx_refusals::{CertFault, DecisionFault, JournalStop, SheetCause};
 
 /// Why a command halts before its work is done. Words are counted from 0. A further cause is a variant
 /// here, with its number and its line, in `specs/Halts.antt` too.
@@ -31,6 +31,8 @@ pub enum Halt {
     Journal(u64, JournalStop),
     /// The items up to the one of that word may have so many events, more than a shared center takes.
     TooManyEvents(u32, u64),
+    /// The images of the sheet with that number, from 1, are no sheet.
+    NoSheet(u64, SheetCause),
     /// The inputs failed.
     ReadFault,
     /// The sink failed.
@@ -60,6 +62,7 @@ impl Halt {
             Halt::KeeperFault => 12,
             Halt::NoMemory => 13,
             Halt::TooManyEvents(_, _) => 18,
+            Halt::NoSheet(_, _) => 19,
         }
     }
 }
@@ -82,6 +85,7 @@ impl fmt::Display for Halt {
             Halt::Decision(line, fault) => write!(f, "decision line {line} {fault}"),
             Halt::Journal(index, stop) => write!(f, "journal {index} {stop}"),
             Halt::TooManyEvents(word, count) => write!(f, "too many events {word} {count}"),
+            Halt::NoSheet(number, cause) => write!(f, "sheet {number} {cause}"),
             Halt::ReadFault => f.write_str("read fault"),
             Halt::WriteFault => f.write_str("write fault"),
             Halt::KeeperFault => f.write_str("keeper fault"),
