@@ -14,7 +14,8 @@ use Rattle.vx_layout.specs.FaultTexts.{layout_fault_text}
 use Rattle.vx_pbm.specs.declared.fault.PbmFault.{PbmFault}
 use Rattle.vx_pbm.specs.declared.fault.PbmFault.TheVariants as bitmap
 use Rattle.vx_pbm.specs.FaultTexts.{pbm_fault_text}
-use Rattle.vx_refusals.specs.Texts.{readings_text, decision_text, journal_text, sheet_text}
+use Rattle.vx_refusals.specs.Texts.{readings_text, decision_text, journal_text}
+use Rattle.vx_command.specs.Causes.{sheet_text}
 use Rattle.vx_command.specs.declared.halt.Halt.{Halt}
 use Rattle.vx_command.specs.declared.halt.Halt.TheVariants.{NoInput, TooLong, Election, Layout, Pbm, NotCertified, Decision, Journal, TooManyEvents, NoSheet, ReadFault, WriteFault, KeeperFault, NoMemory}
 

@@ -1,4 +1,5 @@
 pub mod Halts
+pub mod Causes
 pub mod Acts
 pub mod Elections
 pub mod Images

@@ -1,13 +1,14 @@
 ghost use Rattle.std.specs.Prelude.{◌≡◌};
 ghost use Rattle.vx_command.specs.Halts.{bitmap_halt, card_halt, election_halt, halt_number, taking_halt};
 
+use crate::causes::SheetCause;
 use std::alloc::AllocError;
 use std::fmt;
 use vx_election::ElectionFault;
 use vx_io::TakeFault;
 use vx_layout::{CardFault, LayoutFault};
 use vx_pbm::PbmFault;
-use vx_refusals::{CertFault, DecisionFault, JournalStop, SheetCause};
+use vx_refusals::{CertFault, DecisionFault, JournalStop};
 
 /// Why a command halts before its work is done. Words are counted from 0. A further cause is a variant
 /// here, with its number and its line, in `specs/Halts.antt` too.

@@ -8,6 +8,7 @@
 //! act to act.
 #![tactic(auto)]
 
+mod causes;
 mod halt;
 mod laws;
 mod plans;
@@ -15,6 +16,7 @@ mod status;
 mod taking;
 mod writing;
 
+pub use causes::SheetCause;
 pub use halt::{Halt, halt_of_bitmap, halt_of_card};
 pub use laws::{
     acts_in_order, records_in_order, scanned_images_are_whole, steps_in_order,

@@ -1,4 +1,4 @@
--- Why readings, scripts, journals and sheets are refused, as text: a fault's number, and its values with blanks between.
+-- Why readings, scripts and journals are refused, as text: a fault's number, and its values with blanks between.
 use Rattle.std.specs.Prelude.{ℕ, List, [], ◌++◌, ◌∷◌, Option, None, Some, codes}
 use Rattle.std.specs.Fmt.{decimal, signed_decimal}
 use Rattle.vx_grid.specs.declared.paper.Paper.{Paper}
@@ -12,8 +12,6 @@ use Rattle.vx_refusals.specs.declared.journal.JournalStop.{JournalStop}
 use Rattle.vx_refusals.specs.declared.journal.JournalStop.TheVariants as journal
 use Rattle.vx_refusals.specs.declared.readings.CertFault.{CertFault}
 use Rattle.vx_refusals.specs.declared.readings.CertFault.TheVariants.{Page, Line, Pages}
-use Rattle.vx_refusals.specs.declared.sheets.SheetCause.{SheetCause}
-use Rattle.vx_refusals.specs.declared.sheets.SheetCause.TheVariants.{Unread, Unpaired, Single}
 use Rattle.vx_refusals.specs.ReplyTexts.{reply_text}
 
 -- a value that may be missing
@@ -57,9 +55,3 @@ journal_text (journal.Bad at) = codes "bad " ++ decimal at
 journal_text (journal.Refused reply) = reply_text reply
 journal_text journal.OtherElection = codes "other election"
 journal_text journal.Unfit = codes "unfit"
-
--- why images are no sheet
-abbrev pub sheet_text : SheetCause → List ℕ
-sheet_text Unread = codes "unread"
-sheet_text Unpaired = codes "unpaired"
-sheet_text Single = codes "single"

@@ -1,3 +1,5 @@
+//! Why two images are no sheet.
+
 use std::fmt;
 
 /// Why images that come next are no sheet.
@@ -14,7 +16,7 @@ pub enum SheetCause {
 /// The cause in a word.
 impl fmt::Display for SheetCause {
     ghost use Rattle.std.specs.Prelude.{Some};
-    ghost use Rattle.vx_refusals.specs.Texts.{sheet_text};
+    ghost use Rattle.vx_command.specs.Causes.{sheet_text};
 
     ghost output = { λ cause. Some (sheet_text cause) };
 
