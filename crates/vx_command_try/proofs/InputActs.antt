@@ -1,0 +1,35 @@
+-- Scans that are taken and tried one after another.
+use Rattle.std.proofs.Common.{◌≡◌, ◌+◌, ℕ, List, Result, Ok, Err}
+use Rattle.vx_election_model.specs.declared.election.Election.{Election}
+use Rattle.vx_io.specs.Outside.{Files}
+use Rattle.vx_pbm.specs.Images.{images_of}
+use Rattle.vx_command.specs.declared.halt.Halt.{Halt}
+use Rattle.vx_command.specs.Acts.{Outcome, input_of, input_limit}
+use Rattle.vx_command.specs.Done.{Taken}
+use Rattle.vx_command.specs.Laws.{StepLaws}
+use Rattle.vx_command.specs.Steps.{GivesTaking}
+use Rattle.vx_command_try.specs.declared.tried.Tried.{Tried}
+use Rattle.vx_command_try.specs.Outcome.{scan_outcome, scans_outcome}
+use Rattle.vx_command_try.specs.Setting.{waits}
+use Rattle.vx_command_try.specs.Steps.{TriesFirst, TriesScan}
+
+-- what follows once the scan of a word is taken
+abbrev scan_rest : Election → Files → ℕ → Tried → List (List ℕ) → List ℕ → Outcome
+scan_rest election files word old names bytes =
+    scan_outcome election word old.sheets (waits old.waiting) (images_of bytes) (λ now left. scans_outcome election files (word + 1) now left names)
+
+module _ (laws : StepLaws (List ℕ)) (election : Election) (files : Files) (word : ℕ) (old : Tried) (name : List ℕ) (a b : Taken) where
+  -- a scan that wasn't taken
+  pub input-missing : (cause : Halt) → GivesTaking word (Err cause) (input_of word input_limit (files name)) → TriesFirst election files word old name a a (Err cause)
+  input-missing cause gives = λ names.
+      laws.not_taken word (input_of word input_limit (files name)) cause (scan_rest election files word old names) a gives
+
+  -- one that was taken, as far as its images were tried
+  pub input-taken : (bytes : List ℕ) → input_of word input_limit (files name) ≡ Ok bytes → (result : Result Tried Halt)
+      → TriesScan election word old (images_of bytes) a b result → TriesFirst election files word old name a b result
+  input-taken bytes given (Err cause) tries = λ names held.
+      laws.taken word (input_of word input_limit (files name)) bytes (scan_rest election files word old names) a given held b held (Err cause)
+      (tries (λ now left. scans_outcome election files (word + 1) now left names) held)
+  input-taken bytes given (Ok new) tries = λ names held taken_then held_then answer done.
+      laws.taken word (input_of word input_limit (files name)) bytes (scan_rest election files word old names) a given held taken_then held_then answer
+      (tries (λ now left. scans_outcome election files (word + 1) now left names) held taken_then held_then answer done)

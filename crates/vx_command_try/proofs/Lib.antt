@@ -1,0 +1,5 @@
+pub mod SheetActs
+pub mod ImageActs
+pub mod ScanActs
+pub mod InputActs
+pub mod Sets

@@ -1,0 +1,80 @@
+ghost use Rattle.std.specs.Prelude.{◌≡◌, ◌≤◌, [], true, false, length};
+ghost use Rattle.std.specs.Option.{ForSome};
+ghost use Rattle.vx_election_model.specs.Valid.{IsValid};
+ghost use Rattle.vx_layout.specs.Plans.{ArePlansOf};
+ghost use Rattle.vx_command.specs.Devices.{is_keeper_fault, LeavesInputs, LeavesSink, writes_nothing};
+ghost use Rattle.vx_command.specs.Done.{IsWritten};
+ghost use Rattle.vx_command.specs.Elections.{once_planned};
+ghost use Rattle.vx_command_try.specs.Outcome.{scans_outcome, try_outcome};
+ghost use Rattle.vx_command_try.specs.Setting.{IsSet};
+
+use crate::scans::try_scans;
+use crate::setting::Setting;
+use std::alloc::Global;
+use vx_command::{Halt, plan_all, steps_in_order, take_election};
+use vx_election_model::Election;
+use vx_io::{Inputs, Sink};
+use vx_json::Texts;
+use vx_layout::{CardPlans, plans_show_each_option};
+
+/// What stays the same over a `try` of planned cards.
+fn set_up<'a>(election: &'a Election, plans: &'a CardPlans) -> Setting<'a>
+    requires election { IsValid election.now }
+    requires plans { ArePlansOf election.now plans.now }
+    ensures set { IsSet result }
+    ensures election { result.election.now ≡ election.now }
+{
+    plans_show_each_option();
+    Setting { election, plans }
+}
+
+/// Plans all cards of the election and tries the scans.
+fn try_planned<I: Inputs, S: Sink>(
+    alloc: Global,
+    election: &Election,
+    scans: &Texts,
+    inputs: &mut I,
+    out: &mut S,
+) -> Result<(), Halt>
+    requires election { IsValid election.now }
+    requires few { length scans.now ≤ 64 }
+    ensures done { ForSome (I.held inputs.old) (λ files.
+        IsWritten (once_planned election.now (scans_outcome election.now files 2 0 [] scans.now))
+        (S.taken out.old) (S.taken out.new) result) }
+    ensures nothing_written { writes_nothing false result ≡ true → S.taken out.new ≡ S.taken out.old }
+    ensures inputs { LeavesInputs (I.held inputs.old) (I.held inputs.new)
+        (I.faults inputs.old) (I.faults inputs.new) result }
+    ensures sink { LeavesSink (S.faults out.old) (S.faults out.new) result }
+    ensures no_keeper_fault { is_keeper_fault result ≡ false }
+{
+    steps_in_order::<CardPlans>();
+    let plans = plan_all(alloc, election)?;
+    let setting = set_up(election, &plans);
+    try_scans(alloc, &setting, scans.as_slice(), inputs, out)
+}
+
+/// Does the command `try`: takes the election under its name, plans all its cards, and reads the images of
+/// the scans under their names two by two, as `count` does: it writes a line for each sheet, and how many
+/// there are. At the first images that are no sheet it says why, and halts; nothing behind them is read or
+/// taken. It keeps nothing. The election is word 1, the scans are the words from 2 on.
+pub fn try_sheets<I: Inputs, S: Sink>(
+    alloc: Global,
+    election: &str,
+    scans: &Texts,
+    inputs: &mut I,
+    out: &mut S,
+) -> Result<(), Halt>
+    requires { length scans.now ≤ 64 }
+    ensures done { ForSome (I.held inputs.old) (λ files.
+        IsWritten (try_outcome election.now scans.now files)
+        (S.taken out.old) (S.taken out.new) result) }
+    ensures nothing_written { writes_nothing false result ≡ true → S.taken out.new ≡ S.taken out.old }
+    ensures inputs { LeavesInputs (I.held inputs.old) (I.held inputs.new)
+        (I.faults inputs.old) (I.faults inputs.new) result }
+    ensures sink { LeavesSink (S.faults out.old) (S.faults out.new) result }
+    ensures no_keeper_fault { is_keeper_fault result ≡ false }
+{
+    steps_in_order::<Election>();
+    let given = take_election(alloc, inputs, election)?;
+    try_planned(alloc, &given, scans, inputs, out)
+}
