@@ -6,7 +6,7 @@ use Rattle.std.proofs.lemmas.Bool.{false_from_ne_true, not_from_false, true≢fa
 use Rattle.std.proofs.lemmas.Option.{same_Some}
 use Rattle.std.proofs.lemmas.Slice.Eq.{bytes_eq-Decides}
 use Rattle.vx_words.specs.declared.command.Command.{Command}
-use Rattle.vx_words.specs.declared.command.Command.TheVariants.{Print, Read, Check, Count, Decide, Queue, Export, Demo, Center}
+use Rattle.vx_words.specs.declared.command.Command.TheVariants.{Print, Read, Check, Count, Decide, Queue, Export, Demo, Center, Try, Cards, Results}
 use Rattle.vx_words.specs.declared.command.ItemWord.{ItemWord}
 use Rattle.vx_words.specs.Names.{name_word}
 use Rattle.vx_words.specs.Words.{Spells, name_of}
@@ -45,6 +45,9 @@ center_alone words (Decide election script) is spelled none = true≢false is
 center_alone words (Queue election) is spelled none = true≢false is
 center_alone words (Export election moment named) is spelled none = true≢false is
 center_alone words (Demo seed sheets) is spelled none = true≢false is
+center_alone words (Try election scans) is spelled none = true≢false is
+center_alone words (Cards election) is spelled none = true≢false is
+center_alone words (Results election) is spelled none = true≢false is
 
 pub no_other : (words : List (List ℕ)) (command : Command) → NamesCenter words → Spells words command → NoCenter words → ⊥
 no_other words command first spelled = center_alone words command (is_center words command first spelled) spelled

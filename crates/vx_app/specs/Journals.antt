@@ -11,7 +11,7 @@ use Rattle.vx_command_center.specs.Runs.{Centers}
 use Rattle.vx_journal.specs.Laws.{AreRecordsOf, IsJournal}
 use Rattle.vx_journal.specs.Replay.{replay_of}
 use Rattle.vx_words.specs.declared.command.Command.{Command}
-use Rattle.vx_words.specs.declared.command.Command.TheVariants.{Print, Read, Check, Count, Decide, Queue, Export, Demo, Center}
+use Rattle.vx_words.specs.declared.command.Command.TheVariants.{Print, Read, Check, Count, Decide, Queue, Export, Demo, Center, Try, Cards, Results}
 use Rattle.vx_words.specs.Words.{Spells}
 use Rattle.vx_app.specs.Outcome.{appends, outcome_of}
 use Rattle.vx_app.specs.Runs.{is_run}
@@ -31,6 +31,9 @@ IsFor (Queue name) = IsNamed name
 IsFor (Export name moment device) = IsNamed name
 IsFor (Demo seed sheets) = λ files election. Unit {0}
 IsFor (Center name moment device items) = IsNamed name
+IsFor (Try name scans) = IsNamed name
+IsFor (Cards name) = IsNamed name
+IsFor (Results name) = IsNamed name
 
 -- a keeper holds a journal of an election that keeps these events, and perhaps more behind them
 pub record HoldsMore (election : Election) (events : List Event) (held : Held) : Type 0 where

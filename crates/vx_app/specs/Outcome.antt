@@ -10,8 +10,11 @@ use Rattle.vx_command_decide.specs.Outcome.{decide_outcome}
 use Rattle.vx_command_queue.specs.Outcome.{queue_outcome}
 use Rattle.vx_command_export.specs.Outcome.{export_outcome}
 use Rattle.vx_command_demo.specs.Outcome.{demo_outcome}
+use Rattle.vx_command_try.specs.Outcome.{try_outcome}
+use Rattle.vx_command_cards.specs.Outcome.{cards_outcome}
+use Rattle.vx_command_results.specs.Outcome.{results_outcome}
 use Rattle.vx_words.specs.declared.command.Command.{Command}
-use Rattle.vx_words.specs.declared.command.Command.TheVariants.{Print, Read, Check, Count, Decide, Queue, Export, Demo, Center}
+use Rattle.vx_words.specs.declared.command.Command.TheVariants.{Print, Read, Check, Count, Decide, Queue, Export, Demo, Center, Try, Cards, Results}
 
 -- what a command does, by the files and the records of the journal; the acts of `center`, which its history tells besides, stand
 -- in its own `Centers`, and nothing here
@@ -26,6 +29,9 @@ outcome_of (Queue election) files records = queue_outcome election files records
 outcome_of (Export election moment device) files records = export_outcome election moment device files records
 outcome_of (Demo seed sheets) files records = demo_outcome seed sheets
 outcome_of (Center election moment device items) files records = finished
+outcome_of (Try election scans) files records = try_outcome election scans files
+outcome_of (Cards election) files records = cards_outcome election files
+outcome_of (Results election) files records = results_outcome election files records
 
 -- a command that has an act of the keeper
 abbrev pub uses_keeper : Command → Bool
@@ -33,6 +39,8 @@ uses_keeper (Print election card kind test) = false
 uses_keeper (Read election scans) = false
 uses_keeper (Check election scans readings) = false
 uses_keeper (Demo seed sheets) = false
+uses_keeper (Try election scans) = false
+uses_keeper (Cards election) = false
 uses_keeper command = true
 
 -- a command that appends to the journal
@@ -47,4 +55,5 @@ abbrev pub takes_first : Command → Bool
 takes_first (Print election card kind test) = true
 takes_first (Check election scans readings) = true
 takes_first (Center election moment device items) = true
+takes_first (Cards election) = true
 takes_first command = false

@@ -23,6 +23,7 @@ use crate::centering::is_center;
 use std::alloc::Global;
 use std::thread::Threads;
 use vx_command::{Halt, Status, acts_in_order, status_of};
+use vx_command_cards::cards;
 use vx_command_center::center_keeps_journals;
 use vx_command_check::{certified_pages_say_what_fits, check};
 use vx_command_count::{count, count_keeps_journals, fitting_sheets_are_kept};
@@ -32,6 +33,8 @@ use vx_command_export::{export, exports_write_what_was_kept};
 use vx_command_print::{Ballot, print};
 use vx_command_queue::{queue, queues_write_what_waits};
 use vx_command_read::{fitting_scans_are_told, read};
+use vx_command_results::results;
+use vx_command_try::try_sheets;
 use vx_io::{Inputs, Keeper, Sink, Words};
 use vx_journal::{fronts_are_journals, journals_stay};
 use vx_words::{Command, UsageFault, parse, words_spell_one_command};
@@ -128,6 +131,11 @@ fn obey<R: Threads + Sync, I: Inputs, S: Sink, K: Keeper, G: Gate>(
         ),
         Command::Demo { seed, sheets } => demo(rt, alloc, seed, sheets, out),
         Command::Center { .. } => unreachable!(),
+        Command::Try { election, scans } => {
+            try_sheets(alloc, election.as_str(), &scans, inputs, out)
+        }
+        Command::Cards { election } => cards(alloc, election.as_str(), inputs, out),
+        Command::Results { election } => results(alloc, election.as_str(), inputs, out, keeper),
     }
 }
 
