@@ -84,7 +84,7 @@ fn push_choice(
     Ok(())
 }
 
-/// Adds the lines of all choices of a contest.
+/// Adds the lines of all choices of a contest. Each pair of them is looked at.
 fn push_pairs(alloc: Global, lines: &mut Lines, contest: &Contest) -> Result<(), OutOfMemory>
     requires { lines.old.count ≤ length (string_bytes lines.old.text) }
     ensures lines { OnOk result (GotLines (alike.contest_pairs contest.now)

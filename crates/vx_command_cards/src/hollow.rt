@@ -19,7 +19,9 @@ fn push_point(points: &mut Vec<char>, characters: &[char], place: usize) -> Resu
     Ok(())
 }
 
-/// The hollow characters among some, each once, in the order in which they first stand there.
+/// The hollow characters among some, each once, in the order in which they first stand there. Each
+/// hollow one is looked for among all before it, so a text of hollow characters alone takes time in
+/// proportion to the square of their number.
 fn hollow_in(alloc: Global, characters: &[char]) -> Result<Vec<char>, OutOfMemory>
     ensures { IfOk result (λ points. points.items ≡ drawn.hollow_in characters.now) }
 {

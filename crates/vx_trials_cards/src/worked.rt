@@ -8,7 +8,8 @@ use vx_io::{MemInputs, MemSink, NamedBytes};
 
 /// Two cards; names and a question with characters that the font hasn't, a title that is cut behind
 /// `300,`, and two pairs of names that look alike, of which one has a blank at its end.
-const TOWN: &str = r#"{"title":"T","date":"2025-05-06","districts":[{"id":"d","name":"D"}],"precincts":[{"id":"p","name":"North Side"},{"id":"q","name":"Süd"}],"contests":[{"id":"mayor","type":"candidate","districtId":"d","title":"Mayor","seats":1,"allowWriteIns":true,"candidates":[{"id":"a","name":"José"},{"id":"b","name":"Josü"},{"id":"c","name":"Ada"},{"id":"e","name":"Ada "}]},{"id":"bond","type":"yesno","districtId":"d","title":"Shall the village borrow 300,000 dollars","description":"Ö, Ä, Ö or 😀?"}],"ballotStyles":[{"id":"s","precincts":["p","q"],"districts":["d"]}]}"#;
+const TOWN: &str =
+    r#"{"title":"T","date":"2025-05-06","districts":[{"id":"d","name":"D"}],"precincts":[{"id":"p","name":"North Side"},{"id":"q","name":"Süd"}],"contests":[{"id":"mayor","type":"candidate","districtId":"d","title":"Mayor","seats":1,"allowWriteIns":true,"candidates":[{"id":"a","name":"José"},{"id":"b","name":"Josü"},{"id":"c","name":"Ada"},{"id":"e","name":"Ada "}]},{"id":"bond","type":"yesno","districtId":"d","title":"Shall the village borrow 300,000 dollars","description":"Ö, Ä, Ö or 😀?"}],"ballotStyles":[{"id":"s","precincts":["p","q"],"districts":["d"]}]}"#;
 
 const TOWN_TEXT: &str = "card 0 style s precinct p pages 2 contests 2 North Side
 card 1 style s precinct q pages 2 contests 2 Süd
@@ -22,7 +23,8 @@ cards 2 hollow 3 cut 1 alike 2
 ";
 
 /// One card, which can't be planned: a name has 59 characters, so three lines of which two are cut.
-const LONG: &str = r#"{"title":"T","date":"2025-05-06","districts":[{"id":"d","name":"D"}],"precincts":[{"id":"p","name":"N"}],"contests":[{"id":"c","type":"candidate","districtId":"d","title":"Mayor","seats":1,"candidates":[{"id":"a","name":"xxxxxxxxxxxxxxxxxxxxxxxxxxxxxxxxxxxxxxxxxxxxxxxxxxxxxxxxxxx"}]}],"ballotStyles":[{"id":"s","precincts":["p"],"districts":["d"]}]}"#;
+const LONG: &str =
+    r#"{"title":"T","date":"2025-05-06","districts":[{"id":"d","name":"D"}],"precincts":[{"id":"p","name":"N"}],"contests":[{"id":"c","type":"candidate","districtId":"d","title":"Mayor","seats":1,"candidates":[{"id":"a","name":"xxxxxxxxxxxxxxxxxxxxxxxxxxxxxxxxxxxxxxxxxxxxxxxxxxxxxxxxxxx"}]}],"ballotStyles":[{"id":"s","precincts":["p"],"districts":["d"]}]}"#;
 
 const LONG_TEXT: &str = "card 0 style s precinct p layout 2 c 59 contests 1 N
 cut c option a 1
