@@ -12,3 +12,4 @@ pub mod Recorded
 pub mod Standing
 pub mod Said
 mod Ends
+mod AllAdded

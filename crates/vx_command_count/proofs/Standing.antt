@@ -43,15 +43,16 @@ use Rattle.vx_command_count.proofs.Held.{kept-records}
 use Rattle.vx_command_count.proofs.Recorded.{begun, count-records, sheet_records}
 
 -- the key of a number
-abbrev key-of : List ℕ → ℕ → Key
+abbrev pub key-of : List ℕ → ℕ → Key
 key-of batch number = record { batch = batch; number = number }
 
 -- a sheet with a new key and a number that may be is added where there is room
-record IsAddedTo (journal : Journal) (batch : List ℕ) (number : ℕ) (sheet : SheetMarks) : Type 0 where
-  acts : keep_if journal (event_of batch number (Ok sheet)) ≡ Append (record_of (Add (key-of batch number) sheet)) ∷ []
-  came : came_if journal (event_of batch number (Ok sheet)) ≡ Added sheet
+pub record IsAddedTo (journal : Journal) (batch : List ℕ) (number : ℕ) (sheet : SheetMarks) : Type 0 where
+  pub acts : keep_if journal (event_of batch number (Ok sheet)) ≡ Append (record_of (Add (key-of batch number) sheet)) ∷ []
+  pub came : came_if journal (event_of batch number (Ok sheet)) ≡ Added sheet
+  pub next : (journal_if journal (event_of batch number (Ok sheet))).center.events ≡ journal.center.events ++ Add (key-of batch number) sheet ∷ []
 
-added-to : (journal : Journal) (batch : List ℕ) (number : ℕ) (sheet : SheetMarks) → number ≤ number_limit
+pub added-to : (journal : Journal) (batch : List ℕ) (number : ℕ) (sheet : SheetMarks) → number ≤ number_limit
     → place_in journal.center.events (key-of batch number) ≡ None → length journal.center.events < event_limit → IsAddedTo journal batch number sheet
 added-to journal batch number sheet most new room =
     let event : Event = Add (key-of batch number) sheet in
@@ -62,6 +63,9 @@ added-to journal batch number sheet most new room =
     record {
       acts = ap (keep_if journal) is ∙ ap (λ (reply : Reply). cond (is_done reply) (Append (record_of event) ∷ []) []) done;
       came = ap (came_if journal) is ∙ ap (came_by event) done;
+      next =
+          ap (λ (made : Result Event Came). (journal_if journal made).center.events) is
+          ∙ ap (λ (reply : Reply). cond (is_done reply) (journal.center.events ++ event ∷ []) journal.center.events) done;
     }
 
 -- the acts of a sheet that fits
@@ -74,7 +78,7 @@ sheets-added read election batch counting first second sheet valid first-whole s
     ∙ ap₂ (λ (acts : List Act) (came : Came). acts ++ Write (lines_of election batch number came) ∷ []) is.acts is.came
 
 -- a key stays new behind another key's sheet
-other-key : (batch : List ℕ) (one other : ℕ) → one < other → same_key (key-of batch other) (key-of batch one) ≡ false
+pub other-key : (batch : List ℕ) (one other : ℕ) → one < other → same_key (key-of batch other) (key-of batch one) ≡ false
 other-key batch one other less = and-no (bytes_eq batch batch) (other == one) (equal-no other one (λ e. absurd (omega (arith, e, less))))
 
 module _ (key new : Key) (sheet : SheetMarks) (differ : same_key key new ≡ false) where
@@ -83,7 +87,7 @@ module _ (key new : Key) (sheet : SheetMarks) (differ : same_key key new ≡ fal
   still-none true from now then stays none = absurd cc
   still-none false from now then stays none = stays none
 
-  still-new : (kept : List Event) (from place : ℕ) → position_from (has_key key) from (added_from place kept) ≡ None
+  pub still-new : (kept : List Event) (from place : ℕ) → position_from (has_key key) from (added_from place kept) ≡ None
       → position_from (has_key key) from (added_from place (kept ++ Add new sheet ∷ [])) ≡ None
   still-new [] from place none = ap (λ (test : Bool). cond test (Some from) None) differ
   still-new (Add other marks ∷ events) from place none =
@@ -134,7 +138,7 @@ module _ (batch : List ℕ) (number : ℕ) where
   goes journal lower (Err came) less new = record { grown = omega arith; few = omega arith; is = All-nil (IsNumbered batch lower); new = new }
 
 -- each sheet has the next number
-numbered : (tally : Tally) (came : Came) → next_number (tally_with tally came) ≡ next_number tally + 1
+pub numbered : (tally : Tally) (came : Came) → next_number (tally_with tally came) ≡ next_number tally + 1
 numbered tally (Added sheet) = omega arith
 numbered tally Repeated = omega arith
 numbered tally (Unread image fault) = omega arith

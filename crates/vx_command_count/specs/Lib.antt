@@ -7,3 +7,4 @@ pub mod Steps
 pub mod Devices
 pub mod Laws
 pub mod Margin
+pub mod Added

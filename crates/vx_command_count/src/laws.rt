@@ -1,6 +1,7 @@
 //! What `count` leaves of a journal, and what it keeps of scans that fit. These functions do nothing; their
 //! contracts are the laws.
 
+ghost use Rattle.vx_command_count.specs.Added.{SheetsAreAdded};
 ghost use Rattle.vx_command_count.specs.Laws.{CountKeepsJournals, CountsEndWell};
 ghost use Rattle.vx_command_count.specs.Margin.{
   FittingSheetsAreAdded,
@@ -30,6 +31,12 @@ pub fn count_keeps_journals()
 /// device fails, with no device's failure.
 pub fn counts_end_well()
     ensures { CountsEndWell }
+{}
+
+/// Where each two images of the scans are a sheet, the record of each sheet is appended, in order and nothing
+/// else: its keys being new, its numbers at most 999,999 and room being there.
+pub fn sheets_are_added()
+    ensures { SheetsAreAdded }
 {}
 
 /// Two images that fit the facing pages of a sheet, in either order, are counted as that sheet: where its

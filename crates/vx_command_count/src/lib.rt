@@ -25,5 +25,5 @@ mod waiting;
 pub use command::count;
 pub use laws::{
     count_keeps_journals, counts_end_well, fitting_sheets_are_added, fitting_sheets_are_kept,
-    marked_sheets_say_each_mark,
+    marked_sheets_say_each_mark, sheets_are_added,
 };
