@@ -12,7 +12,7 @@ use Rattle.vx_audit.specs.Hand.{is_no_memory as is_no_memory_of_hand}
 use Rattle.vx_command.specs.declared.halt.Halt.{Halt}
 use Rattle.vx_command.specs.declared.halt.Halt.TheVariants as halt
 use Rattle.vx_command.specs.Acts.{Act, Answer, Take, Write, Outcome, writing, after as after_command, goes_on, taking, input_of, input_limit}
-use Rattle.vx_command.specs.Devices.{is_keeper_fault}
+use Rattle.vx_command.specs.Devices.{is_keeper_fault, is_read_fault}
 use Rattle.vx_command.specs.Done.{Taken, IsDone, IsWritten, WritesTo, BreaksAt}
 use Rattle.vx_command.specs.Laws.{ActLaws, StepLaws}
 use Rattle.vx_command.specs.Steps.{GivesTaking, IsTakingHalt}
@@ -20,7 +20,7 @@ use Rattle.vx_command_audit.specs.declared.status.AuditStatus.{AuditStatus}
 use Rattle.vx_command_audit.specs.declared.status.AuditStatus.TheVariants as audit
 use Rattle.vx_command_audit.specs.Done.{IsAuditDone, Comes}
 use Rattle.vx_command_audit.specs.Outcome.{AuditOutcome, as_command, ended, once_handed, once_read, once_taken, writes}
-use Rattle.vx_command_audit.specs.Status.{answer_of, hand_status, report_status, IsStop}
+use Rattle.vx_command_audit.specs.Status.{answer_of, hand_status, report_status, may_have_written, IsStop}
 
 -- the rest is done, so the whole is
 pub comes_done : (whole rest : AuditOutcome) (a c : Taken) (status : AuditStatus) → Comes whole rest a → IsAuditDone rest a c status
@@ -141,3 +141,33 @@ taking_stops word (halt.TooLong other size) is = tt
 taking_stops word halt.ReadFault is = tt
 taking_stops word halt.NoMemory is = tt
 taking_stops word cause is = absurd is
+
+-- whatever broke off a writing, it may have written
+breaks_late : (status : AuditStatus) (cause : Halt) (acts : List Act) (text : List ℕ) (records : List (List ℕ))
+    → is_read_fault {A = Unit {0}} (Err cause) ≡ false → answer_of status ≡ Err cause → BreaksAt cause acts text records → may_have_written status ≡ true
+breaks_late audit.Ok cause acts text records other is breaks = refl
+breaks_late audit.WriteFault cause acts text records other is breaks = refl
+breaks_late audit.NoMemory cause acts text records other is breaks = refl
+breaks_late audit.Usage cause acts text records other is breaks = absurd cc
+breaks_late (audit.Report fault) cause acts text records other is breaks = absurd cc
+breaks_late (audit.Hand line) cause acts text records other is breaks = absurd cc
+breaks_late audit.ReadFault cause acts text records other is breaks =
+    let same : cause ≡ halt.ReadFault = cc in
+    let Other : Halt → Type 0 = λ one. is_read_fault {A = Unit {0}} (Err one) ≡ false in
+    let never = subst Other same other in
+    absurd cc
+breaks_late (audit.NoInput word) cause acts text records other is breaks =
+    let same : cause ≡ halt.NoInput word = cc in
+    absurd (subst (λ (one : Halt). BreaksAt one acts text records) same breaks)
+breaks_late (audit.TooLong word size) cause acts text records other is breaks =
+    let same : cause ≡ halt.TooLong word size = cc in
+    absurd (subst (λ (one : Halt). BreaksAt one acts text records) same breaks)
+
+pub written_late : (text : List ℕ) (a b : Taken) (cause : Halt) (status : AuditStatus) → is_read_fault {A = Unit {0}} (Err cause) ≡ false
+    → IsWritten (writing text) a b (Err cause) → answer_of status ≡ Err cause → may_have_written status ≡ true
+written_late text a b cause status other written is =
+    let done : IsDone (writing text) a b None None (Err cause) = written None in
+    elim done.ends [
+      | inl whole ↦ (let same = whole.same_answer in absurd cc)
+      | inr breaks ↦ breaks_late status cause done.left done.text done.records other is breaks
+    ]

@@ -1,6 +1,6 @@
 -- The status of `totals` and `audit`: its number, what the program says of it, and what of it the inputs and the devices
 -- did.
-use Rattle.std.specs.Prelude.{ℕ, List, [], ◌++◌, ◌∷◌, codes}
+use Rattle.std.specs.Prelude.{ℕ, Bool, true, false, List, [], ◌++◌, ◌∷◌, codes}
 use Rattle.std.specs.Prelude as std
 use Rattle.std.specs.Fmt.{decimal}
 use Rattle.vx_tally.specs.FaultTexts.{text_of}
@@ -23,6 +23,13 @@ answer_of ReadFault = std.Err halt.ReadFault
 answer_of WriteFault = std.Err halt.WriteFault
 answer_of NoMemory = std.Err halt.NoMemory
 answer_of status = std.Ok tt
+
+-- a command that ends so has accepted all its inputs and may have written
+abbrev pub may_have_written : AuditStatus → Bool
+may_have_written Ok = true
+may_have_written WriteFault = true
+may_have_written NoMemory = true
+may_have_written status = false
 
 -- a cause that may halt it
 abbrev pub IsStop : Halt → Type 0

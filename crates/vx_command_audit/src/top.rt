@@ -1,10 +1,10 @@
-ghost use Rattle.std.specs.Prelude.{◌≡◌, ◌≢◌, ◌↔◌, Some};
+ghost use Rattle.std.specs.Prelude.{◌≡◌, ◌≢◌, ◌↔◌, false, Some};
 ghost use Rattle.std.specs.Option.{ForSome};
 ghost use Rattle.vx_io.specs.Outside.{Files};
 ghost use Rattle.vx_command.specs.Devices.{LeavesInputs, LeavesSink};
 ghost use Rattle.vx_command_audit.specs.Done.{IsAuditDone};
 ghost use Rattle.vx_command_audit.specs.Outcome.{asked_outcome};
-ghost use Rattle.vx_command_audit.specs.Status.{answer_of};
+ghost use Rattle.vx_command_audit.specs.Status.{answer_of, may_have_written};
 ghost use Rattle.vx_command_audit.specs.Words.{Asked, Audit, Totals, Asks, AsksNothing};
 
 use crate::asking::{is_audit_form, seed_of, size_of, totals_in};
@@ -18,6 +18,7 @@ use vx_io::{Inputs, Sink, Words};
 fn totals<I: Inputs, S: Sink>(alloc: Global, name: &str, inputs: &mut I, out: &mut S) -> AuditStatus
     ensures done { ForSome (I.held inputs.old) (λ files.
         IsAuditDone (asked_outcome (Totals name.now) files) (S.taken out.old) (S.taken out.new) result) }
+    ensures nothing_written { may_have_written result ≡ false → S.taken out.new ≡ S.taken out.old }
     ensures inputs { LeavesInputs (I.held inputs.old) (I.held inputs.new)
         (I.faults inputs.old) (I.faults inputs.new) (answer_of result) }
     ensures sink { LeavesSink (S.faults out.old) (S.faults out.new) (answer_of result) }
@@ -42,6 +43,7 @@ fn audit<I: Inputs, S: Sink>(
     ensures done { ForSome (I.held inputs.old) (λ files.
         IsAuditDone (asked_outcome (Audit name.now seed size hand.now) files)
         (S.taken out.old) (S.taken out.new) result) }
+    ensures nothing_written { may_have_written result ≡ false → S.taken out.new ≡ S.taken out.old }
     ensures inputs { LeavesInputs (I.held inputs.old) (I.held inputs.new)
         (I.faults inputs.old) (I.faults inputs.new) (answer_of result) }
     ensures sink { LeavesSink (S.faults out.old) (S.faults out.new) (answer_of result) }
@@ -63,7 +65,8 @@ fn audit<I: Inputs, S: Sink>(
 /// Where the inputs tell what they hold, the acts of the outcome are done in order: all of them, and the
 /// status is the outcome's; or up to one at which a device failed, with that device's fault as the status, or
 /// before which memory ran out. A device's count of faults rises where the status is its fault, and stands
-/// still otherwise. Nothing is written before the last input is accepted.
+/// still otherwise. Nothing is written before the last input is accepted, so where the words or an input are
+/// refused nothing was written.
 pub fn run_audit<I: Inputs, S: Sink>(
     alloc: Global,
     words: &Words,
@@ -74,7 +77,8 @@ pub fn run_audit<I: Inputs, S: Sink>(
     ensures done { (files : Files) → I.held inputs.old ≡ Some files →
         (asked : Asked) → Asks words.now asked →
         IsAuditDone (asked_outcome asked files) (S.taken out.old) (S.taken out.new) result }
-    ensures usage_writes_nothing { result ≡ AuditStatus.Usage → S.taken out.new ≡ S.taken out.old }
+    // Of inputs that don't tell, too.
+    ensures nothing_written { may_have_written result ≡ false → S.taken out.new ≡ S.taken out.old }
     ensures inputs { LeavesInputs (I.held inputs.old) (I.held inputs.new)
         (I.faults inputs.old) (I.faults inputs.new) (answer_of result) }
     ensures sink { LeavesSink (S.faults out.old) (S.faults out.new) (answer_of result) }

@@ -1,4 +1,4 @@
-ghost use Rattle.std.specs.Prelude.{◌≡◌, ◌≢◌, false, IfOk, length, string_bytes};
+ghost use Rattle.std.specs.Prelude.{◌≡◌, ◌≢◌, false, true, IfOk, length, string_bytes};
 ghost use Rattle.vx_audit.specs.Audit as lines;
 ghost use Rattle.vx_audit.specs.Sample.{sample_of};
 ghost use Rattle.vx_audit.specs.Sized.{IsSized};
@@ -6,7 +6,7 @@ ghost use Rattle.vx_audit.specs.Totals as texts;
 ghost use Rattle.vx_command.specs.Devices.{LeavesSink, is_read_fault};
 ghost use Rattle.vx_command_audit.specs.Done.{IsAuditDone};
 ghost use Rattle.vx_command_audit.specs.Outcome.{audited, writes};
-ghost use Rattle.vx_command_audit.specs.Status.{answer_of};
+ghost use Rattle.vx_command_audit.specs.Status.{answer_of, may_have_written};
 
 use crate::status::{AuditStatus, status_of_halt};
 use std::alloc::Global;
@@ -21,6 +21,7 @@ fn write_whole<S: Sink>(text: &str, out: &mut S) -> AuditStatus
     ensures done { IsAuditDone (writes text.now) (S.taken out.old) (S.taken out.new) result }
     ensures sink { LeavesSink (S.faults out.old) (S.faults out.new) (answer_of result) }
     ensures no_read_fault { is_read_fault (answer_of result) ≡ false }
+    ensures late { may_have_written result ≡ true }
     ensures no_usage { result ≢ AuditStatus.Usage }
 {
     match write_text(out, text.as_bytes()) {
@@ -35,6 +36,7 @@ pub(crate) fn write_totals<S: Sink>(alloc: Global, report: &Report, out: &mut S)
     ensures done { IsAuditDone (writes (texts.totals_text report.now)) (S.taken out.old) (S.taken out.new) result }
     ensures sink { LeavesSink (S.faults out.old) (S.faults out.new) (answer_of result) }
     ensures no_read_fault { is_read_fault (answer_of result) ≡ false }
+    ensures late { may_have_written result ≡ true }
     ensures no_usage { result ≢ AuditStatus.Usage }
 {
     acts_in_order();
@@ -75,6 +77,7 @@ pub(crate) fn write_audit<S: Sink>(
         (S.taken out.old) (S.taken out.new) result }
     ensures sink { LeavesSink (S.faults out.old) (S.faults out.new) (answer_of result) }
     ensures no_read_fault { is_read_fault (answer_of result) ≡ false }
+    ensures late { may_have_written result ≡ true }
     ensures no_usage { result ≢ AuditStatus.Usage }
 {
     acts_in_order();

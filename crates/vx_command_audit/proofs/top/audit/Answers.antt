@@ -1,4 +1,5 @@
 use Rattle.std.proofs.Common.{◌∙◌, List}
+use Rattle.vx_base.proofs.Booleans.{not-both}
 use Rattle.vx_tally.specs.declared.report.Report.{Report}
 use Rattle.vx_command_audit.specs.Outcome.{AuditOutcome, asked_outcome, audited, with_hand}
 use Rattle.vx_command_audit.specs.Words.{Audit}
@@ -32,3 +33,6 @@ returns-clause-done g c files told =
     comes_done (asked_outcome (Audit c.args.name.now c.args.seed c.args.size c.args.hand.now) files) (rest report) taken taken c.in-Err-take_hand.status
     (c.in-Ok.ensures.done files told taken rest)
     (c.in-Err-take_hand.ensures.done files still taken (audited c.args.seed c.args.size report))
+
+pub returns-in-Ok-take_hand-clause-nothing_written : goal.returns-in-Ok-take_hand-clause-nothing_written
+returns-in-Ok-take_hand-clause-nothing_written g c never = absurd (not-both _ c.write_audit.ensures.late never)

@@ -1,3 +1,4 @@
+use Rattle.vx_base.proofs.Booleans.{not-both}
 use Rattle.vx_audit.specs.Totals.{totals_text}
 use Rattle.vx_command_audit.specs.Outcome.{asked_outcome, writes}
 use Rattle.vx_command_audit.specs.Words.{Totals}
@@ -13,3 +14,6 @@ returns-in-Ok-clause-done g c files told =
 pub returns-in-Err-clause-done : goal.returns-in-Err-clause-done
 returns-in-Err-clause-done g c files told =
     c.in-Err.ensures.done files told (g.S.Sink.taken c.args.out.now) (λ given. writes (totals_text given))
+
+pub returns-in-Ok-clause-nothing_written : goal.returns-in-Ok-clause-nothing_written
+returns-in-Ok-clause-nothing_written g c never = absurd (not-both _ c.write_totals.ensures.late never)
