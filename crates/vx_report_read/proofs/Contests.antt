@@ -19,7 +19,7 @@ use Rattle.vx_tally.specs.Names.{contest_selection}
 use Rattle.vx_tally.specs.Ids.{place_in}
 use Rattle.vx_tally.specs.Members.{list_limit, id_member}
 use Rattle.vx_tally.specs.Contests.{contest_ids, selection_ids, own_id_in, own_ids_in, units_in, election_path, contest_at, contest_in, contest_list_in, contests_in}
-use Rattle.vx_report_read.specs.Exported.{units_of, selections_of, contest_of}
+use Rattle.vx_results.specs.Report.{units_of, selections_of, contest_of}
 use Rattle.vx_report_read.proofs.Each.{length-mapped, each-all, each-weaker, each-append}
 use Rattle.vx_report_read.proofs.Members.{bind-ok, id-member, list-member, first-member, walk}
 use Rattle.vx_report_read.proofs.Names.{scope-id, precinct-id, contest-id, selection-id, precinct-same, contest-same, selection-same}

@@ -1,8 +1,7 @@
 -- What holds of each element of a list.
 use Rattle.std.proofs.Common.{ap, ◌≡◌, ℕ, suc, ◌≤◌, Bool, true, false, cond, List, [], ◌∷◌, ◌++◌, length, map, fold, refl, arith}
 use Rattle.std.specs.Prelude.{Some, slice_get}
-use Rattle.std.specs.List.{AllByRecursion, All, flat_map, list_all, filter}
-use Rattle.vx_base.proofs.Booleans.{and-left, and-right}
+use Rattle.std.specs.List.{AllByRecursion, All, flat_map, filter}
 
 module _ {X : Type 0} where
   -- what holds at each place
@@ -13,10 +12,6 @@ module _ {X : Type 0} where
   pub each-all : (P : X → Type 0) (xs : List X) → All P xs → AllByRecursion P xs
   each-all P [] all = tt
   each-all P (x ∷ xs) all = (all 0 x (omega arith), each-all P xs (λ k d lt. all (suc k) d (omega (arith, lt))))
-
-  pub each-test : (p : X → Bool) (xs : List X) → list_all p xs ≡ true → AllByRecursion (λ (x : X). p x ≡ true) xs
-  each-test p [] all = tt
-  each-test p (x ∷ xs) all = (and-left (p x) (list_all p xs) all, each-test p xs (and-right (p x) (list_all p xs) all))
 
   pub each-weaker : (P Q : X → Type 0) (xs : List X) → ((x : X) → P x → Q x) → AllByRecursion P xs → AllByRecursion Q xs
   each-weaker P Q [] to each = tt

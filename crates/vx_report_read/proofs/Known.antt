@@ -18,10 +18,11 @@ use Rattle.vx_center.specs.declared.rows.Final.{Final}
 use Rattle.vx_cvr.specs.Votes.{candidate_of}
 use Rattle.vx_cvr.specs.Report as spec
 use Rattle.vx_tally.specs.Ids.{is_id_character}
-use Rattle.vx_report_read.specs.Exported.{contest_at}
+use Rattle.vx_results.specs.Report.{contest_at}
 use Rattle.vx_report_read.proofs.Contests.{IsGiven, given-options, contests-given}
 use Rattle.vx_report_read.proofs.Each.{each-all, each-weaker, each-both}
-use Rattle.vx_report_read.proofs.Fitting.{IsFinalAt, IsRow, contest-valid, voted-below}
+use Rattle.vx_results.specs.Fitting.{IsFinalAt, IsRow}
+use Rattle.vx_report_read.proofs.Fitting.{contest-valid, voted-below}
 use Rattle.vx_report_read.proofs.Names.{AreCharacters, short-id, short-key}
 use Rattle.vx_report_read.proofs.Parts.{IsKnown, NameHas, ChoiceHas, ContestHas, NamedHas, ElectionHas, FinalHas, RowHas}
 

@@ -1,25 +1,22 @@
 -- What holds of each two elements of a list, and that the sheets of a history have names of their own.
-use Rattle.std.proofs.Common.{◌≡◌, ℕ, zero, suc, ◌+◌, ◌<◌, ◌≤◌, Bool, true, false, cond, List, [], ◌∷◌, length, map, take, get_or, refl, sym, ap, subst, ◌∙◌, arith, length-take, length-append}
-use Rattle.std.specs.Prelude.{⊤, Some, slice_get, bytes_eq, nat_le}
+use Rattle.std.proofs.Common.{◌≡◌, ℕ, zero, suc, ◌+◌, ◌<◌, ◌≤◌, false, List, [], ◌∷◌, map, refl, ap, subst, arith}
+use Rattle.std.specs.Prelude.{⊤, Some, slice_get, bytes_eq}
 use Rattle.std.specs.List.{AllByRecursion, IsDistinct}
 use Rattle.std.specs.Ordering.{match_ordering}
 use Rattle.std.specs.declared.cmp.Ordering.{Ordering}
 use Rattle.std.specs.declared.cmp.Ordering.TheVariants.{Less, Equal, Greater}
-use Rattle.std.proofs.lemmas.Option.{same_Some, slice_get-get_or}
-use Rattle.vx_base.proofs.Numbers.{below-no, at_most-from_yes}
+use Rattle.std.proofs.lemmas.Option.{same_Some}
 use Rattle.vx_election_model.specs.declared.election.Election.{Election}
-use Rattle.vx_refusals.specs.declared.reply.Reply.TheVariants.{Done, Full}
 use Rattle.vx_events.specs.declared.event.Event.{Event}
 use Rattle.vx_events.specs.declared.event.Event.TheVariants.{Add, Claim, Release, Decide}
 use Rattle.vx_center.specs.declared.rows.ExportSheet.{ExportSheet}
 use Rattle.vx_center.specs.Exports.{key_order, row_of}
 use Rattle.vx_center.specs.Histories.{IsHistory}
 use Rattle.vx_center.specs.Laws.{SheetsHaveOwnKeys}
-use Rattle.vx_center.specs.Replies.{event_limit, reply_with_room}
 use Rattle.vx_center.specs.Sheets.{Added, added_by, added_from, sheets_in}
 use Rattle.vx_cvr.specs.Names.{sheet_name}
 use Rattle.vx_cvr.specs.Rows.{placed, in_order, rows_of}
-use Rattle.vx_report_read.proofs.Each.{length-mapped, each-weaker, each-append}
+use Rattle.vx_report_read.proofs.Each.{each-weaker, each-append}
 use Rattle.vx_report_read.proofs.Kept.{IsAdded, sheets-are}
 use Rattle.vx_report_read.proofs.Names.{sheet-same}
 use Rattle.vx_report_read.proofs.Places.{bytes-other, turned}
@@ -145,66 +142,3 @@ rows-distinct election kept law history =
     distinct-from (rows_of election kept)
     (pairs-in_order (map (row_of election kept) (sheets_in kept))
     (pairs-map AreOthers (row_of election kept) (sheets_in kept) (sheets-others election kept law history)))
-
--- how many there are
-length-placed : (row : ExportSheet) (rows : List ExportSheet) → length (placed row rows) ≡ suc (length rows)
-length-placed row [] = refl
-length-placed row (other ∷ others) = by (key_order other.key row.key) (length-placed row others)
-  where
-    by : (o : Ordering) → length (placed row others) ≡ suc (length others)
-        → length (match_ordering o (other ∷ placed row others) (row ∷ other ∷ others) (row ∷ other ∷ others)) ≡ suc (suc (length others))
-    by Less rest = ap (λ (n : ℕ). suc n) rest
-    by Equal rest = refl
-    by Greater rest = refl
-
-length-in_order : (rows : List ExportSheet) → length (in_order rows) ≡ length rows
-length-in_order [] = refl
-length-in_order (row ∷ rows) = length-placed row (in_order rows) ∙ ap (λ (n : ℕ). suc n) (length-in_order rows)
-
-added-few : (place : ℕ) (events : List Event) → length (added_from place events) ≤ length events
-added-few place [] = omega arith
-added-few place (event ∷ events) =
-    omega (arith, length-append (added_by place event) (added_from (place + 1) events), by event, added-few (place + 1) events)
-  where
-    by : (event : Event) → length (added_by place event) ≤ 1
-    by (Add key sheet) = omega arith
-    by (Claim station key) = omega arith
-    by (Release station key) = omega arith
-    by (Decide station key contest decision) = omega arith
-
-some-there : (kept : List Event) → 1000000 < length kept → ((event : Event) → slice_get kept 1000000 ≡ Some event → ⊥) → ⊥
-some-there [] more none = omega (arith, more)
-some-there (event ∷ events) more none = none (get_or (event ∷ events) 1000000 event) (slice_get-get_or (event ∷ events) 1000000 event more)
-
-events-few : (election : Election) (kept : List Event) → IsHistory election kept → length kept ≤ 1000000
-unfolding event_limit
-events-few election kept history = by (nat_le (length kept) 1000000) refl
-  where
-    past : (event : Event) → 1000000 < length kept → slice_get kept 1000000 ≡ Some event → ⊥
-    past event more there =
-        let size : length (take 1000000 kept) ≡ 1000000 = omega (arith, length-take 1000000 kept, more) in
-        let done = history.done 1000000 event there in
-        let full : Full 1000000 ≡ Done =
-        sym (ap (λ (b : Bool). cond b (reply_with_room election (take 1000000 kept) event) (Full 1000000))
-        (below-no (length (take 1000000 kept)) 1000000 (omega (arith, size)))) ∙ done in
-        absurd cc
-
-    at-least : (n : ℕ) → nat_le n 1000000 ≡ false → 1000000 < n
-    at-least n h = grind (arith, h)
-
-    by : (b : Bool) → nat_le (length kept) 1000000 ≡ b → length kept ≤ 1000000
-    by true e = at_most-from_yes (length kept) 1000000 e
-    by false e =
-        let more = at-least (length kept) e in
-        absurd (some-there kept more (λ event there. past event more there))
-
-pub rows-few : (election : Election) (kept : List Event) → IsHistory election kept → length (rows_of election kept) ≤ 1000000
-rows-few election kept history =
-    omega (
-      arith,
-      length-in_order (map (row_of election kept) (sheets_in kept)),
-      length-mapped (row_of election kept)
-          (sheets_in kept),
-      added-few 0 kept,
-      events-few election kept history,
-    )

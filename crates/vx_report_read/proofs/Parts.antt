@@ -20,7 +20,7 @@ use Rattle.vx_cvr.specs.Json.{text, whole, list, described}
 use Rattle.vx_cvr.specs.Names.{hyphened, candidate_name, selection_name, contest_name, sheet_name, device_name}
 use Rattle.vx_cvr.specs.Votes.{is_overvoted, write_ins, is_repeated, candidate_of, is_slot, name_of, status_words, indication, indication_of, allocable, votes_of, is_unnamed}
 use Rattle.vx_cvr.specs.Report as spec
-use Rattle.vx_report_read.specs.Exported.{contest_at}
+use Rattle.vx_results.specs.Report.{contest_at}
 use Rattle.vx_report_read.proofs.Each.{length-filter_most}
 use Rattle.vx_report_read.proofs.Sound.{IsSound, AreSound, AreSound-map_all, AreSound-flat_map_all}
 

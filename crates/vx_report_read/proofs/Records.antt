@@ -30,10 +30,11 @@ use Rattle.vx_tally.specs.Members.{list_limit, record_limit, vote_limit, votes_m
 use Rattle.vx_tally.specs.Contests.{contest_ids, own_selections}
 use Rattle.vx_tally.specs.Records as tally
 use Rattle.vx_tally.specs.Records.{votes_in, row_at, rows_in, counted_at, counted_list_in, snapshot_in, record_at, record_list_in, records_in}
-use Rattle.vx_report_read.specs.Exported.{units_of, selections_of, contest_of, vote_of, contest_at, counted_in, unit_of, record_of}
+use Rattle.vx_results.specs.Report.{units_of, selections_of, contest_of, vote_of, contest_at, counted_in, unit_of, record_of}
 use Rattle.vx_report_read.proofs.Each.{length-mapped}
 use Rattle.vx_report_read.proofs.Contests.{IsGiven, given-options, selection-place, contest-place, unit-place}
-use Rattle.vx_report_read.proofs.Fitting.{final_number, among-none, IsFinalAt, IsRow, contest-valid, voted-below}
+use Rattle.vx_results.specs.Fitting.{final_number, IsFinalAt, IsRow}
+use Rattle.vx_report_read.proofs.Fitting.{among-none, contest-valid, voted-below}
 use Rattle.vx_report_read.proofs.Members.{bind-ok, id-member, reference-member, new-reference-member, votes-member, list-member, first-member, walk}
 use Rattle.vx_report_read.proofs.Names.{precinct-id, contest-id, selection-id, sheet-id}
 use Rattle.vx_report_read.proofs.Places.{new-place, each-seam, new-name}

@@ -13,7 +13,8 @@ use Rattle.vx_cvr.specs.Rows.{rows_of}
 use Rattle.vx_cvr.specs.Report.{report_over, report_of}
 use Rattle.vx_json_trip.specs.Trips.{LinesAreReadBack}
 use Rattle.vx_report_read.proofs.Each.{each-any, each-weaker}
-use Rattle.vx_report_read.proofs.Fitting.{IsRow, rows-are}
+use Rattle.vx_results.specs.Fitting.{IsRow}
+use Rattle.vx_results.specs.Laws.{RowsFit}
 use Rattle.vx_report_read.proofs.Known.{TextsHave, NamesHave, election-has, row-has}
 use Rattle.vx_report_read.proofs.Parts.{IsKnown, NameHas, ChoiceHas, RowHas, report-sound}
 use Rattle.vx_report_read.proofs.Sound.{sound-readable, sound-ordered}
@@ -42,12 +43,12 @@ any-name (Some (Candidate number)) = tt
 any-names : (row : ExportSheet) → NamesHave Any row
 any-names row = each-any (λ (final : Final). AllByRecursion (NameHas Any) final.names) row.finals (λ final. each-any (NameHas Any) final.names any-name)
 
-pub report-read_back : LinesAreReadBack → ReportsAreReadBack
+pub report-read_back : LinesAreReadBack → RowsFit → ReportsAreReadBack
 unfolding report_of
-report-read_back law election kept moment id valid history =
+report-read_back law fit election kept moment id valid history =
     let rows = rows_of election kept in
     let have = each-weaker (IsRow election) (RowHas Any election) rows (λ row is. row-has Any any-known election row valid is (any-names row))
-    (rows-are election kept valid history) in
+    (fit election kept valid history).each in
     let sound = report-sound Any any-known election rows moment id (election-has Any any-known election valid (any-texts election)) have tt tt in
     let value = report_over election rows moment id in
     law value (sound-readable Any value 12 (omega arith) sound) (sound-ordered Any value 12 sound)

@@ -16,7 +16,8 @@ use Rattle.vx_cvr.specs.Rows.{rows_of}
 use Rattle.vx_cvr.specs.Report.{report_over, report_of}
 use Rattle.vx_report_read.specs.Texts.{IsUtf8Choice, IsUtf8Contest, IsUtf8Election, ReportsAreUtf8}
 use Rattle.vx_report_read.proofs.Each.{each-all, each-weaker, each-both}
-use Rattle.vx_report_read.proofs.Fitting.{IsRow, rows-are}
+use Rattle.vx_results.specs.Fitting.{IsRow}
+use Rattle.vx_results.specs.Laws.{RowsFit}
 use Rattle.vx_report_read.proofs.Known.{TextsHave, NamesHave, election-has, row-has}
 use Rattle.vx_report_read.proofs.Parts.{IsKnown, ChoiceHas, RowHas, report-sound}
 use Rattle.vx_report_read.proofs.Sound.{are_ordered, are_plain, IsUnsigned, IsSound, AreSound, MembersAreSound}
@@ -76,12 +77,12 @@ texts-utf8 election are = record {
       (λ contest is. (is.0, each-all IsUtf8Choice contest.choices is.1)) (each-all IsUtf8Contest election.contests are.contests);
 }
 
-pub report-utf8 : ReportsAreUtf8
+pub report-utf8 : RowsFit → ReportsAreUtf8
 unfolding report_of
-report-utf8 election kept moment id valid history texts written at by =
+report-utf8 fit election kept moment id valid history texts written at by =
     let rows = rows_of election kept in
     let have = each-both (IsRow election) (NamesHave IsUtf8) (RowHas IsUtf8 election) rows (λ row is names. row-has IsUtf8 known election row valid is names)
-    (rows-are election kept valid history) (rows-words IsUtf8 election kept history written) in
+    (fit election kept valid history).each (rows-words IsUtf8 election kept history written) in
     let sound = report-sound IsUtf8 known election rows moment id (election-has IsUtf8 known election valid (texts-utf8 election texts)) have at by in
     let value = report_over election rows moment id in
     is_utf8-from_IsUtf8 (compact_text value ++ 10 ∷ [])

@@ -20,11 +20,13 @@ use Rattle.vx_tally.specs.declared.fault.ReportFault.TheVariants.{NotJson}
 use Rattle.vx_tally.specs.declared.report.Report.{Report}
 use Rattle.vx_tally.specs.Reading.{report_in, value_in, report_in_bytes}
 use Rattle.vx_tally.specs.Totals as totals
-use Rattle.vx_report_read.specs.Exported.{ReportsAreReadBack, units_of, contest_of, vote_of, contest_at, counted_in, unit_of, record_of, report_of_rows, ReportsAreRead, exported_vote, exported_by, RowsAreTheExported}
+use Rattle.vx_results.specs.Report.{units_of, contest_of, vote_of, contest_at, counted_in, unit_of, record_of, report_of_rows}
+use Rattle.vx_report_read.specs.Exported.{ReportsAreReadBack, ReportsAreRead, exported_vote, exported_by, RowsAreTheExported}
 use Rattle.vx_report_read.proofs.Contests.{units-read, contests-read}
-use Rattle.vx_report_read.proofs.Fitting.{IsRow, rows-are}
+use Rattle.vx_results.specs.Fitting.{IsRow}
+use Rattle.vx_results.specs.Laws.{RowsFit}
 use Rattle.vx_report_read.proofs.Members.{bind-ok}
-use Rattle.vx_report_read.proofs.Pairs.{rows-distinct, rows-few}
+use Rattle.vx_report_read.proofs.Pairs.{rows-distinct}
 use Rattle.vx_report_read.proofs.Records.{PrecinctsAreThere, records-read}
 
 -- the value of a report is read as the report of its rows
@@ -42,13 +44,13 @@ unfolding value_in
 value-read bytes value utf8 there =
     ap (λ (b : Bool). cond b (ok_or (read bytes) NotJson) (Err NotJson)) utf8 ∙ ap (λ (o : Option Data). ok_or o NotJson) there
 
-pub report-read : ReportsAreReadBack → PrecinctsAreThere → SheetsHaveOwnKeys → ReportsAreRead
+pub report-read : ReportsAreReadBack → RowsFit → PrecinctsAreThere → SheetsHaveOwnKeys → ReportsAreRead
 unfolding report_in_bytes
-report-read back precincts keys election kept moment id valid history utf8 =
+report-read back fit precincts keys election kept moment id valid history utf8 =
     let rows = cvr.rows_of election kept in
     bind-ok _ _ (report_over election rows moment id) _
     (value-read (report_of election kept moment id) (report_over election rows moment id) utf8 (back election kept moment id valid history))
-    (over-read election rows moment id precincts valid (rows-are election kept valid history) (rows-few election kept history)
+    (over-read election rows moment id precincts valid (fit election kept valid history).each (fit election kept valid history).few
     (rows-distinct election kept keys history))
 
 -- ---- rows

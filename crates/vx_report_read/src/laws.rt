@@ -8,6 +8,7 @@ ghost use Rattle.vx_report_read.specs.Totals.{TotalsAreTheExported};
 
 use vx_center::{exports_show_what_was_kept, sheets_have_own_keys};
 use vx_json_trip::lines_are_read_back;
+use vx_results::rows_fit;
 use vx_styles::each_card_has_its_precinct;
 
 /// The report of a history is read back as the value that it was written from.
@@ -15,6 +16,7 @@ pub fn reports_are_read_back()
     ensures { ReportsAreReadBack }
 {
     lines_are_read_back();
+    rows_fit();
 }
 
 /// The report of a history is UTF-8, where the texts of the election are, the words that were written
@@ -22,7 +24,9 @@ pub fn reports_are_read_back()
 /// is UTF-8 by its type; that a valid election or a history has no other isn't said by what they are.
 pub fn reports_are_utf8()
     ensures { ReportsAreUtf8 }
-{}
+{
+    rows_fit();
+}
 
 /// The report of a history is read, where its bytes are UTF-8: as its units, its contests with their
 /// selections, and a record for each of the history's sheets.
@@ -30,6 +34,7 @@ pub fn reports_are_read()
     ensures { ReportsAreRead }
 {
     reports_are_read_back();
+    rows_fit();
     each_card_has_its_precinct();
     sheets_have_own_keys();
 }

@@ -1,0 +1,5 @@
+pub mod Report
+pub mod Fitting
+pub mod Laws
+pub mod Waiting
+pub mod Results
