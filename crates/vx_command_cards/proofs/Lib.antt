@@ -1,3 +1,4 @@
+mod Boxes
 mod Cutting
 mod Lined
 mod Looking

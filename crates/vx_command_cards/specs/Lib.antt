@@ -4,3 +4,4 @@ pub mod Cards
 pub mod Texts
 pub mod Alike
 pub mod Outcome
+pub mod Laws

@@ -4,7 +4,8 @@
 //! What it writes and does stands in `specs/Outcome.antt`: a line for each card
 //! (`specs/Cards.antt`), lines on printed texts (`specs/Texts.antt`) and on choices
 //! (`specs/Alike.antt`). What of a text shows is said by the font and the layout, in
-//! `specs/Drawn.antt`.
+//! `specs/Drawn.antt`; that the hollow boxes are those that a card's plan counts is the law of
+//! `specs/Laws.antt`.
 #![tactic(auto)]
 
 mod alike;
@@ -12,10 +13,12 @@ mod cut;
 mod drawn;
 mod flaw;
 mod hollow;
+mod laws;
 mod lines;
 mod listing;
 mod printed;
 mod telling;
 mod texts;
 
+pub use laws::hollow_boxes_are_those_of_plans;
 pub use telling::cards;
