@@ -3,3 +3,4 @@ pub mod ImageActs
 pub mod ScanActs
 pub mod InputActs
 pub mod Sets
+mod Accepted

@@ -2,3 +2,4 @@ pub mod Lines
 pub mod Outcome
 pub mod Setting
 pub mod Steps
+pub mod Laws

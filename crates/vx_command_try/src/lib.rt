@@ -8,6 +8,7 @@
 
 mod command;
 mod images;
+mod laws;
 mod lines;
 mod scans;
 mod setting;
@@ -15,3 +16,4 @@ mod sheets;
 mod tried;
 
 pub use command::try_sheets;
+pub use laws::tried_sheets_are_added;
