@@ -1,0 +1,11 @@
+//! That `results` writes what `totals` writes of the export of the same journal: laws over the definitions of both.
+//!
+//! `results` counts a journal sheet by sheet, and `totals` reads a report. Wherever bytes are the report of a
+//! history, no longer than an input may be, and UTF-8, the text that `totals` writes of them and a line that
+//! says how many contests wait are what `results` writes; and that number is the last line of `queue`:
+//! `specs/Laws.antt`.
+#![tactic(auto)]
+
+mod laws;
+
+pub use laws::{results_are_the_totals, results_wait_as_queues_do};
