@@ -1,0 +1,115 @@
+//! A `try` over devices in memory, and the printed pages that it reads.
+
+use std::alloc::{AllocError, Global};
+use std::test::Fail;
+use vx_base::{Bytes, ListOf};
+use vx_command::status_of;
+use vx_command_print::{Ballot, print};
+use vx_command_try::try_sheets;
+use vx_grid::Kind;
+use vx_io::{MemInputs, MemSink, NamedBytes};
+use vx_json::{Text, Texts};
+
+/// A definition of one contest on one card.
+const ELECTION: &str =
+    r#"{"title":"Village","date":"2026-11-03","districts":[{"id":"d","name":"Village"}],"precincts":[{"id":"p","name":"All"}],"contests":[{"id":"well","type":"yesno","districtId":"d","title":"A new well"}],"ballotStyles":[{"id":"s","precincts":["p"],"districts":["d"]}]}"#;
+
+/// How many bytes a printed page has.
+const PAGE: usize = 468_613;
+
+/// What a `try` answered, and what the sink had taken.
+#[derive(Drop)]
+pub struct Answer {
+    pub status: String,
+    pub text: Vec<u8>,
+}
+
+/// Which calls of the inputs and of the sink fail, from 1 on, and for how many bytes the sink has room.
+#[derive(Clone, Copy)]
+pub struct Failing<'a> {
+    pub reads: &'a [u64],
+    pub writes: &'a [u64],
+    pub room: u64,
+}
+
+impl Failing<'_> {
+    /// No call fails, and there is room for a thousand bytes.
+    pub const NONE: Failing<'static> = Failing {
+        reads: &[],
+        writes: &[],
+        room: 1000,
+    };
+}
+
+/// Files of a few bytes: none, a small image, and what is no bitmap.
+const FEW: [(&str, &[u8]); 3] = [("none", b""), ("small", b"P4\n8 1\n\0"), ("bad", b"P")];
+
+/// The election as `e`, and these files.
+fn few(alloc: Global) -> Result<NamedBytes, AllocError> {
+    let mut files = NamedBytes::new(alloc);
+    files.push("e", Bytes::from_slice(alloc, ELECTION.as_bytes())?)?;
+    for (name, bytes) in FEW {
+        files.push(name, Bytes::from_slice(alloc, bytes)?)?;
+    }
+    Ok(files)
+}
+
+/// Both printed pages of the card.
+pub fn card_of(alloc: Global, kind: Kind) -> Result<Vec<u8>, Fail> {
+    let ballot = Ballot {
+        card: 0,
+        kind,
+        test: false,
+    };
+    let mut inputs = MemInputs::new(few(alloc)?, ListOf::new(alloc));
+    let mut out = MemSink::new(alloc, 1_000_000, ListOf::new(alloc))?;
+    print(alloc, "e", ballot, &mut inputs, &mut out).map_err(|_| "it isn't printed")?;
+    Ok(Vec::from_slice(alloc, out.held())?)
+}
+
+/// The files of a `try`: a sheet as `sheet`, its pages alone as `front` and `back`, the back of another kind
+/// as `other`, and the sheet with a byte behind it as `behind`.
+pub fn files_of(alloc: Global, card: &[u8], other: &[u8]) -> Result<NamedBytes, Fail> {
+    let front = card.get(..PAGE).ok_or("no front")?;
+    let back = card.get(PAGE..).ok_or("no back")?;
+    let other = other.get(PAGE..).ok_or("no other back")?;
+    let mut files = few(alloc)?;
+    files.push("sheet", Bytes::from_slice(alloc, card)?)?;
+    files.push("front", Bytes::from_slice(alloc, front)?)?;
+    files.push("back", Bytes::from_slice(alloc, back)?)?;
+    files.push("other", Bytes::from_slice(alloc, other)?)?;
+    let mut behind = Bytes::from_slice(alloc, card)?;
+    behind.extend_from_slice(b"P")?;
+    files.push("behind", behind)?;
+    Ok(files)
+}
+
+/// Tries scans over files.
+pub fn attempt(
+    alloc: Global,
+    files: NamedBytes,
+    scans: &[&str],
+    failing: Failing<'_>,
+) -> Result<Answer, Fail> {
+    let mut names = Texts::new(alloc);
+    for scan in scans {
+        names.push(Text::from_str(alloc, scan)?)?;
+    }
+    if names.len() > 64 {
+        return Err(Fail::from("too many scans"));
+    }
+    let reads = ListOf::from_vec(Vec::from_slice(alloc, failing.reads)?);
+    let writes = ListOf::from_vec(Vec::from_slice(alloc, failing.writes)?);
+    let mut inputs = MemInputs::new(files, reads);
+    let mut out = MemSink::new(alloc, failing.room, writes)?;
+    let status = status_of(try_sheets(alloc, "e", &names, &mut inputs, &mut out));
+    Ok(Answer {
+        status: format!(in alloc; "{status}")?,
+        text: Vec::from_slice(alloc, out.held())?,
+    })
+}
+
+/// Whether an answer is this status with this text.
+pub fn is_answer(answer: &Answer, status: &str, text: &str) -> bool {
+    answer.status.as_str() == status && answer.text.as_slice() == text.as_bytes()
+}
