@@ -118,6 +118,7 @@ fn failing_devices_are_told_of_totals(rt: HostRuntime) -> Result<(), Fail> {
             reads,
             writes,
             room: 1000,
+            ..Failing::NONE
         };
         let answer = audit(rt.alloc(), &[("R", WORKED)], &["totals", "R"], failing)?;
         assert!(rt;
