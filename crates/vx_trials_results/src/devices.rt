@@ -1,0 +1,125 @@
+//! Commands over devices in memory.
+
+use std::alloc::{AllocError, Global};
+use vx_base::{Bytes, ListOf};
+use vx_command::Halt;
+use vx_command_audit::run_audit;
+use vx_command_export::export;
+use vx_command_results::results;
+use vx_io::{MemInputs, MemKeeper, MemSink, NamedBytes, Records, Words};
+
+/// What a command answered, and what the sink had taken.
+#[derive(Drop)]
+pub struct Answer {
+    pub status: String,
+    pub text: Vec<u8>,
+}
+
+/// Which calls of the inputs, the sink and the keeper fail, from 1 on, and for how many bytes the sink has room.
+#[derive(Clone, Copy)]
+pub struct Failing<'a> {
+    pub reads: &'a [u64],
+    pub writes: &'a [u64],
+    pub keeps: &'a [(u64, bool)],
+    pub room: u64,
+}
+
+impl Failing<'_> {
+    /// No call fails, and there is room for a million bytes.
+    pub const NONE: Failing<'static> = Failing {
+        reads: &[],
+        writes: &[],
+        keeps: &[],
+        room: 1_000_000,
+    };
+}
+
+fn inputs_of(alloc: Global, file: &[u8], reads: &[u64]) -> Result<MemInputs, AllocError> {
+    let mut named = NamedBytes::new(alloc);
+    named.push("E", Bytes::from_slice(alloc, file)?)?;
+    Ok(MemInputs::new(named, ListOf::from_vec(Vec::from_slice(alloc, reads)?)))
+}
+
+fn keeper_of(
+    alloc: Global,
+    texts: &[&str],
+    keeps: &[(u64, bool)],
+) -> Result<MemKeeper, AllocError> {
+    let mut records = Records::new(alloc);
+    for text in texts {
+        records.push(text.as_bytes())?;
+    }
+    Ok(MemKeeper::new(records, ListOf::from_vec(Vec::from_slice(alloc, keeps)?)))
+}
+
+fn sink_of(alloc: Global, failing: Failing<'_>) -> Result<MemSink, AllocError> {
+    let writes = ListOf::from_vec(Vec::from_slice(alloc, failing.writes)?);
+    MemSink::new(alloc, failing.room, writes)
+}
+
+/// What a command answered that ended so.
+fn answer_of(alloc: Global, ended: Result<(), Halt>, out: &MemSink) -> Result<Answer, AllocError> {
+    let status = match ended {
+        Ok(()) => String::from_str(alloc, "ok")?,
+        Err(halt) => format!(in alloc; "{halt}")?,
+    };
+    Ok(Answer {
+        status,
+        text: Vec::from_slice(alloc, out.held())?,
+    })
+}
+
+/// Runs `results NAME` over a journal, where `E` is the election.
+pub fn attempt(
+    alloc: Global,
+    election: &str,
+    records: &[&str],
+    name: &str,
+    failing: Failing<'_>,
+) -> Result<Answer, AllocError> {
+    let mut inputs = inputs_of(alloc, election.as_bytes(), failing.reads)?;
+    let mut out = sink_of(alloc, failing)?;
+    let mut keeper = keeper_of(alloc, records, failing.keeps)?;
+    let ended = results(alloc, name, &mut inputs, &mut out, &mut keeper);
+    answer_of(alloc, ended, &out)
+}
+
+/// What `export` writes of a journal.
+pub fn exported(alloc: Global, election: &str, records: &[&str]) -> Result<Answer, AllocError> {
+    let mut inputs = inputs_of(alloc, election.as_bytes(), &[])?;
+    let mut out = sink_of(alloc, Failing::NONE)?;
+    let mut keeper = keeper_of(alloc, records, &[])?;
+    let (moment, device) = (
+        "2026-11-04T08:00:00Z",
+        "00000000-0000-4000-8000-000000000001",
+    );
+    let ended = export(
+        alloc,
+        "E",
+        moment,
+        device,
+        &mut inputs,
+        &mut out,
+        &mut keeper,
+    );
+    answer_of(alloc, ended, &out)
+}
+
+/// What `totals` writes of a report.
+pub fn totals_of(alloc: Global, report: &[u8]) -> Result<Answer, AllocError> {
+    let mut words = Words::new(alloc);
+    words.push("totals")?;
+    words.push("E")?;
+    let mut inputs = inputs_of(alloc, report, &[])?;
+    let mut out = sink_of(alloc, Failing::NONE)?;
+    let status = run_audit(alloc, &words, &mut inputs, &mut out);
+    Ok(Answer {
+        status: format!(in alloc; "{status}")?,
+        text: Vec::from_slice(alloc, out.held())?,
+    })
+}
+
+/// Whether an answer is this status with this text.
+pub fn is_answer(answer: &Answer, status: &str, text: &str) -> bool {
+    answer.status.as_str() == status && answer.text.as_slice() == text.as_bytes()
+}
