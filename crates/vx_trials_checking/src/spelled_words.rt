@@ -1,5 +1,7 @@
+use std::alloc::Global;
 use std::test::Fail;
 use vx_io::Words;
+use vx_json::{Text, Texts};
 use vx_words::{Command, UsageFault, parse};
 
 /// The words of a line, and behind them so many scans.
@@ -18,87 +20,95 @@ fn words_of(rt: &HostRuntime, line: &[&str], scans: u32) -> Result<Words, Fail> 
     Ok(words)
 }
 
-/// What words are read as: the command in the debug form of its parts, or why they are none.
-fn told(rt: &HostRuntime, words: &Words) -> Result<String, Fail> {
-    Ok(match parse(rt.alloc(), words) {
-        Ok(
-            Command::Print {
-                election,
-                card,
-                kind,
-                test,
-            },
-        ) => format!(in rt.alloc(); "print {} {card} {kind:?} {test}", election.as_str())?,
-        Ok(Command::Read { election, scans }) => {
-            format!(in rt.alloc(); "read {} {}", election.as_str(), scans.len())?
+/// A command that has its election alone.
+fn alone(alloc: Global, name: &str, election: &Text) -> Result<String, Fail> {
+    Ok(format!(in alloc; "{name} {}", election.as_str())?)
+}
+
+/// A command that has an election and so many scans.
+fn with_scans(alloc: Global, name: &str, election: &Text, scans: &Texts) -> Result<String, Fail> {
+    Ok(format!(in alloc; "{name} {} {}", election.as_str(), scans.len())?)
+}
+
+/// A command in the debug form of its parts, where it has others than an election and scans.
+fn with_parts(alloc: Global, command: &Command) -> Result<String, Fail> {
+    Ok(match command {
+        Command::Print {
+            election,
+            card,
+            kind,
+            test,
+        } => format!(in alloc; "print {} {card} {kind:?} {test}", election.as_str())?,
+        Command::Check {
+            election,
+            scans,
+            readings,
+        } => {
+            let election = election.as_str();
+            format!(in alloc; "check {election} {} {}", scans.as_str(), readings.as_str())?
         }
-        Ok(
-            Command::Check {
-                election,
-                scans,
-                readings,
-            },
-        ) => {
-            format!(in rt.alloc();
-                "check {} {} {}",
-                election.as_str(),
-                scans.as_str(),
-                readings.as_str()
-            )?
-        }
-        Ok(
-            Command::Count {
-                election,
-                batch,
-                workers,
-                scans,
-            },
-        ) => {
-            format!(in rt.alloc();
-                "count {} {} {workers} {}",
-                election.as_str(),
+        Command::Count {
+            election,
+            batch,
+            workers,
+            scans,
+        } => {
+            let election = election.as_str();
+            format!(in alloc;
+                "count {election} {} {workers} {}",
                 batch.as_str(),
                 scans.len()
             )?
         }
-        Ok(Command::Decide { election, script }) => {
-            format!(in rt.alloc(); "decide {} {}", election.as_str(), script.as_str())?
+        Command::Decide { election, script } => {
+            format!(in alloc; "decide {} {}", election.as_str(), script.as_str())?
         }
-        Ok(Command::Queue { election }) => format!(in rt.alloc(); "queue {}", election.as_str())?,
-        Ok(
-            Command::Export {
-                election,
-                moment,
-                device,
-            },
-        ) => {
-            format!(in rt.alloc();
-                "export {} {} {}",
-                election.as_str(),
-                moment.as_str(),
-                device.as_str()
-            )?
+        Command::Export {
+            election,
+            moment,
+            device,
+        } => {
+            let election = election.as_str();
+            format!(in alloc; "export {election} {} {}", moment.as_str(), device.as_str())?
         }
-        Ok(Command::Demo { seed, sheets }) => format!(in rt.alloc(); "demo {seed} {sheets}")?,
-        Ok(
-            Command::Center {
-                election,
-                moment,
-                device,
-                items,
-            },
-        ) => {
-            format!(in rt.alloc();
-                "center {} {} {} {}",
-                election.as_str(),
+        Command::Demo { seed, sheets } => format!(in alloc; "demo {seed} {sheets}")?,
+        Command::Center {
+            election,
+            moment,
+            device,
+            items,
+        } => {
+            let election = election.as_str();
+            let device = device.as_str();
+            format!(in alloc;
+                "center {election} {} {device} {}",
                 moment.as_str(),
-                device.as_str(),
                 items.len()
             )?
         }
-        Err(UsageFault::Usage) => String::from_str(rt.alloc(), "usage")?,
-        Err(UsageFault::OutOfMemory) => String::from_str(rt.alloc(), "no memory")?,
+        _ => String::new(alloc),
     })
+}
+
+/// A command in the debug form of its parts.
+fn told_of(alloc: Global, command: &Command) -> Result<String, Fail> {
+    match command {
+        Command::Read { election, scans } => with_scans(alloc, "read", election, scans),
+        Command::Try { election, scans } => with_scans(alloc, "try", election, scans),
+        Command::Queue { election } => alone(alloc, "queue", election),
+        Command::Cards { election } => alone(alloc, "cards", election),
+        Command::Results { election } => alone(alloc, "results", election),
+        _ => with_parts(alloc, command),
+    }
+}
+
+/// What words are read as: the command in the debug form of its parts, or why they are none.
+fn told(rt: &HostRuntime, words: &Words) -> Result<String, Fail> {
+    match parse(rt.alloc(), words) {
+        Ok(command) => told_of(rt.alloc(), &command),
+        Err(UsageFault::Usage) => Ok(String::from_str(rt.alloc(), "usage")?),
+        Err(UsageFault::OutOfMemory) => Ok(String::from_str(rt.alloc(), "no memory")?),
+    }
 }
 
 const DEVICE: &str = "00000000-0000-4000-8000-00000000000a";
@@ -139,6 +149,13 @@ const LINES: &[(&[&str], &str)] = &[
     (&["queue"], "usage"),
     (&["queue", "e"], "queue e"),
     (&["queue", "e", "more"], "usage"),
+    (&["cards"], "usage"),
+    (&["cards", "e"], "cards e"),
+    (&["cards", "e", "more"], "usage"),
+    (&["results", "e"], "results e"),
+    (&["results", "e", "more"], "usage"),
+    (&["try", "e"], "usage"),
+    (&["try", "e", "s"], "try e 1"),
     (
         &["export", "e", "2024-02-29T23:59:59Z", DEVICE],
         "export e 2024-02-29T23:59:59Z 00000000-0000-4000-8000-00000000000a",
