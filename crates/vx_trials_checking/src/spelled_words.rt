@@ -245,6 +245,8 @@ const SCANS: &[(&[&str], u32, &str)] = &[
     (&["read", "e"], 65, "usage"),
     (&["count", "e", "b1", "1"], 64, "count e b1 1 64"),
     (&["count", "e", "b1", "1"], 65, "usage"),
+    (&["try", "e"], 64, "try e 64"),
+    (&["try", "e"], 65, "usage"),
 ];
 
 #[test]
