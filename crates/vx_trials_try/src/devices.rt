@@ -3,7 +3,7 @@
 use std::alloc::{AllocError, Global};
 use std::test::Fail;
 use vx_base::{Bytes, ListOf};
-use vx_command::status_of;
+use vx_command::{Status, status_of};
 use vx_command_print::{Ballot, print};
 use vx_command_try::try_sheets;
 use vx_grid::Kind;
@@ -67,21 +67,76 @@ pub fn card_of(alloc: Global, kind: Kind) -> Result<Vec<u8>, Fail> {
     Ok(Vec::from_slice(alloc, out.held())?)
 }
 
+/// A file of these bytes behind the others.
+fn push_file(
+    alloc: Global,
+    files: &mut NamedBytes,
+    name: &str,
+    bytes: &[u8],
+) -> Result<(), AllocError> {
+    let bytes = Bytes::from_slice(alloc, bytes)?;
+    Ok(files.push(name, bytes)?)
+}
+
+/// The sheet with a byte behind it, as `behind`.
+fn push_behind(alloc: Global, files: &mut NamedBytes, card: &[u8]) -> Result<(), AllocError> {
+    let mut behind = Bytes::from_slice(alloc, card)?;
+    behind.extend_from_slice(b"P")?;
+    Ok(files.push("behind", behind)?)
+}
+
 /// The files of a `try`: a sheet as `sheet`, its pages alone as `front` and `back`, the back of another kind
 /// as `other`, and the sheet with a byte behind it as `behind`.
 pub fn files_of(alloc: Global, card: &[u8], other: &[u8]) -> Result<NamedBytes, Fail> {
-    let front = card.get(..PAGE).ok_or("no front")?;
-    let back = card.get(PAGE..).ok_or("no back")?;
-    let other = other.get(PAGE..).ok_or("no other back")?;
     let mut files = few(alloc)?;
-    files.push("sheet", Bytes::from_slice(alloc, card)?)?;
-    files.push("front", Bytes::from_slice(alloc, front)?)?;
-    files.push("back", Bytes::from_slice(alloc, back)?)?;
-    files.push("other", Bytes::from_slice(alloc, other)?)?;
-    let mut behind = Bytes::from_slice(alloc, card)?;
-    behind.extend_from_slice(b"P")?;
-    files.push("behind", behind)?;
+    push_file(alloc, &mut files, "sheet", card)?;
+    push_file(alloc, &mut files, "front", card.get(..PAGE).unwrap_or(card))?;
+    push_file(alloc, &mut files, "back", card.get(PAGE..).unwrap_or(card))?;
+    push_file(
+        alloc,
+        &mut files,
+        "other",
+        other.get(PAGE..).unwrap_or(other),
+    )?;
+    push_behind(alloc, &mut files, card)?;
     Ok(files)
+}
+
+/// The names of scans.
+fn names_of(alloc: Global, scans: &[&str]) -> Result<Texts, AllocError> {
+    let mut names = Texts::new(alloc);
+    for scan in scans {
+        names.push(Text::from_str(alloc, scan)?)?;
+    }
+    Ok(names)
+}
+
+/// The devices of a `try`.
+#[derive(Drop)]
+struct Devices {
+    inputs: MemInputs,
+    out: MemSink,
+}
+
+fn devices_of(
+    alloc: Global,
+    files: NamedBytes,
+    failing: Failing<'_>,
+) -> Result<Devices, AllocError> {
+    let reads = ListOf::from_vec(Vec::from_slice(alloc, failing.reads)?);
+    let writes = ListOf::from_vec(Vec::from_slice(alloc, failing.writes)?);
+    Ok(Devices {
+        inputs: MemInputs::new(files, reads),
+        out: MemSink::new(alloc, failing.room, writes)?,
+    })
+}
+
+/// What a `try` answered that ended so.
+fn answer_of(alloc: Global, status: &Status, out: &MemSink) -> Result<Answer, AllocError> {
+    Ok(Answer {
+        status: format!(in alloc; "{status}")?,
+        text: Vec::from_slice(alloc, out.held())?,
+    })
 }
 
 /// Tries scans over files.
@@ -91,22 +146,14 @@ pub fn attempt(
     scans: &[&str],
     failing: Failing<'_>,
 ) -> Result<Answer, Fail> {
-    let mut names = Texts::new(alloc);
-    for scan in scans {
-        names.push(Text::from_str(alloc, scan)?)?;
-    }
+    let names = names_of(alloc, scans)?;
     if names.len() > 64 {
         return Err(Fail::from("too many scans"));
     }
-    let reads = ListOf::from_vec(Vec::from_slice(alloc, failing.reads)?);
-    let writes = ListOf::from_vec(Vec::from_slice(alloc, failing.writes)?);
-    let mut inputs = MemInputs::new(files, reads);
-    let mut out = MemSink::new(alloc, failing.room, writes)?;
-    let status = status_of(try_sheets(alloc, "e", &names, &mut inputs, &mut out));
-    Ok(Answer {
-        status: format!(in alloc; "{status}")?,
-        text: Vec::from_slice(alloc, out.held())?,
-    })
+    let mut devices = devices_of(alloc, files, failing)?;
+    let Devices { inputs, out } = &mut devices;
+    let status = status_of(try_sheets(alloc, "e", &names, inputs, out));
+    Ok(answer_of(alloc, &status, &devices.out)?)
 }
 
 /// Whether an answer is this status with this text.
