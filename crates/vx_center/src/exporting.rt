@@ -142,7 +142,7 @@ fn finals(
     ensures { IfOk result (λ finals. finals ≡ spec.finals_by election.now sheet.now decided.now) }
 {
     let sheet_blank = is_blank(sheet);
-    let mut finals = Vec::new(alloc);
+    let mut finals = Vec::with_capacity(alloc, sheet.contests.len())?;
     for marks in sheet.contests.as_slice() {
         add_final(alloc, &mut finals, election, sheet_blank, decided, marks)?;
     }
