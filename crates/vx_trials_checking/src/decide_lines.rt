@@ -2,9 +2,9 @@ use std::alloc::{AllocError, Global};
 use std::process::Abort;
 use std::test::Fail;
 use vx_base::Bytes;
-use vx_command::status_of;
+use vx_command::{Status, status_of};
 use vx_command_decide::decide;
-use vx_io::{Calls, KeeperCalls, MemInputs, MemKeeper, MemSink, NamedBytes};
+use vx_io::{Calls, KeeperCalls, MemInputs, MemKeeper, MemSink, NamedBytes, Records};
 use vx_town::{TOWN, TOWN_HEADER, records_of};
 
 /// The town's election as `e`, and a script as `s`.
@@ -23,20 +23,56 @@ fn push_bytes(text: &mut String, bytes: &[u8]) -> Result<(), AllocError> {
     Ok(())
 }
 
+/// The devices of a `decide`.
+#[derive(Drop)]
+struct Devices {
+    inputs: MemInputs,
+    out: MemSink,
+    keeper: MemKeeper,
+}
+
+fn devices_of(alloc: Global, records: &[&str], script: &[u8]) -> Result<Devices, Fail> {
+    let kept = records_of(alloc, records)?;
+    Ok(Devices {
+        inputs: inputs_of(alloc, script)?,
+        out: MemSink::new(alloc, 10_000, Calls::new(alloc))?,
+        keeper: MemKeeper::new(kept, KeeperCalls::new(alloc)),
+    })
+}
+
+/// Adds the records from `from` on, each on a line of its own.
+fn push_records(text: &mut String, records: &Records, from: usize) -> Result<(), AllocError> {
+    for index in from..records.len() {
+        text.push('\n')?;
+        push_bytes(text, records.record(index).as_slice())?;
+    }
+    Ok(())
+}
+
+/// What a `decide` has written that ended so, its status, and the records from `from` on.
+fn text_of(
+    alloc: Global,
+    status: &Status,
+    devices: &Devices,
+    from: usize,
+) -> Result<String, AllocError> {
+    let mut text = String::new(alloc);
+    push_bytes(&mut text, devices.out.held())?;
+    write!(text, "{status}")?;
+    push_records(&mut text, devices.keeper.records(), from)?;
+    Ok(text)
+}
+
 /// What `decide` writes of a script over these records, its status, and the records from `from` on.
 fn written(alloc: Global, records: &[&str], script: &[u8], from: usize) -> Result<String, Fail> {
-    let mut inputs = inputs_of(alloc, script)?;
-    let mut out = MemSink::new(alloc, 10_000, Calls::new(alloc))?;
-    let mut keeper = MemKeeper::new(records_of(alloc, records)?, KeeperCalls::new(alloc));
-    let status = status_of(decide(alloc, "e", "s", &mut inputs, &mut out, &mut keeper));
-    let mut text = String::new(alloc);
-    push_bytes(&mut text, out.held())?;
-    write!(text, "{status}")?;
-    for index in from..keeper.records().len() {
-        text.push('\n')?;
-        push_bytes(&mut text, keeper.records().record(index).as_slice())?;
-    }
-    Ok(text)
+    let mut devices = devices_of(alloc, records, script)?;
+    let Devices {
+        inputs,
+        out,
+        keeper,
+    } = &mut devices;
+    let status = status_of(decide(alloc, "e", "s", inputs, out, keeper));
+    Ok(text_of(alloc, &status, &devices, from)?)
 }
 
 /// Scripts whose first line is none: another word, a value out of its range, a word too many or too few,

@@ -1,32 +1,53 @@
-use std::alloc::Global;
+use std::alloc::{AllocError, Global};
 use std::test::Fail;
 use vx_base::Bytes;
-use vx_command::status_of;
+use vx_command::{Status, status_of};
 use vx_command_queue::queue;
-use vx_io::{Calls, KeeperCalls, MemInputs, MemKeeper, MemSink, NamedBytes, Records};
-use vx_town::{TOWN, TOWN_HEADER};
+use vx_io::{Calls, KeeperCalls, MemInputs, MemKeeper, MemSink, NamedBytes};
+use vx_town::{TOWN, TOWN_HEADER, records_of};
 
 /// The town's header without its last digit.
 const SHORT: &str = "1 election 16cbf4c3a45dae96ed01a82ac6d66a24812b6309d97421e2dc4282725ade6e7";
 
-/// What `queue` writes over these records, and then its status.
-fn written(alloc: Global, records: &[&str]) -> Result<String, Fail> {
+/// The devices of a `queue`.
+#[derive(Drop)]
+struct Devices {
+    inputs: MemInputs,
+    out: MemSink,
+    keeper: MemKeeper,
+}
+
+fn devices_of(alloc: Global, records: &[&str]) -> Result<Devices, AllocError> {
+    let kept = records_of(alloc, records)?;
     let mut files = NamedBytes::new(alloc);
     files.push("e", Bytes::from_slice(alloc, TOWN.as_bytes())?)?;
-    let mut inputs = MemInputs::new(files, Calls::new(alloc));
-    let mut out = MemSink::new(alloc, 10_000, Calls::new(alloc))?;
-    let mut kept = Records::new(alloc);
-    for record in records {
-        kept.push(record.as_bytes())?;
-    }
-    let mut keeper = MemKeeper::new(kept, KeeperCalls::new(alloc));
-    let status = status_of(queue(alloc, "e", &mut inputs, &mut out, &mut keeper));
+    Ok(Devices {
+        inputs: MemInputs::new(files, Calls::new(alloc)),
+        out: MemSink::new(alloc, 10_000, Calls::new(alloc))?,
+        keeper: MemKeeper::new(kept, KeeperCalls::new(alloc)),
+    })
+}
+
+/// What a `queue` has written that ended so, and then its status.
+fn text_of(alloc: Global, status: &Status, out: &MemSink) -> Result<String, AllocError> {
     let mut text = String::new(alloc);
     for byte in out.held() {
         text.push(char::from(*byte))?;
     }
     write!(text, "{status}")?;
     Ok(text)
+}
+
+/// What `queue` writes over these records, and then its status.
+fn written(alloc: Global, records: &[&str]) -> Result<String, AllocError> {
+    let mut devices = devices_of(alloc, records)?;
+    let Devices {
+        inputs,
+        out,
+        keeper,
+    } = &mut devices;
+    let status = status_of(queue(alloc, "e", inputs, out, keeper));
+    text_of(alloc, &status, &devices.out)
 }
 
 #[test]
