@@ -74,6 +74,19 @@ fn obey(
     }
 }
 
+/// The command of a line.
+fn command_of(alloc: Global, line: &[&str]) -> Result<Command, Fail> {
+    let words = words_of(alloc, line)?;
+    Ok(parse(alloc, &words).map_err(|_| "usage")?)
+}
+
+/// What a command answered that ended so.
+fn told(alloc: Global, status: &Status, out: &MemSink) -> Result<Answer, AllocError> {
+    let text = Vec::from_slice(alloc, out.held())?;
+    let status = format!(in alloc; "{status}")?;
+    Ok(Answer { status, text })
+}
+
 /// Runs a command over the town's definition, scans and readings.
 pub(crate) fn answer_of<R: AllocGlobal>(
     rt: &R,
@@ -82,14 +95,11 @@ pub(crate) fn answer_of<R: AllocGlobal>(
     readings: &[u8],
 ) -> Result<Answer, Fail> {
     let alloc = rt.alloc();
-    let words = words_of(alloc, line)?;
-    let command = parse(alloc, &words).map_err(|_| "usage")?;
+    let command = command_of(alloc, line)?;
     let mut inputs = inputs_of(alloc, scans, readings)?;
     let mut out = MemSink::new(alloc, 2 * PAGE as u64, Calls::new(alloc))?;
-    let status: Status = status_of(obey(alloc, &command, &mut inputs, &mut out));
-    let status = format!(in alloc; "{status}")?;
-    let text = Vec::from_slice(alloc, out.held())?;
-    Ok(Answer { status, text })
+    let status = status_of(obey(alloc, &command, &mut inputs, &mut out));
+    Ok(told(alloc, &status, &out)?)
 }
 
 /// What `check` answers of readings of scans.

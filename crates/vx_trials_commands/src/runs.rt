@@ -101,6 +101,39 @@ fn words_of<R: AllocGlobal>(rt: &R, line: &[&str]) -> Result<Words, AllocError> 
     Ok(words)
 }
 
+/// The devices of a command.
+#[derive(Drop)]
+struct Devices {
+    inputs: MemInputs,
+    out: MemSink,
+    keeper: MemKeeper,
+}
+
+/// Devices over a scan, of which the listed calls fail.
+fn devices_of<R: AllocGlobal>(
+    rt: &R,
+    scan: &[u8],
+    read_fails: &[u64],
+    write_fails: &[u64],
+    room: u64,
+) -> Result<Devices, Fail> {
+    let alloc = rt.alloc();
+    let files = files_with(rt, scan)?;
+    let reads = Calls::from_vec(Vec::from_slice(alloc, read_fails)?);
+    let writes = Calls::from_vec(Vec::from_slice(alloc, write_fails)?);
+    Ok(Devices {
+        inputs: MemInputs::new(files, reads),
+        out: MemSink::new(alloc, room, writes)?,
+        keeper: MemKeeper::new(Records::new(alloc), KeeperCalls::new(alloc)),
+    })
+}
+
+/// What a command answered that ended so.
+fn answer_of(alloc: Global, status: String, out: &MemSink) -> Result<Answer, AllocError> {
+    let text = Vec::from_slice(alloc, out.held())?;
+    Ok(Answer { status, text })
+}
+
 /// Runs a command over a scan, while the listed calls fail.
 fn attempt<R: Threads + Sync + AllocGlobal>(
     rt: &R,
@@ -110,18 +143,16 @@ fn attempt<R: Threads + Sync + AllocGlobal>(
     write_fails: &[u64],
     room: u64,
 ) -> Result<Answer, Fail> {
-    let alloc = rt.alloc();
     let words = words_of(rt, line)?;
-    let read_calls = Calls::from_vec(Vec::from_slice(alloc, read_fails)?);
-    let mut inputs = MemInputs::new(files_with(rt, scan)?, read_calls);
-    let write_calls = Calls::from_vec(Vec::from_slice(alloc, write_fails)?);
-    let mut out = MemSink::new(alloc, room, write_calls)?;
-    let mut keeper = MemKeeper::new(Records::new(alloc), KeeperCalls::new(alloc));
-    let status = run(rt, alloc, &words, &mut inputs, &mut out, &mut keeper);
-    Ok(Answer {
-        status: format!(in alloc; "{status}")?,
-        text: Vec::from_slice(alloc, out.held())?,
-    })
+    let mut devices = devices_of(rt, scan, read_fails, write_fails, room)?;
+    let Devices {
+        inputs,
+        out,
+        keeper,
+    } = &mut devices;
+    let status = run(rt, rt.alloc(), &words, inputs, out, keeper);
+    let status = format!(in rt.alloc(); "{status}")?;
+    Ok(answer_of(rt.alloc(), status, &devices.out)?)
 }
 
 /// What `print` writes of the town.
