@@ -1,14 +1,36 @@
 //! A gate that shows that the workers of a count read its images side by side, and one that answers false.
 
+ghost use Rattle.vx_app.specs.Counting.{IsCount};
+
 use crate::rows::{ONE_SHEET, Row, assert_told, files_of, make_scan};
 use crate::trials::ADDED;
 use std::process::Abort;
 use std::test::Fail;
 use std::thread::Threads;
 use vx_app::run_count;
-use vx_io::Records;
+use vx_io::{Records, Words};
 use vx_town::{Answer, Devices, Failing, Held, TrialGate, answer_of, words_of};
 use vx_words::{Command, parse};
+
+/// Runs a count through a gate.
+fn counted<R: Threads + Sync + AllocGlobal>(
+    rt: &R,
+    held: Held<'_>,
+    words: &Words,
+    gate: &TrialGate,
+) -> Result<Answer, Fail>
+    requires { IsCount words.now }
+{
+    let mut devices = Devices::new(rt.alloc(), held, Failing::NONE)?;
+    let Devices {
+        inputs,
+        out,
+        keeper,
+    } = &mut devices;
+    let status = run_count(rt, rt.alloc(), words, inputs, out, keeper, gate);
+    let status = format!(in rt.alloc(); "{status}")?;
+    Ok(answer_of(rt.alloc(), status, &devices)?)
+}
 
 /// Runs a count through a gate; none where the words are no count.
 fn count_through<R: Threads + Sync + AllocGlobal>(
@@ -17,17 +39,9 @@ fn count_through<R: Threads + Sync + AllocGlobal>(
     line: &[&str],
     gate: &TrialGate,
 ) -> Result<Option<Answer>, Fail> {
-    let alloc = rt.alloc();
-    let words = words_of(alloc, line)?;
-    if let Ok(Command::Count { .. }) = parse(alloc, &words) {
-        let mut devices = Devices::new(alloc, held, Failing::NONE)?;
-        let Devices {
-            inputs,
-            out,
-            keeper,
-        } = &mut devices;
-        let status = run_count(rt, alloc, &words, inputs, out, keeper, gate);
-        return Ok(Some(answer_of(alloc, format!(in alloc; "{status}")?, &devices)?));
+    let words = words_of(rt.alloc(), line)?;
+    if let Ok(Command::Count { .. }) = parse(rt.alloc(), &words) {
+        return Ok(Some(counted(rt, held, &words, gate)?));
     }
     Ok(None)
 }
