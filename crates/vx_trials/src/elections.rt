@@ -7,7 +7,7 @@ use crate::outside;
 use std::alloc::{AllocError, Global};
 use std::test::*;
 use vx_election::{Election, read_election};
-use vx_styles::{cards, contests_of};
+use vx_styles::{Card, cards, contests_of};
 use vx_town::TOWN;
 
 // A valid definition with a part of each kind.
@@ -172,14 +172,20 @@ fn push_expanded(alloc: Global, text: &mut String, from: &str) -> Result<(), All
     Ok(())
 }
 
-// Whether a row's answer is the one that it names.
-fn holds(alloc: Global, row: &str) -> Result<bool, Fail> {
-    let (old, rest) = row.split_once(" -> ").ok_or("a row")?;
-    let (new, wanted) = rest.split_once(" -> ").ok_or("a row")?;
+// The valid definition with another part in the place of one.
+fn with_part(alloc: Global, old: &str, new: &str) -> Result<String, Fail> {
     let (front, back) = VALID.split_once(old).ok_or("the part is there")?;
     let mut text = String::from_str(alloc, front)?;
     push_expanded(alloc, &mut text, new)?;
     text.push_str(back)?;
+    Ok(text)
+}
+
+// Whether a row's answer is the one that it names.
+fn holds(alloc: Global, row: &str) -> Result<bool, Fail> {
+    let (old, rest) = row.split_once(" -> ").ok_or("a row")?;
+    let (new, wanted) = rest.split_once(" -> ").ok_or("a row")?;
+    let text = with_part(alloc, old, new)?;
     Ok(answer(alloc, text.as_bytes())?.as_str() == wanted)
 }
 
@@ -232,16 +238,22 @@ fn push_contests(
     Ok(())
 }
 
+// The cards, as `style:precinct`.
+fn push_cards(text: &mut String, cards: &[Card]) -> Result<(), AllocError> {
+    let mut blank = "";
+    for card in cards {
+        write!(text, "{blank}{}:{}", card.style, card.precinct)?;
+        blank = " ";
+    }
+    Ok(())
+}
+
 // The cards, as `style:precinct`, and the contests of each.
 fn description(alloc: Global, bytes: &[u8]) -> Result<String, Fail> {
     let election = read_election(alloc, bytes)?;
     let cards = cards(alloc, &election)?;
     let mut text = String::new(alloc);
-    let mut blank = "";
-    for card in cards.as_slice() {
-        write!(text, "{blank}{}:{}", card.style, card.precinct)?;
-        blank = " ";
-    }
+    push_cards(&mut text, cards.as_slice())?;
     let mut between = " -> ";
     for card in 0..cards.len() as u32 {
         text.push_str(between)?;

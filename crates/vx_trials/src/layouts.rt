@@ -135,22 +135,23 @@ fn questions(count: u32, title: u32, description: u32) -> Content {
     }
 }
 
-// A definition with such contests, and so many styles; the last one alone has the contests.
-fn definition(alloc: Global, contests: Content, styles: u32) -> Result<String, AllocError> {
-    let mut text = String::from_str(
-        alloc,
-        "{\"title\":\"T\",\"date\":\"2024-11-05\",\"districts\":[{\"id\":\"d\",\"name\":\"D\"}],\"precincts\":[{\"id\":\"p\",\"name\":\"P\"}],\"contests\":[",
-    )?;
+// Adds such contests.
+fn push_contests(text: &mut String, contests: Content) -> Result<(), AllocError> {
     let mut between = "";
     for number in 0..contests.count {
         text.push_str(between)?;
         if contests.name.is_empty() {
-            push_question(&mut text, number, contests.size, contests.description)?;
+            push_question(text, number, contests.size, contests.description)?;
         } else {
-            push_candidates(&mut text, number, contests.size, contests.name)?;
+            push_candidates(text, number, contests.size, contests.name)?;
         }
         between = ",";
     }
+    Ok(())
+}
+
+// Adds so many styles; the last one alone has the contests.
+fn push_styles(text: &mut String, styles: u32) -> Result<(), AllocError> {
     text.push_str("],\"ballotStyles\":[")?;
     for style in 1..styles {
         write!(
@@ -158,7 +159,17 @@ fn definition(alloc: Global, contests: Content, styles: u32) -> Result<String, A
             "{{\"id\":\"s{style}\",\"precincts\":[\"p\"],\"districts\":[]}},"
         )?;
     }
-    text.push_str("{\"id\":\"s\",\"precincts\":[\"p\"],\"districts\":[\"d\"]}]}")?;
+    text.push_str("{\"id\":\"s\",\"precincts\":[\"p\"],\"districts\":[\"d\"]}]}")
+}
+
+// A definition with such contests, and so many styles; the last one alone has the contests.
+fn definition(alloc: Global, contests: Content, styles: u32) -> Result<String, AllocError> {
+    let mut text = String::from_str(
+        alloc,
+        "{\"title\":\"T\",\"date\":\"2024-11-05\",\"districts\":[{\"id\":\"d\",\"name\":\"D\"}],\"precincts\":[{\"id\":\"p\",\"name\":\"P\"}],\"contests\":[",
+    )?;
+    push_contests(&mut text, contests)?;
+    push_styles(&mut text, styles)?;
     Ok(text)
 }
 

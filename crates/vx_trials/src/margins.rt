@@ -115,10 +115,10 @@ fn assert_steep<R: AllocGlobal + Abort>(rt: &R, page: &BitPage, ending: &str) ->
 #[test]
 fn steep_pages_are_read_at_the_bounds_of_ink(rt: HostRuntime) -> Result<(), Fail> {
     let alloc = rt.alloc();
-    let clear = format!(in alloc; "{CLEAR}end\n")?;
-    assert_steep(&rt, &paint_page(alloc, FIRST)?, clear.as_str())?;
     assert_steep(&rt, &marked_within(alloc)?, "bubble 1 0 1 75 marked\nend\n")?;
-    assert_steep(&rt, &marked_beside(alloc, 12)?, " clear\nend\n")
+    assert_steep(&rt, &marked_beside(alloc, 12)?, " clear\nend\n")?;
+    let clear = format!(in alloc; "{CLEAR}end\n")?;
+    assert_steep(&rt, &paint_page(alloc, FIRST)?, clear.as_str())
 }
 
 /// How the text of a page begins whose corner lies in the last column of its region.
@@ -134,12 +134,26 @@ fn assert_begins<R: AllocGlobal + Abort>(
     begins: &[u8],
     over: &[u8],
 ) -> Result<(), Fail> {
+    assert_starts(rt, scan, begins)?;
+    let back = turned(rt.alloc(), scan)?;
+    assert_starts(rt, &back, over)
+}
+
+/// The text of a scan begins so.
+fn assert_starts<R: AllocGlobal + Abort>(
+    rt: &R,
+    scan: &BitPage,
+    begins: &[u8],
+) -> Result<(), Fail> {
     let text = read_on(rt.alloc(), Paper::Letter, scan)?;
     assert!(rt; text.as_slice().starts_with(begins));
-    let back = turned(rt.alloc(), scan)?;
-    let text = read_on(rt.alloc(), Paper::Letter, &back)?;
-    assert!(rt; text.as_slice().starts_with(over));
     Ok(())
+}
+
+/// The first page as it lies in a frame.
+fn first_scan(alloc: Global, lie: Lie) -> Result<BitPage, Fail> {
+    let page = paint_page(alloc, FIRST)?;
+    letter_scan(alloc, &page, lie)
 }
 
 /// The text of a scan.
@@ -151,21 +165,23 @@ fn assert_text<R: AllocGlobal + Abort>(rt: &R, scan: &BitPage, wanted: &[u8]) ->
 
 #[test]
 fn a_page_is_read_up_to_the_last_corner(rt: HostRuntime) -> Result<(), Fail> {
-    let alloc = rt.alloc();
-    let page = paint_page(alloc, FIRST)?;
-    let last = letter_scan(alloc, &page, moved(60, 40))?;
+    let last = first_scan(rt.alloc(), moved(60, 40))?;
     assert_begins(&rt, &last, LAST_CORNER, LAST_TURNED)
 }
 
 #[test]
 fn a_page_past_the_last_corner_is_none(rt: HostRuntime) -> Result<(), Fail> {
-    let alloc = rt.alloc();
-    let page = paint_page(alloc, FIRST)?;
-    let past = letter_scan(alloc, &page, moved(61, 40))?;
+    let past = first_scan(rt.alloc(), moved(61, 40))?;
     assert_text(&rt, &past, b"page 1 fault 2.1 NoCorner\n")?;
     // Upside down it has its marks as it lies, and reserved rows where its code would be.
-    let over = turned(alloc, &past)?;
+    let over = turned(rt.alloc(), &past)?;
     assert_text(&rt, &over, b"page 1 fault 3.1 BadPair 0 0 0\n")
+}
+
+/// What is read of a page on legal paper that lies so in a frame.
+fn read_legal(alloc: Global, page: &BitPage, lie: Lie) -> Result<Vec<u8>, Fail> {
+    let scan = scan_of(alloc, page, lie, 1800, 2840)?;
+    read_on(alloc, Paper::Legal, &scan)
 }
 
 #[test]
@@ -184,8 +200,7 @@ fn a_legal_page_is_read_up_to_the_last_corner(rt: HostRuntime) -> Result<(), Fai
         (moved(61, 31), "page 1 fault 2.1 NoCorner\n"),
         (moved(60, 32), "page 1 fault 2.1 NoCorner\n"),
     ] {
-        let scan = scan_of(alloc, &page, lie, 1800, 2840)?;
-        let text = read_on(alloc, Paper::Legal, &scan)?;
+        let text = read_legal(alloc, &page, lie)?;
         assert!(rt; text.as_slice().starts_with(begins.as_bytes()), "{begins}");
     }
     Ok(())

@@ -81,23 +81,39 @@ fn read_text(alloc: Global, page: &BitPage) -> Result<Vec<u8>, Fail> {
 
 /// The town's definition on a paper as `e`, and a page as the scan `s`.
 fn inputs_on(alloc: Global, paper: Paper, page: &BitPage) -> Result<MemInputs, Fail> {
-    let definition = definition_on(alloc, paper)?;
+    let mut files = NamedBytes::new(alloc);
+    push_scan(alloc, &mut files, page)?;
+    push_definition(alloc, &mut files, paper)?;
+    Ok(MemInputs::new(files, Calls::new(alloc)))
+}
+
+/// Adds a page as the scan `s`.
+fn push_scan(alloc: Global, files: &mut NamedBytes, page: &BitPage) -> Result<(), Fail> {
     let mut scan = Bytes::new(alloc);
     write_p4(&page.view(), &mut scan)?;
-    let mut files = NamedBytes::new(alloc);
-    files.push("s", scan)?;
-    files.push("e", Bytes::from_slice(alloc, definition.as_bytes())?)?;
-    Ok(MemInputs::new(files, Calls::new(alloc)))
+    Ok(files.push("s", scan)?)
+}
+
+/// Adds the town's definition on a paper as `e`.
+fn push_definition(alloc: Global, files: &mut NamedBytes, paper: Paper) -> Result<(), Fail> {
+    let definition = definition_on(alloc, paper)?;
+    let bytes = Bytes::from_slice(alloc, definition.as_bytes())?;
+    Ok(files.push("e", bytes)?)
 }
 
 /// The text that `read` writes of a page of the town on a paper.
 pub(crate) fn read_on(alloc: Global, paper: Paper, page: &BitPage) -> Result<Vec<u8>, Fail> {
     let mut inputs = inputs_on(alloc, paper, page)?;
     let mut out = MemSink::new(alloc, 10_000, Calls::new(alloc))?;
+    read_into(alloc, &mut inputs, &mut out)?;
+    Ok(Vec::from_slice(alloc, out.held())?)
+}
+
+/// Reads the scan.
+fn read_into(alloc: Global, inputs: &mut MemInputs, out: &mut MemSink) -> Result<(), Fail> {
     let mut scans = Texts::new(alloc);
     scans.push(Text::from_str(alloc, "s")?)?;
-    read(alloc, "e", &scans, &mut inputs, &mut out).map_err(|_| "it halts")?;
-    Ok(Vec::from_slice(alloc, out.held())?)
+    Ok(read(alloc, "e", &scans, inputs, out).map_err(|_| "it halts")?)
 }
 
 /// Makes pixels of a row light, from column `left` on.
@@ -300,28 +316,34 @@ fn legal_pages_are_read(rt: HostRuntime) -> Result<(), Fail> {
         number: 2,
         ..legal
     };
+    assert_legal(&rt, &paint_page(alloc, back)?, "side 2 kind precinct", "")?;
     let first = paint_page(alloc, legal)?;
-    let over = turned(alloc, &first)?;
-    assert_legal(&rt, &over, "side 1 kind precinct turned", CLEAR)?;
     assert_legal(&rt, &first, "side 1 kind precinct", CLEAR)?;
-    assert_legal(&rt, &paint_page(alloc, back)?, "side 2 kind precinct", "")
+    let over = turned(alloc, &first)?;
+    assert_legal(&rt, &over, "side 1 kind precinct turned", CLEAR)
+}
+
+/// Where the town is on a paper, a page is read so.
+fn assert_read<R: AllocGlobal + Abort>(
+    rt: &R,
+    paper: Paper,
+    painted: Painted,
+    wanted: &str,
+) -> Result<(), Fail> {
+    let page = paint_page(rt.alloc(), painted)?;
+    let text = read_on(rt.alloc(), paper, &page)?;
+    assert_eq!(rt; text.as_slice(), wanted.as_bytes());
+    Ok(())
 }
 
 #[test]
 fn a_page_of_the_other_paper_is_no_frame(rt: HostRuntime) -> Result<(), Fail> {
-    let alloc = rt.alloc();
-    let letter = paint_page(alloc, FIRST)?;
-    assert_eq!(rt;
-        read_on(alloc, Paper::Legal, &letter)?.as_slice(),
-        b"page 1 fault 1 FrameSize 1700 2200\n".as_slice()
-    );
+    let on_letter = "page 1 fault 1 FrameSize 1700 2200\n";
+    assert_read(&rt, Paper::Legal, FIRST, on_letter)?;
     let legal = Painted {
         paper: Paper::Legal,
         ..FIRST
     };
-    assert_eq!(rt;
-        read_text(alloc, &paint_page(alloc, legal)?)?.as_slice(),
-        b"page 1 fault 1 FrameSize 1700 2800\n".as_slice()
-    );
-    Ok(())
+    let on_legal = "page 1 fault 1 FrameSize 1700 2800\n";
+    assert_read(&rt, Paper::Letter, legal, on_legal)
 }

@@ -3,6 +3,7 @@
 use std::alloc::{AllocError, Global};
 use std::test::*;
 use vx_base::{Bytes, ListOf};
+use vx_command::Halt;
 use vx_command_cards::cards;
 use vx_io::{MemInputs, MemSink, NamedBytes};
 
@@ -39,6 +40,34 @@ struct Answer {
     text: Vec<u8>,
 }
 
+/// The definition as `E`, where these calls fail.
+fn inputs_of(alloc: Global, definition: &str, reads: &[u64]) -> Result<MemInputs, AllocError> {
+    let mut named = NamedBytes::new(alloc);
+    named.push("E", Bytes::from_slice(alloc, definition.as_bytes())?)?;
+    Ok(MemInputs::new(named, ListOf::from_vec(Vec::from_slice(alloc, reads)?)))
+}
+
+fn sink_of(alloc: Global, room: u64, writes: &[u64]) -> Result<MemSink, AllocError> {
+    MemSink::new(
+        alloc,
+        room,
+        ListOf::from_vec(Vec::from_slice(alloc, writes)?),
+    )
+}
+
+/// How a `cards` ended.
+fn told(alloc: Global, result: Result<(), Halt>) -> Result<String, AllocError> {
+    match result {
+        Ok(()) => String::from_str(alloc, "ok"),
+        Err(halt) => format!(in alloc; "{halt}"),
+    }
+}
+
+fn answer_of(alloc: Global, status: String, out: &MemSink) -> Result<Answer, AllocError> {
+    let text = Vec::from_slice(alloc, out.held())?;
+    Ok(Answer { status, text })
+}
+
 /// Does `cards` of the definition that is held as `E`, where these calls of the inputs and of the sink
 /// fail, from 1 on, and the sink has room for so many bytes.
 fn attempt(
@@ -49,18 +78,10 @@ fn attempt(
     writes: &[u64],
     room: u64,
 ) -> Result<Answer, AllocError> {
-    let mut named = NamedBytes::new(alloc);
-    named.push("E", Bytes::from_slice(alloc, definition.as_bytes())?)?;
-    let reads = ListOf::from_vec(Vec::from_slice(alloc, reads)?);
-    let writes = ListOf::from_vec(Vec::from_slice(alloc, writes)?);
-    let mut inputs = MemInputs::new(named, reads);
-    let mut out = MemSink::new(alloc, room, writes)?;
-    let status = match cards(alloc, name, &mut inputs, &mut out) {
-        Ok(()) => String::from_str(alloc, "ok")?,
-        Err(halt) => format!(in alloc; "{halt}")?,
-    };
-    let text = Vec::from_slice(alloc, out.held())?;
-    Ok(Answer { status, text })
+    let mut inputs = inputs_of(alloc, definition, reads)?;
+    let mut out = sink_of(alloc, room, writes)?;
+    let status = told(alloc, cards(alloc, name, &mut inputs, &mut out))?;
+    answer_of(alloc, status, &out)
 }
 
 /// Whether an answer is this status with this text.

@@ -38,13 +38,18 @@ fn numbers_in(alloc: Global, text: &[u8]) -> Result<Vec<Number>, AllocError> {
     Ok(found)
 }
 
+/// Adds the digits of a number.
+fn push_value(alloc: Global, text: &mut Vec<u8>, value: u32) -> Result<(), AllocError> {
+    let digits = format!(in alloc; "{value}")?;
+    text.extend_from_slice(digits.as_bytes())
+}
+
 /// A text with another value in the place of a number.
 fn with_value(alloc: Global, text: &[u8], at: Number, value: u32) -> Result<Vec<u8>, Fail> {
-    let digits = format!(in alloc; "{value}")?;
     let front = text.get(..at.from).ok_or("no front")?;
     let behind = text.get(at.to..).ok_or("nothing behind")?;
     let mut changed = Vec::from_slice(alloc, front)?;
-    changed.extend_from_slice(digits.as_bytes())?;
+    push_value(alloc, &mut changed, value)?;
     changed.extend_from_slice(behind)?;
     Ok(changed)
 }
@@ -103,13 +108,17 @@ fn try_change<R: AllocGlobal>(
     let alloc = rt.alloc();
     let readings = with_value(alloc, text, at, change.now)?;
     let answer = checked(rt, page, readings.as_slice())?;
+    is_certified(alloc, change, answer.status.as_str())
+}
+
+/// Whether a status is that of a change, and a certificate all the same; another one is a failure.
+fn is_certified(alloc: Global, change: Change, found: &str) -> Result<bool, Fail> {
     let status = status_of(alloc, change)?;
-    if answer.status.as_str() != status.as_str() {
+    if found != status.as_str() {
         let number = change.number;
-        let found = answer.status.as_str();
         return Err(Fail::from(format!(in alloc; "{number}: {found}, not {status}")?));
     }
-    Ok(status.as_str() == "ok")
+    Ok(found == "ok")
 }
 
 /// How many changes were tried, and how many of them are certificates.
@@ -131,29 +140,49 @@ impl Tried {
 
 /// Tries each number of the block, one up or one down where it isn't 0.
 fn try_all<R: AllocGlobal>(rt: &R, is_up: bool) -> Result<Tried, Fail> {
-    let alloc = rt.alloc();
     let page = first_page(rt)?;
-    let text = first_block(alloc, "", CLEAR)?;
+    let text = first_block(rt.alloc(), "", CLEAR)?;
+    let numbers = numbers_in(rt.alloc(), text.as_bytes())?;
+    try_each(
+        rt,
+        page.as_slice(),
+        text.as_bytes(),
+        numbers.as_slice(),
+        is_up,
+    )
+}
+
+/// A number's value, one up or one down where it isn't 0.
+fn moved(value: u32, is_up: bool) -> Option<u32> {
+    if is_up {
+        value.checked_add(1)
+    } else {
+        value.checked_sub(1)
+    }
+}
+
+/// Tries each of these numbers of a text.
+fn try_each<R: AllocGlobal>(
+    rt: &R,
+    page: &[u8],
+    text: &[u8],
+    numbers: &[Number],
+    is_up: bool,
+) -> Result<Tried, Fail> {
     let mut tried = Tried {
         all: 0,
         certified: 0,
     };
     let mut before = 0;
-    for (number, at) in numbers_in(alloc, text.as_bytes())?.iter().enumerate() {
-        let now = if is_up {
-            at.value.checked_add(1)
-        } else {
-            at.value.checked_sub(1)
-        };
-        if let Some(now) = now {
+    for (number, at) in numbers.iter().enumerate() {
+        if let Some(now) = moved(at.value, is_up) {
             let change = Change {
                 number,
                 before,
                 now,
                 is_up,
             };
-            let is_certified = try_change(rt, page.as_slice(), text.as_bytes(), *at, change)?;
-            tried = tried.and(is_certified);
+            tried = tried.and(try_change(rt, page, text, *at, change)?);
         }
         before = at.value;
     }

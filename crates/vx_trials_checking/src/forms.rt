@@ -1,8 +1,9 @@
 //! Readings that leave their form, or don't fit the scans. What is expected was worked out by hand from the
 //! form of readings.
 
-use crate::scans::{both_pages, checked};
+use crate::scans::{Answer, assert_answer, both_pages, checked};
 use crate::texts::{both_blocks, with_piece};
+use std::process::Abort;
 use std::test::Fail;
 
 /// What is written of the first page, and of both.
@@ -42,6 +43,20 @@ const CHANGES: [(&str, &str, &str, &str); 18] = [
     ("clear\nend", "Clear\nend", "line 4", ""),
 ];
 
+/// Readings of pages are no certificate, for this fault, and this is written before it.
+fn assert_told<R: AllocGlobal + Abort>(
+    rt: &R,
+    pages: &[u8],
+    readings: &[u8],
+    fault: &str,
+    wanted: &str,
+) -> Result<(), Fail> {
+    let status = format!(in rt.alloc(); "not certified {fault}")?;
+    let answer = checked(rt, pages, readings)?;
+    assert_answer(rt, &answer, status.as_str(), wanted.as_bytes(), fault);
+    Ok(())
+}
+
 #[test]
 fn a_changed_line_is_told(rt: HostRuntime) -> Result<(), Fail> {
     let alloc = rt.alloc();
@@ -49,10 +64,7 @@ fn a_changed_line_is_told(rt: HostRuntime) -> Result<(), Fail> {
     let text = both_blocks(alloc)?;
     for (old, new, fault, wanted) in CHANGES {
         let readings = with_piece(alloc, text.as_str(), old, new)?;
-        let answer = checked(&rt, pages.as_slice(), readings.as_bytes())?;
-        let status = format!(in alloc; "not certified {fault}")?;
-        assert_eq!(rt; answer.status.as_str(), status.as_str(), "{new}");
-        assert_eq!(rt; answer.text.as_slice(), wanted.as_bytes(), "{new}");
+        assert_told(&rt, pages.as_slice(), readings.as_bytes(), fault, wanted)?;
     }
     Ok(())
 }
@@ -109,21 +121,27 @@ const CUTS: [(u32, &[u8], &str, &str); 20] = [
     (0, b"\n", "not certified line 1", ""),
 ];
 
+/// What `check` answers of readings of which these are the front, and those behind it.
+fn checked_with<R: AllocGlobal>(
+    rt: &R,
+    pages: &[u8],
+    front: &[u8],
+    behind: &[u8],
+) -> Result<Answer, Fail> {
+    let mut readings = Vec::from_slice(rt.alloc(), front)?;
+    readings.extend_from_slice(behind)?;
+    checked(rt, pages, readings.as_slice())
+}
+
 #[test]
 fn a_cut_text_is_told(rt: HostRuntime) -> Result<(), Fail> {
     let alloc = rt.alloc();
     let pages = both_pages(&rt)?;
     let text = both_blocks(alloc)?;
     for (lines, behind, status, wanted) in CUTS {
-        let mut readings = Vec::from_slice(alloc, front_of(text.as_bytes(), lines))?;
-        readings.extend_from_slice(behind)?;
-        let answer = checked(&rt, pages.as_slice(), readings.as_slice())?;
-        assert_eq!(rt; answer.status.as_str(), status, "{lines} {behind:?}");
-        assert_eq!(rt;
-            answer.text.as_slice(),
-            wanted.as_bytes(),
-            "{lines} {behind:?}"
-        );
+        let front = front_of(text.as_bytes(), lines);
+        let answer = checked_with(&rt, pages.as_slice(), front, behind)?;
+        assert_answer(&rt, &answer, status, wanted.as_bytes(), wanted);
     }
     Ok(())
 }

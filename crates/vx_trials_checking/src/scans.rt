@@ -1,6 +1,7 @@
 //! The town's printed pages as scans, and commands over them.
 
 use std::alloc::{AllocError, Global};
+use std::process::Abort;
 use std::test::Fail;
 use vx_base::Bytes;
 use vx_command::{Halt, Status, status_of};
@@ -30,9 +31,9 @@ pub(crate) struct Answer {
 /// The town's definition as `e`, scans as `s` and readings as `r`.
 fn inputs_of(alloc: Global, scans: &[u8], readings: &[u8]) -> Result<MemInputs, Fail> {
     let mut files = NamedBytes::new(alloc);
-    files.push("e", Bytes::from_slice(alloc, TOWN.as_bytes())?)?;
-    files.push("s", Bytes::from_slice(alloc, scans)?)?;
-    files.push("r", Bytes::from_slice(alloc, readings)?)?;
+    for (name, bytes) in [("e", TOWN.as_bytes()), ("s", scans), ("r", readings)] {
+        files.push(name, Bytes::from_slice(alloc, bytes)?)?;
+    }
     Ok(MemInputs::new(files, Calls::new(alloc)))
 }
 
@@ -92,6 +93,17 @@ fn told(alloc: Global, status: &Status, out: &MemSink) -> Result<Answer, AllocEr
     Ok(Answer { status, text })
 }
 
+/// Does the command of a line over devices.
+fn status_over(
+    alloc: Global,
+    line: &[&str],
+    inputs: &mut MemInputs,
+    out: &mut MemSink,
+) -> Result<Status, Fail> {
+    let command = command_of(alloc, line)?;
+    Ok(status_of(obey(alloc, &command, inputs, out)))
+}
+
 /// Runs a command over the town's definition, scans and readings.
 pub(crate) fn answer_of<R: AllocGlobal>(
     rt: &R,
@@ -100,11 +112,22 @@ pub(crate) fn answer_of<R: AllocGlobal>(
     readings: &[u8],
 ) -> Result<Answer, Fail> {
     let alloc = rt.alloc();
-    let command = command_of(alloc, line)?;
     let mut inputs = inputs_of(alloc, scans, readings)?;
     let mut out = MemSink::new(alloc, 2 * PAGE as u64, Calls::new(alloc))?;
-    let status = status_of(obey(alloc, &command, &mut inputs, &mut out));
+    let status = status_over(alloc, line, &mut inputs, &mut out)?;
     Ok(told(alloc, &status, &out)?)
+}
+
+/// It ended so, and wrote this text.
+pub(crate) fn assert_answer<R: Abort>(
+    rt: &R,
+    answer: &Answer,
+    status: &str,
+    text: &[u8],
+    row: &str,
+) {
+    assert_eq!(rt; answer.status.as_str(), status, "{row}");
+    assert_eq!(rt; answer.text.as_slice(), text, "{row}");
 }
 
 /// What `check` answers of readings of scans.

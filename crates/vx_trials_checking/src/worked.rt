@@ -1,7 +1,10 @@
 //! Worked rows of `check`. What is expected was worked out by hand from the rules of a certificate.
 
-use crate::scans::{answer_of, both_pages, checked, first_page, marked_page, turned};
+use crate::scans::{
+    answer_of, assert_answer, both_pages, checked, first_page, marked_page, turned,
+};
 use crate::texts::{CLEAR, MARKED, both_blocks, first_block, with_piece};
+use std::process::Abort;
 use std::test::Fail;
 
 /// What is written of both pages of the town.
@@ -39,8 +42,7 @@ fn clean_pages_are_certified_or_not(rt: HostRuntime) -> Result<(), Fail> {
     for (old, new, status, wanted) in CHANGES {
         let readings = with_piece(alloc, text.as_str(), old, new)?;
         let answer = checked(&rt, pages.as_slice(), readings.as_bytes())?;
-        assert_eq!(rt; answer.status.as_str(), status, "{new}");
-        assert_eq!(rt; answer.text.as_slice(), wanted.as_bytes(), "{new}");
+        assert_answer(&rt, &answer, status, wanted.as_bytes(), new);
     }
     Ok(())
 }
@@ -71,18 +73,30 @@ const WAYS: [(bool, bool, &str, &str, &str); 9] = [
     (true, true, "", MARKED, "not certified page 1 4 0"),
 ];
 
+/// The first page, marked or not.
+fn page_of<R: AllocGlobal>(rt: &R, is_marked: bool) -> Result<Vec<u8>, Fail> {
+    if is_marked {
+        marked_page(rt)
+    } else {
+        first_page(rt)
+    }
+}
+
+/// The first page, marked or not, upside down or not.
+fn lying<R: AllocGlobal>(rt: &R, is_over: bool, is_marked: bool) -> Result<Vec<u8>, Fail> {
+    let page = page_of(rt, is_marked)?;
+    if is_over {
+        turned(rt.alloc(), page.as_slice())
+    } else {
+        Ok(page)
+    }
+}
+
 #[test]
 fn turned_pages_are_certified_as_they_lie(rt: HostRuntime) -> Result<(), Fail> {
-    let alloc = rt.alloc();
     for (is_over, is_marked, word, bubbles, status) in WAYS {
-        let page = if is_marked {
-            marked_page(&rt)?
-        } else {
-            first_page(&rt)?
-        };
-        let over = turned(alloc, page.as_slice())?;
-        let scan = if is_over { over } else { page };
-        let readings = first_block(alloc, word, bubbles)?;
+        let scan = lying(&rt, is_over, is_marked)?;
+        let readings = first_block(rt.alloc(), word, bubbles)?;
         let answer = checked(&rt, scan.as_slice(), readings.as_bytes())?;
         assert_eq!(rt; answer.status.as_str(), status, "{word} {bubbles}");
     }
@@ -91,14 +105,27 @@ fn turned_pages_are_certified_as_they_lie(rt: HostRuntime) -> Result<(), Fail> {
 
 #[test]
 fn a_turned_page_has_its_bubbles_in_the_page_s_order(rt: HostRuntime) -> Result<(), Fail> {
-    let alloc = rt.alloc();
-    let page = turned(alloc, marked_page(&rt)?.as_slice())?;
+    let page = lying(&rt, true, true)?;
+    let wanted = first_block(rt.alloc(), " turned", MARKED)?;
     let answer = answer_of(&rt, &["read", "e", "s"], page.as_slice(), &[])?;
-    let wanted = first_block(alloc, " turned", MARKED)?;
     assert_eq!(rt; answer.text.as_slice(), wanted.as_bytes());
-    let again = checked(&rt, page.as_slice(), answer.text.as_slice())?;
-    assert_eq!(rt; again.text.as_slice(), b"page 1 certified\n".as_slice());
-    assert_eq!(rt; again.status.as_str(), "ok");
+    assert_certified(
+        &rt,
+        page.as_slice(),
+        answer.text.as_slice(),
+        "page 1 certified\n",
+    )
+}
+
+/// Readings of scans are a certificate, with this text.
+fn assert_certified<R: AllocGlobal + Abort>(
+    rt: &R,
+    scans: &[u8],
+    readings: &[u8],
+    text: &str,
+) -> Result<(), Fail> {
+    let answer = checked(rt, scans, readings)?;
+    assert_answer(rt, &answer, "ok", text.as_bytes(), text);
     Ok(())
 }
 
@@ -108,11 +135,6 @@ fn what_read_wrote_is_certified(rt: HostRuntime) -> Result<(), Fail> {
     // A light image of 8 by 1 pixels is no page.
     scans.extend_from_slice(b"P4\n8 1\n\0")?;
     let told = answer_of(&rt, &["read", "e", "s"], scans.as_slice(), &[])?;
-    let answer = checked(&rt, scans.as_slice(), told.text.as_slice())?;
-    assert_eq!(rt; answer.status.as_str(), "ok");
-    assert_eq!(rt;
-        answer.text.as_slice(),
-        b"page 1 certified\npage 2 certified\npage 3 no reading\n".as_slice()
-    );
-    Ok(())
+    let wanted = "page 1 certified\npage 2 certified\npage 3 no reading\n";
+    assert_certified(&rt, scans.as_slice(), told.text.as_slice(), wanted)
 }

@@ -3,11 +3,12 @@
 //! each `center` leave the same, whichever comes first.
 
 use crate::centers::{DEVICE, MOMENT, ONE_SHEET, assert_left, center, files_of, make_scan};
+use crate::devices::{Answer, Failing};
+use crate::trial_gates::TrialGate;
 use std::process::Abort;
 use std::sync::Wait;
 use std::test::Fail;
 use std::thread::Threads;
-use vx_town::{Answer, Failing, TrialGate};
 
 /// Words, the records before them, and how many calls of the inputs, the sink and the keeper are made.
 ///
@@ -31,56 +32,97 @@ const FAULTS: [&str; 3] = ["read fault", "write fault", "keeper fault"];
 
 /// A call of one of the devices fails.
 fn failing_at<'x>(device: usize, call: &'x [u64], keeps: &'x [(u64, bool)]) -> Failing<'x> {
-    Failing {
-        reads: if device == 0 { call } else { &[] },
-        writes: if device == 1 { call } else { &[] },
-        keeps: if device == 2 { keeps } else { &[] },
-        room: Failing::NONE.room,
+    match device {
+        0 => Failing {
+            reads: call,
+            ..Failing::NONE
+        },
+        1 => Failing {
+            writes: call,
+            ..Failing::NONE
+        },
+        _ => Failing {
+            keeps,
+            ..Failing::NONE
+        },
     }
+}
+
+/// A `center` that is tried: its files, the records before it, and its words.
+#[derive(Clone, Copy)]
+struct Trial<'x> {
+    files: &'x [(&'x str, &'x [u8])],
+    before: &'x [&'x str],
+    words: &'x [&'x str],
+}
+
+/// Runs a trial while calls fail.
+fn run_trial<R: Threads + Wait + Sync + AllocGlobal>(
+    rt: &R,
+    trial: Trial<'_>,
+    failing: Failing<'_>,
+) -> Result<Answer, Fail> {
+    let Trial {
+        files,
+        before,
+        words,
+    } = trial;
+    center(rt, files, before, words, failing, &TrialGate::open())
 }
 
 /// The status is the device's fault. Behind one of the inputs nothing was done; behind one of the sink's all
 /// records stand, and behind one of the keeper's no text does.
-fn assert_front<R: Abort>(
-    rt: &R,
-    device: usize,
-    before: &[&str],
-    words: &[&str],
-    whole: &Answer,
-    now: &Answer,
-) {
+fn assert_front<R: Abort>(rt: &R, device: usize, trial: Trial<'_>, whole: &Answer, now: &Answer) {
+    let words = trial.words;
     let (text, many) = (now.text.as_slice(), now.records.len());
     let fault = FAULTS.get(device).copied().unwrap_or("");
     assert_left(rt, now, fault, text, &whole.records, many, words);
     assert!(rt; whole.text.as_slice().starts_with(text), "{words:?}");
-    assert!(rt; device != 0 || many == before.len(), "{words:?}");
-    assert!(rt; device != 1 || many == whole.records.len(), "{words:?}");
-    assert!(rt; device == 1 || text.is_empty(), "{words:?}");
+    let stands = match device {
+        0 => many == trial.before.len() && text.is_empty(),
+        1 => many == whole.records.len(),
+        _ => text.is_empty(),
+    };
+    assert!(rt; stands, "{words:?}");
 }
 
-/// Each call of a device fails, the keeper's with its record kept or not, and then the one behind the last.
+/// What is left where no call fails.
+fn assert_whole<R: Abort>(rt: &R, trial: Trial<'_>, whole: &Answer, now: &Answer) {
+    let (text, records) = (whole.text.as_slice(), &whole.records);
+    assert_left(rt, now, "ok", text, records, records.len(), trial.words);
+}
+
+/// A call of a device fails, the keeper's with its record kept and not; or it is never made.
+fn one_fails<R: Threads + Wait + Sync + AllocGlobal + Abort>(
+    rt: &R,
+    trial: Trial<'_>,
+    whole: &Answer,
+    device: usize,
+    call: u64,
+    is_made: bool,
+) -> Result<(), Fail> {
+    for kept in [false, true] {
+        let (one, keeps) = ([call], [(call, kept)]);
+        let now = run_trial(rt, trial, failing_at(device, &one, &keeps))?;
+        if is_made {
+            assert_front(rt, device, trial, whole, &now);
+        } else {
+            assert_whole(rt, trial, whole, &now);
+        }
+    }
+    Ok(())
+}
+
+/// Each call of a device fails, and then the one behind the last.
 fn each_fails<R: Threads + Wait + Sync + AllocGlobal + Abort>(
     rt: &R,
-    scan: &[u8],
-    words: &[&str],
-    before: &[&str],
+    trial: Trial<'_>,
     device: usize,
     calls: u64,
 ) -> Result<(), Fail> {
-    let files = files_of(scan, b"");
-    let whole = center(rt, &files, before, words, Failing::NONE, &TrialGate::open())?;
-    let (text, records) = (whole.text.as_slice(), &whole.records);
+    let whole = run_trial(rt, trial, Failing::NONE)?;
     for call in 1..calls.saturating_add(2) {
-        for kept in [false, true] {
-            let (one, keeps) = ([call], [(call, kept)]);
-            let failing = failing_at(device, &one, &keeps);
-            let now = center(rt, &files, before, words, failing, &TrialGate::open())?;
-            if call > calls {
-                assert_left(rt, &now, "ok", text, records, records.len(), words);
-            } else {
-                assert_front(rt, device, before, words, &whole, &now);
-            }
-        }
+        one_fails(rt, trial, &whole, device, call, call <= calls)?;
     }
     Ok(())
 }
@@ -88,9 +130,15 @@ fn each_fails<R: Threads + Wait + Sync + AllocGlobal + Abort>(
 #[test]
 fn a_center_ends_with_the_device_s_fault(rt: HostRuntime) -> Result<(), Fail> {
     let scan = make_scan(&rt)?;
+    let files = files_of(scan.as_slice(), b"");
     for (words, before, calls) in TRIALS {
+        let trial = Trial {
+            files: &files,
+            before,
+            words,
+        };
         for (device, count) in calls.iter().enumerate() {
-            each_fails(&rt, scan.as_slice(), words, before, device, *count)?;
+            each_fails(&rt, trial, device, *count)?;
         }
     }
     Ok(())

@@ -1,8 +1,10 @@
 //! Two scripts of a `center` run side by side, as a gate shows.
 
 use crate::centers::{DEVICE, MOMENT, center};
+use crate::devices::Failing;
+use crate::trial_gates::TrialGate;
 use std::test::Fail;
-use vx_town::{Failing, TOWN, TOWN_HEADER, TrialGate};
+use vx_town::{TOWN, TOWN_HEADER};
 
 #[test]
 fn two_scripts_of_a_center_run_side_by_side(rt: HostRuntime) -> Result<(), Fail> {

@@ -1,12 +1,14 @@
 //! What `center` refuses: nothing is written then, and nothing appended.
 
 use crate::centers::{DEVICE, MOMENT, ONE_SHEET, assert_left, center, files_of};
+use crate::devices::Failing;
+use crate::trial_gates::TrialGate;
 use std::alloc::{AllocError, Global};
 use std::process::Abort;
 use std::sync::Wait;
 use std::test::Fail;
 use std::thread::Threads;
-use vx_town::{Failing, TrialGate, records_of};
+use vx_town::records_of;
 
 /// A journal of another election.
 const OTHERS: &[&str] = &[

@@ -1,15 +1,16 @@
 //! A `center` over the town's election and devices in memory.
 
+use crate::devices::{Answer, Devices, Failing, Held, answer_of};
 use crate::rows;
+use crate::trial_gates::TrialGate;
+use std::alloc::AllocError;
 use std::process::Abort;
 use std::sync::Wait;
 use std::test::Fail;
 use std::thread::Threads;
 use vx_app::run_center;
-use vx_io::Records;
-use vx_town::{
-    Answer, Devices, Failing, Held, TOWN, TOWN_HEADER, TrialGate, answer_of, records_of, words_of,
-};
+use vx_io::{Records, Words};
+use vx_town::{TOWN, TOWN_HEADER, records_of, words_of};
 
 pub(crate) const MOMENT: &str = "2024-11-06T08:00:00Z";
 
@@ -46,10 +47,44 @@ pub(crate) fn files_of<'x>(scan: &'x [u8], script: &'x [u8]) -> [(&'x str, &'x [
 /// and a single image.
 pub(crate) fn make_scan<R: Threads + Sync + AllocGlobal>(rt: &R) -> Result<Vec<u8>, Fail> {
     let mut scan = rows::make_scan(rt)?;
-    let pages = rows::make_scan(rt)?;
-    scan.extend_from_slice(pages.as_slice())?;
+    push_pages(rt, &mut scan)?;
     scan.extend_from_slice(SMALL)?;
     Ok(scan)
+}
+
+/// Adds both pages of the town's card.
+fn push_pages<R: Threads + Sync + AllocGlobal>(rt: &R, scan: &mut Vec<u8>) -> Result<(), Fail> {
+    let pages = rows::make_scan(rt)?;
+    scan.extend_from_slice(pages.as_slice())?;
+    Ok(())
+}
+
+/// Runs a `center` over devices through a gate, and answers its status, as the program says it.
+fn status_of<R: Threads + Wait + Sync + AllocGlobal>(
+    rt: &R,
+    words: &Words,
+    devices: &mut Devices,
+    gate: &TrialGate,
+) -> Result<String, AllocError> {
+    let Devices {
+        inputs,
+        out,
+        keeper,
+    } = devices;
+    let status = run_center(rt, rt.alloc(), words, inputs, out, keeper, gate);
+    format!(in rt.alloc(); "{status}")
+}
+
+/// Runs the words of a `center` over devices through a gate.
+fn answer_over<R: Threads + Wait + Sync + AllocGlobal>(
+    rt: &R,
+    line: &[&str],
+    devices: &mut Devices,
+    gate: &TrialGate,
+) -> Result<Answer, AllocError> {
+    let words = words_of(rt.alloc(), line)?;
+    let status = status_of(rt, &words, devices, gate)?;
+    answer_of(rt.alloc(), status, devices)
 }
 
 /// Runs a `center` over files and records through a gate, while calls fail.
@@ -61,21 +96,29 @@ pub(crate) fn center<R: Threads + Wait + Sync + AllocGlobal>(
     failing: Failing<'_>,
     gate: &TrialGate,
 ) -> Result<Answer, Fail> {
-    let alloc = rt.alloc();
-    let words = words_of(alloc, line)?;
-    let records = records_of(alloc, before)?;
+    let records = records_of(rt.alloc(), before)?;
     let held = Held {
         files,
         records: &records,
     };
-    let mut devices = Devices::new(alloc, held, failing)?;
-    let Devices {
-        inputs,
-        out,
-        keeper,
-    } = &mut devices;
-    let status = run_center(rt, alloc, &words, inputs, out, keeper, gate);
-    Ok(answer_of(alloc, format!(in alloc; "{status}")?, &devices)?)
+    let mut devices = Devices::new(rt.alloc(), held, failing)?;
+    Ok(answer_over(rt, line, &mut devices, gate)?)
+}
+
+/// Records are the first so many of these.
+fn assert_records<R: Abort>(
+    rt: &R,
+    left: &Records,
+    records: &Records,
+    many: usize,
+    words: &[&str],
+) {
+    assert_eq!(rt; left.len(), many, "{words:?}");
+    for index in 0..left.len() {
+        assert!(rt; index < records.len(), "{words:?}");
+        let record = left.record(index).as_slice();
+        assert_eq!(rt; record, records.record(index).as_slice(), "{words:?}");
+    }
 }
 
 /// It ended so, with this text, and the first so many of these records.
@@ -90,10 +133,5 @@ pub(crate) fn assert_left<R: Abort>(
 ) {
     assert_eq!(rt; answer.status.as_str(), status, "{words:?}");
     assert_eq!(rt; answer.text.as_slice(), text, "{words:?}");
-    assert_eq!(rt; answer.records.len(), many, "{words:?}");
-    for index in 0..answer.records.len() {
-        assert!(rt; index < records.len(), "{words:?}");
-        let record = answer.records.record(index).as_slice();
-        assert_eq!(rt; record, records.record(index).as_slice(), "{words:?}");
-    }
+    assert_records(rt, &answer.records, records, many, words);
 }

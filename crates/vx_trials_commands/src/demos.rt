@@ -1,12 +1,12 @@
 //! What `demo` writes, beside a text that another program made, and its first and last seed and number.
 
+use crate::devices::{Answer, Failing, Held, attempt};
 use crate::rows::{Row, assert_row};
 use std::alloc::{AllocError, Global};
 use std::process::Abort;
 use std::test::Fail;
 use std::thread::Threads;
 use vx_io::Records;
-use vx_town::{Answer, Failing, Held, attempt};
 
 /// What 60 sheets from the seed 7 come to, as another program worked it out.
 const SIXTY: &str =
@@ -51,6 +51,15 @@ fn front_of(alloc: Global, seed: &str, sheets: &str, pages: u32) -> Result<Strin
     )
 }
 
+/// A demo is ok, and its text begins so.
+fn assert_begins<R: Abort>(rt: &R, answer: &Answer, front: &str) {
+    assert_eq!(rt; answer.status.as_str(), "ok");
+    assert!(rt;
+        answer.text.as_slice().starts_with(front.as_bytes()),
+        "{front}"
+    );
+}
+
 /// So many pages, and all of them as truth and certified, while calls fail.
 fn assert_true<R: Threads + Sync + AllocGlobal + Abort>(
     rt: &R,
@@ -61,11 +70,7 @@ fn assert_true<R: Threads + Sync + AllocGlobal + Abort>(
 ) -> Result<(), Fail> {
     let answer = run_demo(rt, seed, sheets, failing)?;
     let front = front_of(rt.alloc(), seed, sheets, pages)?;
-    assert_eq!(rt; answer.status.as_str(), "ok");
-    assert!(rt;
-        answer.text.as_slice().starts_with(front.as_bytes()),
-        "{seed} {sheets}"
-    );
+    assert_begins(rt, &answer, front.as_str());
     Ok(())
 }
 

@@ -2,12 +2,12 @@
 //! was done before the call; a refused append may have kept its record. The call behind the last one
 //! is never made.
 
+use crate::devices::{Answer, Failing};
 use crate::failing_fronts::{Act, are_same, stand_of};
 use crate::failing_trials::{COUNTS, Day, JOURNALS, READERS, Trial, make_day, run_trial};
 use std::process::Abort;
 use std::test::Fail;
 use std::thread::Threads;
-use vx_town::{Answer, Failing};
 
 /// The command, undisturbed, does all its acts and ends as it should.
 fn undisturbed<R: Threads + Sync + AllocGlobal + Abort>(
@@ -61,8 +61,8 @@ fn reads_fail<R: Threads + Sync + AllocGlobal + Abort>(
     rt: &R,
     day: &Day,
     trial: &Trial,
+    whole: &Answer,
 ) -> Result<(), Fail> {
-    let whole = undisturbed(rt, day, trial)?;
     let mut call: u64 = 1;
     for acts in trial.takes {
         for _ in 0..2 {
@@ -70,7 +70,7 @@ fn reads_fail<R: Threads + Sync + AllocGlobal + Abort>(
                 reads: &[call],
                 ..Failing::NONE
             };
-            assert_fails(rt, day, trial, &whole, failing, "read fault", *acts)?;
+            assert_fails(rt, day, trial, whole, failing, "read fault", *acts)?;
             call = call.saturating_add(1);
         }
     }
@@ -78,7 +78,7 @@ fn reads_fail<R: Threads + Sync + AllocGlobal + Abort>(
         reads: &[call],
         ..Failing::NONE
     };
-    assert_undisturbed(rt, day, trial, &whole, failing)
+    assert_undisturbed(rt, day, trial, whole, failing)
 }
 
 /// Each call of the sink fails.
@@ -86,8 +86,8 @@ fn writes_fail<R: Threads + Sync + AllocGlobal + Abort>(
     rt: &R,
     day: &Day,
     trial: &Trial,
+    whole: &Answer,
 ) -> Result<(), Fail> {
-    let whole = undisturbed(rt, day, trial)?;
     let mut call: u64 = 1;
     for (acts, act) in trial.acts.iter().enumerate() {
         if matches!(act, Act::Append) {
@@ -97,14 +97,14 @@ fn writes_fail<R: Threads + Sync + AllocGlobal + Abort>(
             writes: &[call],
             ..Failing::NONE
         };
-        assert_fails(rt, day, trial, &whole, failing, "write fault", acts)?;
+        assert_fails(rt, day, trial, whole, failing, "write fault", acts)?;
         call = call.saturating_add(1);
     }
     let failing = Failing {
         writes: &[call],
         ..Failing::NONE
     };
-    assert_undisturbed(rt, day, trial, &whole, failing)
+    assert_undisturbed(rt, day, trial, whole, failing)
 }
 
 /// A call of the keeper fails, and would keep its record or not.
@@ -141,16 +141,16 @@ fn keeps_fail<R: Threads + Sync + AllocGlobal + Abort>(
     rt: &R,
     day: &Day,
     trial: &Trial,
+    whole: &Answer,
 ) -> Result<(), Fail> {
-    let whole = undisturbed(rt, day, trial)?;
     let mut call: u64 = 1;
     for _ in 0..reading_calls(trial) {
-        assert_keeper_fails(rt, day, trial, &whole, call, [0, 0])?;
+        assert_keeper_fails(rt, day, trial, whole, call, [0, 0])?;
         call = call.saturating_add(1);
     }
     for (acts, act) in trial.acts.iter().enumerate() {
         if matches!(act, Act::Append) {
-            assert_keeper_fails(rt, day, trial, &whole, call, [acts, acts + 1])?;
+            assert_keeper_fails(rt, day, trial, whole, call, [acts, acts + 1])?;
             call = call.saturating_add(1);
         }
     }
@@ -158,7 +158,19 @@ fn keeps_fail<R: Threads + Sync + AllocGlobal + Abort>(
         keeps: &[(call, true)],
         ..Failing::NONE
     };
-    assert_undisturbed(rt, day, trial, &whole, failing)
+    assert_undisturbed(rt, day, trial, whole, failing)
+}
+
+/// Each call of each device fails in turn, beside the undisturbed command.
+fn each_device_fails<R: Threads + Sync + AllocGlobal + Abort>(
+    rt: &R,
+    day: &Day,
+    trial: &Trial,
+) -> Result<(), Fail> {
+    let whole = undisturbed(rt, day, trial)?;
+    reads_fail(rt, day, trial, &whole)?;
+    writes_fail(rt, day, trial, &whole)?;
+    keeps_fail(rt, day, trial, &whole)
 }
 
 /// Each call of each device fails in turn, over these commands.
@@ -168,9 +180,7 @@ fn each_call_fails<R: Threads + Sync + AllocGlobal + Abort>(
 ) -> Result<(), Fail> {
     let day = make_day(rt)?;
     for trial in trials {
-        reads_fail(rt, &day, trial)?;
-        writes_fail(rt, &day, trial)?;
-        keeps_fail(rt, &day, trial)?;
+        each_device_fails(rt, &day, trial)?;
     }
     Ok(())
 }

@@ -1,7 +1,7 @@
 //! How far a command has come: its acts in order, and behind how many of them it stands.
 
+use crate::devices::Answer;
 use vx_io::Records;
-use vx_town::Answer;
 
 /// How many bytes a printed page has.
 const PAGE: usize = 468_613;

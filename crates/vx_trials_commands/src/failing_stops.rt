@@ -1,6 +1,7 @@
 //! A count that is stopped at an append: from it on each call of the keeper fails. Over what the keeper
 //! then holds, the same count gives the records of one that wasn't stopped.
 
+use crate::devices::{Answer, Failing};
 use crate::failing::reading_calls;
 use crate::failing_fronts::{Act, same_records};
 use crate::failing_trials::{COUNTS, Day, Trial, make_day, run_over, run_trial};
@@ -8,7 +9,6 @@ use std::alloc::{AllocError, Global};
 use std::process::Abort;
 use std::test::Fail;
 use std::thread::Threads;
-use vx_town::{Answer, Failing};
 
 /// Twenty calls of the keeper from one on, of which the first may keep its record.
 fn calls_from(alloc: Global, first: u64, kept: bool) -> Result<Vec<(u64, bool)>, AllocError> {
@@ -41,6 +41,24 @@ fn assert_status<R: Abort>(rt: &R, answer: &Answer, status: &str) {
     assert_eq!(rt; answer.status.as_str(), status);
 }
 
+/// What the count answers that is stopped at a call.
+fn stopped_at<R: Threads + Sync + AllocGlobal>(
+    rt: &R,
+    day: &Day,
+    trial: &Trial,
+    call: u64,
+    kept: bool,
+) -> Result<Answer, Fail> {
+    let calls = calls_from(rt.alloc(), call, kept)?;
+    run_stopped(rt, day, trial, calls.as_slice())
+}
+
+/// The second run ended as the trial does, and left the records of the whole.
+fn assert_restarted<R: Abort>(rt: &R, trial: &Trial, whole: &Answer, again: &Answer, call: u64) {
+    assert_status(rt, again, trial.ends);
+    assert!(rt; same_records(again, whole), "{call}");
+}
+
 /// The count, stopped at a call and run again, gives the records of one that wasn't stopped.
 fn assert_restarts<R: Threads + Sync + AllocGlobal + Abort>(
     rt: &R,
@@ -50,12 +68,10 @@ fn assert_restarts<R: Threads + Sync + AllocGlobal + Abort>(
     call: u64,
     kept: bool,
 ) -> Result<(), Fail> {
-    let calls = calls_from(rt.alloc(), call, kept)?;
-    let stopped = run_stopped(rt, day, trial, calls.as_slice())?;
+    let stopped = stopped_at(rt, day, trial, call, kept)?;
     assert_status(rt, &stopped, "keeper fault");
     let again = run_over(rt, day, &stopped.records, trial.words, Failing::NONE)?;
-    assert_status(rt, &again, trial.ends);
-    assert!(rt; same_records(&again, whole), "{call}");
+    assert_restarted(rt, trial, whole, &again, call);
     Ok(())
 }
 

@@ -1,11 +1,12 @@
 //! The commands that are tried, what they do in order, and what they are run over.
 
+use crate::devices::{Answer, Failing, Held, attempt};
 use crate::failing_fronts::Act::{self, Append, Lines, Page};
 use crate::rows::ONE_SHEET;
 use std::test::Fail;
 use std::thread::Threads;
 use vx_io::Records;
-use vx_town::{Answer, Failing, Held, TOWN, attempt, records_of};
+use vx_town::{TOWN, records_of};
 
 /// A command, the records before it, behind how many acts it takes each of its inputs, whether it
 /// reads the journal, its acts in order, and how it ends where nothing fails.
@@ -194,17 +195,19 @@ pub(crate) fn make_day<R: Threads + Sync + AllocGlobal>(rt: &R) -> Result<Day, F
         scan: Vec::new(rt.alloc()),
         readings: Vec::new(rt.alloc()),
     };
-    let none = Records::new(rt.alloc());
-    day.scan = run_over(
-        rt,
-        &day,
-        &none,
-        &["print", "e", "0", "precinct"],
-        Failing::NONE,
-    )?
-    .text;
-    day.readings = run_over(rt, &day, &none, &["read", "e", "s"], Failing::NONE)?.text;
+    day.scan = text_over(rt, &day, &["print", "e", "0", "precinct"])?;
+    day.readings = text_over(rt, &day, &["read", "e", "s"])?;
     Ok(day)
+}
+
+/// What a command writes over the day's files and no record.
+fn text_over<R: Threads + Sync + AllocGlobal>(
+    rt: &R,
+    day: &Day,
+    words: &[&str],
+) -> Result<Vec<u8>, Fail> {
+    let none = Records::new(rt.alloc());
+    Ok(run_over(rt, day, &none, words, Failing::NONE)?.text)
 }
 
 /// Runs a command over the day's files and records.

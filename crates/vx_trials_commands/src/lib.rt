@@ -17,6 +17,8 @@ mod centers;
 #[cfg(test)]
 mod demos;
 #[cfg(test)]
+mod devices;
+#[cfg(test)]
 mod failing;
 #[cfg(test)]
 mod failing_fronts;
@@ -32,5 +34,7 @@ mod rows;
 mod runs;
 #[cfg(test)]
 mod stops;
+#[cfg(test)]
+mod trial_gates;
 #[cfg(test)]
 mod trials;

@@ -1,11 +1,12 @@
 //! Commands over the town's election, with what each leaves.
 
+use crate::devices::{Answer, Failing, Held, attempt};
 use std::alloc::{AllocError, Global};
 use std::process::Abort;
 use std::test::Fail;
 use std::thread::Threads;
 use vx_io::Records;
-use vx_town::{Answer, Failing, Held, TOWN, TOWN_HEADER, attempt, records_of};
+use vx_town::{TOWN, TOWN_HEADER, records_of};
 
 /// The record of a blank sheet.
 pub(crate) const BLANK: &str = "1 add b1 1 0 1 precinct 0:cc";
@@ -28,16 +29,31 @@ pub(crate) fn files_of<'x>(scan: &'x [u8], script: &'x [u8]) -> [(&'x str, &'x [
     [("e", TOWN.as_bytes()), ("s", scan), ("d", script)]
 }
 
-/// Both pages of the town's card, by its own `print`.
-pub(crate) fn make_scan<R: Threads + Sync + AllocGlobal>(rt: &R) -> Result<Vec<u8>, Fail> {
-    let none = Records::new(rt.alloc());
+/// Prints the town's card over records.
+fn print_over<R: Threads + Sync + AllocGlobal>(
+    rt: &R,
+    records: &Records,
+) -> Result<Answer, AllocError> {
     let files = files_of(b"", b"");
     let held = Held {
         files: &files,
-        records: &none,
+        records,
     };
-    let answer = attempt(rt, held, &["print", "e", "0", "precinct"], Failing::NONE)?;
-    Ok(answer.text)
+    attempt(rt, held, &["print", "e", "0", "precinct"], Failing::NONE)
+}
+
+/// Both pages of the town's card, by its own `print`.
+pub(crate) fn make_scan<R: Threads + Sync + AllocGlobal>(rt: &R) -> Result<Vec<u8>, Fail> {
+    let none = Records::new(rt.alloc());
+    Ok(print_over(rt, &none)?.text)
+}
+
+/// Adds bytes as characters.
+fn push_bytes(text: &mut String, bytes: &[u8]) -> Result<(), AllocError> {
+    for byte in bytes {
+        text.push(char::from(*byte))?;
+    }
+    Ok(())
 }
 
 /// A text, a status and records as one text.
@@ -48,17 +64,25 @@ pub(crate) fn told(
     records: &Records,
 ) -> Result<String, AllocError> {
     let mut told = String::new(alloc);
-    for byte in text {
-        told.push(char::from(*byte))?;
-    }
+    push_bytes(&mut told, text)?;
     told.push_str(status)?;
     for index in 0..records.len() {
         told.push('\n')?;
-        for byte in records.record(index).as_slice() {
-            told.push(char::from(*byte))?;
-        }
+        push_bytes(&mut told, records.record(index).as_slice())?;
     }
     Ok(told)
+}
+
+/// What a row says as one text.
+fn told_of_row(alloc: Global, row: &Row<'_>) -> Result<String, AllocError> {
+    let after = records_of(alloc, row.after)?;
+    told(alloc, row.text.as_bytes(), row.status, &after)
+}
+
+/// An answer as one text.
+fn told_of(alloc: Global, answer: &Answer) -> Result<String, AllocError> {
+    let status = answer.status.as_str();
+    told(alloc, answer.text.as_slice(), status, &answer.records)
 }
 
 /// A command ended so, and left such records.
@@ -67,11 +91,8 @@ pub(crate) fn assert_told<R: AllocGlobal + Abort>(
     row: &Row<'_>,
     answer: &Answer,
 ) -> Result<(), Fail> {
-    let alloc = rt.alloc();
-    let after = records_of(alloc, row.after)?;
-    let expected = told(alloc, row.text.as_bytes(), row.status, &after)?;
-    let text = answer.text.as_slice();
-    let left = told(alloc, text, answer.status.as_str(), &answer.records)?;
+    let expected = told_of_row(rt.alloc(), row)?;
+    let left = told_of(rt.alloc(), answer)?;
     assert_eq!(rt; left.as_str(), expected.as_str(), "{:?}", row.words);
     Ok(())
 }

@@ -1,12 +1,13 @@
 //! Commands over devices in memory: what they write, and what stands where a device fails.
 
 use std::alloc::{AllocError, Global};
+use std::process::Abort;
 use std::test::Fail;
 use std::thread::Threads;
 use vx_app::run;
 use vx_base::Bytes;
 use vx_io::{Calls, KeeperCalls, MemInputs, MemKeeper, MemSink, NamedBytes, Records, Words};
-use vx_town::{BORDER, TOWN, on_legal};
+use vx_town::{BORDER, TOWN, on_legal, words_of};
 
 /// How many bytes a printed page has.
 const PAGE: u64 = 468_613;
@@ -90,23 +91,24 @@ fn files_with<R: AllocGlobal>(rt: &R, scan: &[u8]) -> Result<NamedBytes, Fail> {
     Ok(files)
 }
 
-/// The words of a command.
-fn words_of<R: AllocGlobal>(rt: &R, line: &[&str]) -> Result<Words, AllocError> {
-    let mut words = Words::new(rt.alloc());
-    for word in line {
-        if words.count() < 100 {
-            words.push(word)?;
-        }
-    }
-    Ok(words)
-}
-
 /// The devices of a command.
 #[derive(Drop)]
 struct Devices {
     inputs: MemInputs,
     out: MemSink,
     keeper: MemKeeper,
+}
+
+/// Inputs over a scan, of which the listed calls fail.
+fn inputs_with<R: AllocGlobal>(rt: &R, scan: &[u8], fails: &[u64]) -> Result<MemInputs, Fail> {
+    let fails = Calls::from_vec(Vec::from_slice(rt.alloc(), fails)?);
+    Ok(MemInputs::new(files_with(rt, scan)?, fails))
+}
+
+/// A sink with so much room, of which the listed calls fail.
+fn sink_of(alloc: Global, room: u64, fails: &[u64]) -> Result<MemSink, AllocError> {
+    let fails = Calls::from_vec(Vec::from_slice(alloc, fails)?);
+    MemSink::new(alloc, room, fails)
 }
 
 /// Devices over a scan, of which the listed calls fail.
@@ -118,12 +120,9 @@ fn devices_of<R: AllocGlobal>(
     room: u64,
 ) -> Result<Devices, Fail> {
     let alloc = rt.alloc();
-    let files = files_with(rt, scan)?;
-    let reads = Calls::from_vec(Vec::from_slice(alloc, read_fails)?);
-    let writes = Calls::from_vec(Vec::from_slice(alloc, write_fails)?);
     Ok(Devices {
-        inputs: MemInputs::new(files, reads),
-        out: MemSink::new(alloc, room, writes)?,
+        inputs: inputs_with(rt, scan, read_fails)?,
+        out: sink_of(alloc, room, write_fails)?,
         keeper: MemKeeper::new(Records::new(alloc), KeeperCalls::new(alloc)),
     })
 }
@@ -132,6 +131,32 @@ fn devices_of<R: AllocGlobal>(
 fn answer_of(alloc: Global, status: String, out: &MemSink) -> Result<Answer, AllocError> {
     let text = Vec::from_slice(alloc, out.held())?;
     Ok(Answer { status, text })
+}
+
+/// Runs a command over devices, and answers its status, as the program says it.
+fn status_of<R: Threads + Sync + AllocGlobal>(
+    rt: &R,
+    words: &Words,
+    devices: &mut Devices,
+) -> Result<String, AllocError> {
+    let Devices {
+        inputs,
+        out,
+        keeper,
+    } = devices;
+    let status = run(rt, rt.alloc(), words, inputs, out, keeper);
+    format!(in rt.alloc(); "{status}")
+}
+
+/// Runs a command over devices.
+fn answer_over<R: Threads + Sync + AllocGlobal>(
+    rt: &R,
+    line: &[&str],
+    devices: &mut Devices,
+) -> Result<Answer, AllocError> {
+    let words = words_of(rt.alloc(), line)?;
+    let status = status_of(rt, &words, devices)?;
+    answer_of(rt.alloc(), status, &devices.out)
 }
 
 /// Runs a command over a scan, while the listed calls fail.
@@ -143,16 +168,8 @@ fn attempt<R: Threads + Sync + AllocGlobal>(
     write_fails: &[u64],
     room: u64,
 ) -> Result<Answer, Fail> {
-    let words = words_of(rt, line)?;
     let mut devices = devices_of(rt, scan, read_fails, write_fails, room)?;
-    let Devices {
-        inputs,
-        out,
-        keeper,
-    } = &mut devices;
-    let status = run(rt, rt.alloc(), &words, inputs, out, keeper);
-    let status = format!(in rt.alloc(); "{status}")?;
-    Ok(answer_of(rt.alloc(), status, &devices.out)?)
+    Ok(answer_over(rt, line, &mut devices)?)
 }
 
 /// What `print` writes of the town.
@@ -347,21 +364,41 @@ const EARLY: [(&[&str], &str, &str); 49] = [
     (&["decide", "e", "t"], "decision line 1 bad", ""),
 ];
 
+/// It ended so, and wrote this text.
+fn assert_answer<R: Abort>(rt: &R, answer: &Answer, status: &str, text: &[u8], line: &[&str]) {
+    assert_eq!(rt; answer.status.as_str(), status, "{line:?}");
+    assert_eq!(rt; answer.text.as_slice(), text, "{line:?}");
+}
+
+/// A command over the small image ends so, with this text.
+fn assert_ends<R: Threads + Sync + AllocGlobal + Abort>(
+    rt: &R,
+    line: &[&str],
+    status: &str,
+    text: &str,
+) -> Result<(), Fail> {
+    let answer = attempt(rt, SMALL, line, &[], &[], WHOLE)?;
+    assert_answer(rt, &answer, status, text.as_bytes(), line);
+    Ok(())
+}
+
+/// A kind of ballot is printed.
+fn assert_prints<R: Threads + Sync + AllocGlobal + Abort>(rt: &R, kind: &str) -> Result<(), Fail> {
+    let answer = attempt(rt, SMALL, &["print", "e", "0", kind], &[], &[], WHOLE)?;
+    assert_eq!(rt; answer.status.as_str(), "ok", "{kind}");
+    Ok(())
+}
+
 #[test]
 fn words_are_a_command_or_usage(rt: HostRuntime) -> Result<(), Fail> {
     for line in USAGE {
-        let answer = attempt(&rt, SMALL, line, &[], &[], WHOLE)?;
-        assert_eq!(rt; answer.status.as_str(), "usage", "{line:?}");
-        assert!(rt; answer.text.is_empty(), "{line:?}");
+        assert_ends(&rt, line, "usage", "")?;
     }
     for (line, status, text) in EARLY {
-        let answer = attempt(&rt, SMALL, line, &[], &[], WHOLE)?;
-        assert_eq!(rt; answer.status.as_str(), status, "{line:?}");
-        assert_eq!(rt; answer.text.as_slice(), text.as_bytes(), "{line:?}");
+        assert_ends(&rt, line, status, text)?;
     }
     for kind in ["absentee", "provisional", "test-precinct", "test-absentee"] {
-        let answer = attempt(&rt, SMALL, &["print", "e", "0", kind], &[], &[], WHOLE)?;
-        assert_eq!(rt; answer.status.as_str(), "ok", "{kind}");
+        assert_prints(&rt, kind)?;
     }
     Ok(())
 }
@@ -378,17 +415,22 @@ const CUT_PRINTS: [(&[u64], &[u64], u64, &str, u64); 7] = [
     (&[], &[], PAGE + 1000, "write fault", PAGE + 1000),
 ];
 
+/// It ended so, and wrote so many bytes of a text.
+fn assert_cut<R: Abort>(rt: &R, answer: &Answer, whole: &[u8], status: &str, size: u64) {
+    assert_eq!(rt; answer.status.as_str(), status, "{size}");
+    assert_eq!(rt; answer.text.len() as u64, size, "{status}");
+    assert!(rt;
+        whole.starts_with(answer.text.as_slice()),
+        "{status} {size}"
+    );
+}
+
 #[test]
 fn a_front_of_the_prints_stands(rt: HostRuntime) -> Result<(), Fail> {
     let whole = printed(&rt)?;
     for (reads, writes, room, status, size) in CUT_PRINTS {
         let answer = attempt(&rt, &[], PRINT, reads, writes, room)?;
-        assert_eq!(rt; answer.status.as_str(), status, "{reads:?} {writes:?}");
-        assert_eq!(rt; answer.text.len() as u64, size, "{reads:?} {writes:?}");
-        assert!(rt;
-            whole.as_slice().starts_with(answer.text.as_slice()),
-            "{reads:?} {writes:?}"
-        );
+        assert_cut(&rt, &answer, whole.as_slice(), status, size);
     }
     Ok(())
 }
@@ -437,16 +479,20 @@ fn texts_of_images(alloc: Global) -> Result<(String, Vec<usize>), AllocError> {
     Ok((whole, ends))
 }
 
+/// The texts of so many images.
+fn front_of<'x>(whole: &'x [u8], ends: &[usize], images: usize) -> Result<&'x [u8], Fail> {
+    let end = *ends.get(images).ok_or("no such image")?;
+    Ok(whole.get(..end).ok_or("short")?)
+}
+
 #[test]
 fn the_texts_before_a_halt_stand(rt: HostRuntime) -> Result<(), Fail> {
     let pages = printed(&rt)?;
     let (whole, ends) = texts_of_images(rt.alloc())?;
     for (line, fails, status, images) in READS {
+        let wanted = front_of(whole.as_bytes(), ends.as_slice(), images)?;
         let answer = attempt(&rt, pages.as_slice(), line, fails, &[], WHOLE)?;
-        let end = *ends.as_slice().get(images).ok_or("no such image")?;
-        let wanted = whole.as_bytes().get(..end).ok_or("short")?;
-        assert_eq!(rt; answer.status.as_str(), status, "{line:?} {fails:?}");
-        assert_eq!(rt; answer.text.as_slice(), wanted, "{line:?} {fails:?}");
+        assert_answer(&rt, &answer, status, wanted, line);
     }
     Ok(())
 }

@@ -1,10 +1,11 @@
 //! A count of five blank sheets whose third append fails, and the same count again.
 
+use crate::devices::Failing;
 use crate::rows::{Row, assert_row, assert_rows, files_of, make_scan};
 use std::process::Abort;
 use std::test::Fail;
 use std::thread::Threads;
-use vx_town::{Failing, TOWN_HEADER};
+use vx_town::TOWN_HEADER;
 
 /// What stands before the count, behind its second record, behind its third and behind its last.
 const NONE: &[&str] = &[TOWN_HEADER];

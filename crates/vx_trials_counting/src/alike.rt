@@ -99,22 +99,22 @@ pub(crate) fn compare_answers<R: Abort + AllocGlobal>(
     center: &mut Center<'_>,
     election: &Election,
     kept: &mut Vec<Event>,
-    event: Event,
+    event: &Event,
     met: &mut Met,
 ) -> Result<(), Fail> {
-    let wanted = answer_to(election, kept.as_slice(), &event);
+    let wanted = answer_to(election, kept.as_slice(), event);
     assert_eq!(rt;
-        answer_of(rt.alloc(), center, &event)?,
+        answer_of(rt.alloc(), center, event)?,
         Some(wanted),
         "{event:?}"
     );
     count(&mut met.replies, number_of(wanted));
     if wanted == Reply::Done {
-        count(&mut met.kept, kind_of(&event));
+        count(&mut met.kept, kind_of(event));
         kept.push(event.copy(rt.alloc())?)?;
     }
     assert!(rt; center.events().len() == kept.len());
-    assert!(rt; is_held_alike(center, kept.as_slice(), &event), "{event:?}");
+    assert!(rt; is_held_alike(center, kept.as_slice(), event), "{event:?}");
     Ok(())
 }
 

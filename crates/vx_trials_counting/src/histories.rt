@@ -32,7 +32,7 @@ fn draw<R: Abort + AllocGlobal>(
     let mut met = Met::new();
     for step in 0..count {
         let event = event_of(alloc, &mut rng, election, kept.as_slice(), step)?;
-        compare_answers(rt, &mut center, election, &mut kept, event, &mut met)?;
+        compare_answers(rt, &mut center, election, &mut kept, &event, &mut met)?;
         if step % 500 == 499 {
             compare_all(rt, &center, election, kept.as_slice(), &mut met)?;
         }

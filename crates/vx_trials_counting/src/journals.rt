@@ -1,6 +1,8 @@
 use crate::worked::TOWN;
-use std::alloc::Global;
+use std::alloc::{AllocError, Global};
+use std::process::Abort;
 use std::test::Fail;
+use vx_center::Center;
 use vx_election::read_election;
 use vx_events::{Event, Key};
 use vx_io::{KeeperCalls, MemKeeper, Records};
@@ -24,17 +26,28 @@ fn keeper_of(alloc: Global, records: &[&str]) -> Result<MemKeeper, Fail> {
     Ok(MemKeeper::new(kept, KeeperCalls::new(alloc)))
 }
 
+/// How many events a center has.
+fn count_text(alloc: Global, center: &Center<'_>) -> Result<String, AllocError> {
+    format!(in alloc; "{} events", center.events().len())
+}
+
+/// Where and why a reading stopped.
+fn fault_text(alloc: Global, fault: ReplayFault) -> Result<String, AllocError> {
+    match fault {
+        ReplayFault::Stopped(index, stop) => format!(in alloc; "{index} {stop}"),
+        ReplayFault::Failed => String::from_str(alloc, "failed"),
+        ReplayFault::OutOfMemory => String::from_str(alloc, "no memory"),
+    }
+}
+
 /// What the town's journal of these records is read as.
 fn read_as(alloc: Global, records: &[&str]) -> Result<String, Fail> {
     let election = read_election(alloc, TOWN.as_bytes())?;
     let mut keeper = keeper_of(alloc, records)?;
-    let text = match replay(alloc, &election, &mut keeper) {
-        Ok(center) => format!(in alloc; "{} events", center.events().len())?,
-        Err(ReplayFault::Stopped(index, stop)) => format!(in alloc; "{index} {stop}")?,
-        Err(ReplayFault::Failed) => format!(in alloc; "failed")?,
-        Err(ReplayFault::OutOfMemory) => format!(in alloc; "no memory")?,
-    };
-    Ok(text)
+    match replay(alloc, &election, &mut keeper) {
+        Ok(center) => Ok(count_text(alloc, &center)?),
+        Err(fault) => Ok(fault_text(alloc, fault)?),
+    }
 }
 
 /// A header with a digit too many.
@@ -128,19 +141,30 @@ fn asked(alloc: Global, keeper: &mut MemKeeper, event: &Event) -> Result<Option<
     }
 }
 
-#[test]
-fn a_journal_is_begun_once_and_keeps_what_is_done(rt: HostRuntime) -> Result<(), Fail> {
-    let alloc = rt.alloc();
+/// Claims sheet 1 of batch b1 for station 3, and answers what the machine replies.
+fn claimed(alloc: Global, keeper: &mut MemKeeper) -> Result<Option<Reply>, Fail> {
     let key = Key {
         batch: Text::from_str(alloc, "b1")?,
         number: 1,
     };
-    let claim = Event::Claim { station: 3, key };
-    let mut keeper = keeper_of(alloc, &[])?;
-    assert_eq!(rt; asked(alloc, &mut keeper, &claim)?, Some(Reply::NoSheet));
-    assert_eq!(rt; keeper.records().len(), 1);
-    let mut keeper = keeper_of(alloc, &[HEADER, SHEET])?;
-    assert_eq!(rt; asked(alloc, &mut keeper, &claim)?, Some(Reply::Done));
-    assert_eq!(rt; keeper.records().len(), 3);
+    asked(alloc, keeper, &Event::Claim { station: 3, key })
+}
+
+/// A claim over these records gets this reply, and so many records stand behind it.
+fn assert_claimed<R: AllocGlobal + Abort>(
+    rt: &R,
+    records: &[&str],
+    reply: Reply,
+    kept: usize,
+) -> Result<(), Fail> {
+    let mut keeper = keeper_of(rt.alloc(), records)?;
+    assert_eq!(rt; claimed(rt.alloc(), &mut keeper)?, Some(reply));
+    assert_eq!(rt; keeper.records().len(), kept);
     Ok(())
+}
+
+#[test]
+fn a_journal_is_begun_once_and_keeps_what_is_done(rt: HostRuntime) -> Result<(), Fail> {
+    assert_claimed(&rt, &[], Reply::NoSheet, 1)?;
+    assert_claimed(&rt, &[HEADER, SHEET], Reply::Done, 3)
 }

@@ -5,6 +5,7 @@ ghost use Rattle.vx_election_model.specs.Valid.{IsValid};
 
 use crate::worked::TOWN;
 use std::alloc::Global;
+use std::process::Abort;
 use std::test::Fail;
 use vx_base::OutOfMemory;
 use vx_center::{Center, Decision, Event, Key, Options, WriteInName};
@@ -84,24 +85,34 @@ fn released(alloc: Global) -> Result<Event, OutOfMemory> {
     })
 }
 
+/// Adds what a station does: it claims the sheet, decides its contest so and releases it.
+fn push_acts(
+    alloc: Global,
+    events: &mut Vec<Event>,
+    decision: Decision,
+) -> Result<(), OutOfMemory> {
+    let decide = decided(alloc, decision)?;
+    events.push(claimed(alloc)?)?;
+    events.push(decide)?;
+    events.push(released(alloc)?)
+}
+
 /// Both candidates are marked, and a station gives the contest to the second.
 fn events_of_town(alloc: Global) -> Result<Vec<Event>, OutOfMemory> {
     let second = Options::from_ascending(vec![in alloc; 1u32]?);
-    let add = added(alloc, State::Marked, State::Marked)?;
-    let claim = claimed(alloc)?;
-    let decide = decided(alloc, Decision::Selections(second))?;
-    let release = released(alloc)?;
-    Ok(vec![in alloc; add, claim, decide, release]?)
+    let mut events = Vec::new(alloc);
+    events.push(added(alloc, State::Marked, State::Marked)?)?;
+    push_acts(alloc, &mut events, Decision::Selections(second))?;
+    Ok(events)
 }
 
 /// The write-in slot is marked, and a station says who was written in.
 fn events_of_odd_town(alloc: Global) -> Result<Vec<Event>, OutOfMemory> {
     let name = WriteInName::Words(Text::from_str(alloc, "\"\\\u{2028}\u{1d7d8}")?);
-    let add = added(alloc, State::Clear, State::Marked)?;
-    let claim = claimed(alloc)?;
-    let decide = decided(alloc, Decision::NameWriteIn { slot: 0, name })?;
-    let release = released(alloc)?;
-    Ok(vec![in alloc; add, claim, decide, release]?)
+    let mut events = Vec::new(alloc);
+    events.push(added(alloc, State::Clear, State::Marked)?)?;
+    push_acts(alloc, &mut events, Decision::NameWriteIn { slot: 0, name })?;
+    Ok(events)
 }
 
 /// Hands an event to the center.
@@ -130,26 +141,32 @@ fn counted<'e>(
     Ok(center)
 }
 
-#[test]
-fn an_adjudicated_sheet_is_reported(rt: HostRuntime) -> Result<(), Fail> {
-    let alloc = rt.alloc();
-    let election = read_election(alloc, TOWN.as_bytes())?;
-    let events = events_of_town(alloc)?;
-    let center = counted(alloc, &election, events.as_slice())?;
+/// The four events are kept, and this is their report.
+fn assert_report<R: AllocGlobal + Abort>(
+    rt: &R,
+    election: &Election,
+    events: &[Event],
+    expected: &str,
+) -> Result<(), Fail>
+    requires { IsValid election.now }
+{
+    let center = counted(rt.alloc(), election, events)?;
     assert_eq!(rt; center.events().len(), 4);
-    let text = report(alloc, &election, &center, MOMENT, DEVICE)?;
-    assert_eq!(rt; text.as_slice(), REPORT.as_bytes());
+    let text = report(rt.alloc(), election, &center, MOMENT, DEVICE)?;
+    assert_eq!(rt; text.as_slice(), expected.as_bytes());
     Ok(())
 }
 
 #[test]
+fn an_adjudicated_sheet_is_reported(rt: HostRuntime) -> Result<(), Fail> {
+    let election = read_election(rt.alloc(), TOWN.as_bytes())?;
+    let events = events_of_town(rt.alloc())?;
+    assert_report(&rt, &election, events.as_slice(), REPORT)
+}
+
+#[test]
 fn names_are_written_whole(rt: HostRuntime) -> Result<(), Fail> {
-    let alloc = rt.alloc();
-    let election = read_election(alloc, ODD_TOWN.as_bytes())?;
-    let events = events_of_odd_town(alloc)?;
-    let center = counted(alloc, &election, events.as_slice())?;
-    assert_eq!(rt; center.events().len(), 4);
-    let text = report(alloc, &election, &center, MOMENT, DEVICE)?;
-    assert_eq!(rt; text.as_slice(), ODD_REPORT.as_bytes());
-    Ok(())
+    let election = read_election(rt.alloc(), ODD_TOWN.as_bytes())?;
+    let events = events_of_odd_town(rt.alloc())?;
+    assert_report(&rt, &election, events.as_slice(), ODD_REPORT)
 }

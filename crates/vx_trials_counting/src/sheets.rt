@@ -1,8 +1,10 @@
 use std::alloc::{AllocError, Global};
+use std::process::Abort;
 use std::test::Fail;
 use vx_code::PageCode;
 use vx_grid::{Border, Kind, Paper, Point, State, States};
 use vx_layout::{Bubble, Bubbles, CardPlan, PagePlan, PagePlans, TextLines};
+use vx_rules::SheetMarks;
 use vx_scan_model::{PageReading, Scores};
 use vx_sheet::{SheetFault, pair};
 
@@ -61,26 +63,43 @@ fn reading(
     })
 }
 
+/// The sheet of two readings.
+fn sheet_of(alloc: Global, first: &PageReading, second: &PageReading) -> Result<SheetMarks, Fail> {
+    let plan = plan(alloc)?;
+    Ok(pair(alloc, &plan, first, second).map_err(|_| "no sheet")?)
+}
+
+/// The sheet has the front's contest and then the back's.
+fn assert_sheet<R: Abort>(rt: &R, sheet: &SheetMarks) {
+    assert!(rt; sheet.front == 1);
+    let contests = sheet.contests.as_slice();
+    assert!(rt; contests.len() == 2);
+    assert!(rt; contests[0].contest == 0 && contests[0].states.len() == 2);
+    assert!(rt; contests[1].contest == 3 && contests[1].states.len() == 1);
+}
+
 #[test]
 fn either_page_comes_first(rt: HostRuntime) -> Result<(), Fail> {
     let alloc = rt.alloc();
-    let plan = plan(alloc)?;
     let front = reading(alloc, 0, 1, false, &[State::Marked, State::Clear])?;
     let back = reading(alloc, 0, 2, false, &[State::Marginal])?;
-    let there = pair(alloc, &plan, &front, &back).map_err(|_| "no sheet")?;
-    let turned = pair(alloc, &plan, &back, &front).map_err(|_| "no sheet")?;
-    assert!(rt; there.front == 1 && turned.front == 1);
-    let contests = turned.contests.as_slice();
-    assert!(rt; contests.len() == 2 && there.contests.len() == 2);
-    assert!(rt; contests[0].contest == 0 && contests[0].states.len() == 2);
-    assert!(rt; contests[1].contest == 3 && contests[1].states.len() == 1);
+    assert_sheet(&rt, &sheet_of(alloc, &front, &back)?);
+    assert_sheet(&rt, &sheet_of(alloc, &back, &front)?);
     Ok(())
+}
+
+/// Why two readings are no sheet.
+fn fault_of(alloc: Global, first: &PageReading, second: &PageReading) -> Result<String, Fail> {
+    let plan = plan(alloc)?;
+    match pair(alloc, &plan, first, second) {
+        Ok(_) => Err(Fail::from("a sheet")),
+        Err(fault) => Ok(fault.to_string(alloc)?),
+    }
 }
 
 #[test]
 fn faults_have_their_texts(rt: HostRuntime) -> Result<(), Fail> {
     let alloc = rt.alloc();
-    let plan = plan(alloc)?;
     let front = reading(alloc, 0, 1, false, &[State::Clear, State::Clear])?;
     let others = [
         (1, 2, false, "1 CardsDiffer 0 1"),
@@ -89,10 +108,7 @@ fn faults_have_their_texts(rt: HostRuntime) -> Result<(), Fail> {
     ];
     for (card, page, test, text) in others {
         let other = reading(alloc, card, page, test, &[State::Clear])?;
-        match pair(alloc, &plan, &front, &other) {
-            Ok(_) => return Err(Fail::from("a sheet")),
-            Err(fault) => assert_eq!(rt; fault.to_string(alloc)?.as_str(), text),
-        }
+        assert_eq!(rt; fault_of(alloc, &front, &other)?.as_str(), text);
     }
     assert_eq!(rt;
         SheetFault::OutOfMemory.to_string(alloc)?.as_str(),

@@ -130,9 +130,20 @@ fn compare<R: Abort>(
     act: Act,
     reply: Reply,
 ) -> Result<(), Fail> {
-    let kept = center.events().len();
     let event = event_of(alloc, act)?;
-    let answer = answer_of(alloc, center, &event)?;
+    compare_event(rt, alloc, center, &event, reply)
+}
+
+/// Hands a center an event, and compares the answer.
+fn compare_event<R: Abort>(
+    rt: &R,
+    alloc: Global,
+    center: &mut Center<'_>,
+    event: &Event,
+    reply: Reply,
+) -> Result<(), Fail> {
+    let kept = center.events().len();
+    let answer = answer_of(alloc, center, event)?;
     assert_eq!(rt; answer, Some(reply), "{event:?}");
     let more = if reply == Reply::Done { 1 } else { 0 };
     assert_eq!(rt;

@@ -62,17 +62,26 @@ fn a_clean_page_has_its_border(rt: HostRuntime) -> Result<(), Fail> {
     Ok(())
 }
 
+/// Why a page has no border.
+fn fault_of(alloc: Global, page: &BitPage) -> Result<Option<BorderFault>, Fail> {
+    let counter = Counter::new(alloc, &page.view())?;
+    Ok(trace(&counter, Paper::Letter).err())
+}
+
+/// Where marks 0, 1 and 5 of a page's border stand.
+fn places_on(alloc: Global, page: &BitPage) -> Result<[Point; 3], Fail> {
+    let counter = Counter::new(alloc, &page.view())?;
+    let border = trace(&counter, Paper::Letter).map_err(|_| "no border")?;
+    Ok([border.at(0), border.at(1), border.at(5)])
+}
+
 #[test]
 fn a_shifted_page_has_its_border_up_to_the_bound(rt: HostRuntime) -> Result<(), Fail> {
     let beyond = page_with_marks(rt.alloc(), 1800, 2240, 61, 40)?;
-    let counter = Counter::new(rt.alloc(), &beyond.view())?;
-    let fault = trace(&counter, Paper::Letter).err();
-    assert_eq!(rt; fault, Some(BorderFault::NoCorner));
+    assert_eq!(rt; fault_of(rt.alloc(), &beyond)?, Some(BorderFault::NoCorner));
     let within = page_with_marks(rt.alloc(), 1800, 2240, 60, 40)?;
-    let counter = Counter::new(rt.alloc(), &within.view())?;
-    let border = trace(&counter, Paper::Letter).map_err(|_| "no border")?;
-    assert_eq!(rt; border.at(0), place(116, 99));
-    assert_eq!(rt; border.at(1), place(165, 99));
+    let [corner, beside, _] = places_on(rt.alloc(), &within)?;
+    assert_eq!(rt; (corner, beside), (place(116, 99), place(165, 99)));
     Ok(())
 }
 
@@ -84,15 +93,12 @@ fn a_mark_with_a_hole_is_not_found(rt: HostRuntime) -> Result<(), Fail> {
             paint(&mut page, u, v, false);
         }
     }
-    let counter = Counter::new(rt.alloc(), &page.view())?;
-    let fault = trace(&counter, Paper::Letter).err();
     assert_eq!(rt;
-        fault,
+        fault_of(rt.alloc(), &page)?,
         Some(BorderFault::NoMark(Side::Top, 5, place(297, 59)))
     );
     paint(&mut page, 298, 60, true);
-    let counter = Counter::new(rt.alloc(), &page.view())?;
-    let border = trace(&counter, Paper::Letter).map_err(|_| "no border")?;
-    assert_eq!(rt; border.at(5), place(297, 59));
+    let [_, _, sixth] = places_on(rt.alloc(), &page)?;
+    assert_eq!(rt; sixth, place(297, 59));
     Ok(())
 }

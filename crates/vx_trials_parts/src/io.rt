@@ -2,7 +2,7 @@ use std::alloc::{AllocError, Global};
 use std::cell::RefCell;
 use std::fmt::Display;
 use std::process::Abort;
-use std::rt::Files;
+use std::rt::HostRuntime;
 use std::test::Fail;
 use std::{env, fs, io, process};
 use vx_base::Bytes;
@@ -38,35 +38,61 @@ fn assert_refuses(
     }
 }
 
-#[test]
-fn what_takes_memory_is_done_where_there_is_enough(rt: HostRuntime) -> Result<(), Fail> {
-    let alloc = rt.alloc();
-    let mut words = Words::new(alloc);
-    words.push("print")?;
+/// One file.
+fn one_file(alloc: Global) -> Result<MemInputs, AllocError> {
     let mut files = NamedBytes::new(alloc);
     files.push("a", Bytes::from_slice(alloc, b"ballot")?)?;
-    let mut inputs = MemInputs::new(files, Calls::new(alloc));
-    assert_takes(&rt, &mut inputs, "a", 6, b"ballot");
-    let mut out = MemSink::new(alloc, 10, Calls::new(alloc))?;
+    Ok(MemInputs::new(files, Calls::new(alloc)))
+}
+
+/// A sink with room takes a text.
+fn assert_gives(rt: &(impl Abort + AllocGlobal)) -> Result<(), AllocError> {
+    let mut out = MemSink::new(rt.alloc(), 10, Calls::new(rt.alloc()))?;
     assert_eq!(rt; give(&mut out, b"ballot"), Ok(()));
-    let mut keeper = MemKeeper::new(Records::new(alloc), KeeperCalls::new(alloc));
+    Ok(())
+}
+
+/// A keeper keeps a record, and tells it.
+fn assert_keeps(rt: &(impl Abort + AllocGlobal)) {
+    let mut keeper = MemKeeper::new(Records::new(rt.alloc()), KeeperCalls::new(rt.alloc()));
     assert_eq!(rt; keeper.append(b"one"), Ok(()));
     assert_eq!(rt; keeper.records().len(), 1);
-    let mut body = Bytes::new(alloc);
+    let mut body = Bytes::new(rt.alloc());
     assert_eq!(rt; keeper.fetch(0, &mut body), Ok(()));
+}
+
+#[test]
+fn what_takes_memory_is_done_where_there_is_enough(rt: HostRuntime) -> Result<(), Fail> {
+    let mut words = Words::new(rt.alloc());
+    words.push("print")?;
+    let mut inputs = one_file(rt.alloc())?;
+    assert_takes(&rt, &mut inputs, "a", 6, b"ballot");
+    assert_gives(&rt)?;
+    assert_keeps(&rt);
     Ok(())
+}
+
+/// The path of a file that begins so and isn't there yet.
+fn file_of(rt: &HostRuntime, name: &str) -> Result<String, Fail> {
+    let folder = env::temp_dir(rt)?;
+    let number = process::id(rt.process());
+    Ok(format!(in rt.alloc(); "{}/{name}_{number}", folder.as_str())?)
+}
+
+/// The file's bytes are taken, whole and from a place on, and are refused where they are too many.
+fn assert_reads(rt: &HostRuntime, inputs: &mut StdInputs<'_, HostRuntime>, file: &str) {
+    let mut part = [b'-'; 6];
+    assert_takes(rt, inputs, file, 6, b"ballot");
+    assert_refuses(rt, inputs, file, 5, TakeFault::TooLong(6));
+    assert_eq!(rt; inputs.read(file, 2, &mut part), Ok(4));
+    assert_eq!(rt; part.as_slice(), b"llot--".as_slice());
+    assert_eq!(rt; inputs.read(file, 6, &mut part), Err(Failed));
 }
 
 #[test]
 fn real_files_are_taken_or_refused(rt: HostRuntime) -> Result<(), Fail> {
     let folder = env::temp_dir(&rt)?;
-    let name = format!(in rt.alloc(); "vx_io_{}", process::id(rt.process()))?;
-    let file = folder.join(rt.alloc(), name.as_str())?;
-    fs::write(&rt, file.as_path(), b"ballot")?;
     let mut inputs = StdInputs::new(&rt);
-    let mut part = [b'-'; 6];
-    assert_takes(&rt, &mut inputs, file.as_str(), 6, b"ballot");
-    assert_refuses(&rt, &mut inputs, file.as_str(), 5, TakeFault::TooLong(6));
     assert_refuses(
         &rt,
         &mut inputs,
@@ -74,10 +100,10 @@ fn real_files_are_taken_or_refused(rt: HostRuntime) -> Result<(), Fail> {
         1 << 40,
         TakeFault::Failed,
     );
-    assert_eq!(rt; inputs.read(file.as_str(), 2, &mut part), Ok(4));
-    assert_eq!(rt; part.as_slice(), b"llot--".as_slice());
-    assert_eq!(rt; inputs.read(file.as_str(), 6, &mut part), Err(Failed));
-    fs::remove_file(&rt, file.as_path())?;
+    let file = file_of(&rt, "vx_io")?;
+    fs::write(&rt, file.as_str(), b"ballot")?;
+    assert_reads(&rt, &mut inputs, file.as_str());
+    fs::remove_file(&rt, file.as_str())?;
     assert_refuses(&rt, &mut inputs, file.as_str(), 6, TakeFault::NoInput);
     Ok(())
 }
@@ -91,18 +117,22 @@ fn long_text(alloc: Global, size: u32) -> Result<Vec<u8>, AllocError> {
     Ok(text)
 }
 
+/// A file of so many bytes is taken whole.
+fn assert_long(rt: &HostRuntime, file: &str, size: u32) -> Result<(), Fail> {
+    let text = long_text(rt.alloc(), size)?;
+    fs::write(rt, file, text.as_slice())?;
+    let mut inputs = StdInputs::new(rt);
+    assert_takes(rt, &mut inputs, file, 1 << 26, text.as_slice());
+    Ok(())
+}
+
 #[test]
 fn long_files_are_taken_whole(rt: HostRuntime) -> Result<(), Fail> {
-    let folder = env::temp_dir(&rt)?;
-    let name = format!(in rt.alloc(); "vx_io_long_{}", process::id(rt.process()))?;
-    let file = folder.join(rt.alloc(), name.as_str())?;
-    let mut inputs = StdInputs::new(&rt);
+    let file = file_of(&rt, "vx_io_long")?;
     for size in [65_537, 5_000_000] {
-        let text = long_text(rt.alloc(), size)?;
-        fs::write(&rt, file.as_path(), text.as_slice())?;
-        assert_takes(&rt, &mut inputs, file.as_str(), 1 << 26, text.as_slice());
+        assert_long(&rt, file.as_str(), size)?;
     }
-    fs::remove_file(&rt, file.as_path())?;
+    fs::remove_file(&rt, file.as_str())?;
     Ok(())
 }
 

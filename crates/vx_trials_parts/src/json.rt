@@ -17,16 +17,20 @@ fn place_of(alloc: Global) -> Result<Path, Fail> {
     Ok(list.element(alloc, 0)?)
 }
 
+/// The object's name, of two characters, as the text of a place.
+fn name_at(alloc: Global, at: &Path) -> Result<Text, Fail> {
+    let value = value_of(alloc, OBJECT)?;
+    let root = Path::root(alloc);
+    Ok(text_of(alloc, need(alloc, &value, &root, "name")?, at, 2, 2)?)
+}
+
 // Each call with ample memory.
 #[test]
 fn texts_have_paths(rt: HostRuntime) -> Result<(), Fail> {
-    let alloc = rt.alloc();
-    let value = value_of(alloc, OBJECT)?;
-    let at = place_of(alloc)?;
-    assert_eq!(rt; at.member(alloc, "name")?.as_str(), "list[0].name");
-    let name = need(alloc, &value, &Path::root(alloc), "name")?;
-    let text = text_of(alloc, name, &at, 2, 2)?;
-    assert_eq!(rt; text.copy(alloc)?.as_str(), "\u{e9}x");
+    let at = place_of(rt.alloc())?;
+    assert_eq!(rt; at.member(rt.alloc(), "name")?.as_str(), "list[0].name");
+    let text = name_at(rt.alloc(), &at)?;
+    assert_eq!(rt; text.copy(rt.alloc())?.as_str(), "\u{e9}x");
     Ok(())
 }
 

@@ -107,20 +107,39 @@ fn shows(
     Ok(())
 }
 
+/// The packed bitmap of a page.
+fn packed(alloc: Global, page: &BitView<'_>) -> Result<Bytes, OutOfMemory> {
+    let mut text = Bytes::new(alloc);
+    write_p4(page, &mut text)?;
+    Ok(text)
+}
+
+/// A plain bitmap of the page is read as the page.
+fn shows_plain(rt: &(impl Abort + AllocGlobal), page: &BitView<'_>) -> Result<(), Fail> {
+    let mut text = Bytes::new(rt.alloc());
+    write_plain(page, b"P1\n# by hand\n1700 2200\n", &mut text)?;
+    shows(rt, text.as_slice(), 1700, page)
+}
+
+/// The packed bitmap of a wide page is read as the page.
+fn shows_wide(
+    rt: &(impl Abort + AllocGlobal),
+    wide: &BitView<'_>,
+    page: &BitView<'_>,
+) -> Result<(), Fail> {
+    let text = packed(rt.alloc(), wide)?;
+    shows(rt, text.as_slice(), 1701, page)
+}
+
 #[test]
 fn one_page_in_three_texts(rt: HostRuntime) -> Result<(), Fail> {
     let page = sample(rt.alloc(), 1700)?;
-    let mut text = Bytes::new(rt.alloc());
-    write_p4(&page.view(), &mut text)?;
+    let wide = sample(rt.alloc(), 1701)?;
+    let text = packed(rt.alloc(), &page.view())?;
     assert_eq!(rt; text.len(), 468_613);
     shows(&rt, text.as_slice(), 1700, &page.view())?;
-    text.clear();
-    write_plain(&page.view(), b"P1\n# by hand\n1700 2200\n", &mut text)?;
-    shows(&rt, text.as_slice(), 1700, &page.view())?;
-    text.clear();
-    let wide = sample(rt.alloc(), 1701)?;
-    write_p4(&wide.view(), &mut text)?;
-    shows(&rt, text.as_slice(), 1701, &page.view())
+    shows_plain(&rt, &page.view())?;
+    shows_wide(&rt, &wide.view(), &page.view())
 }
 
 #[test]

@@ -1,10 +1,12 @@
 ghost use Rattle.std.specs.Prelude.{◌<◌, ◌^◌, length};
 
 use std::alloc::Global;
+use std::process::Abort;
 use std::test::Fail;
 use vx_base::OutOfMemory;
 use vx_grid::Paper;
 use vx_readings::*;
+use vx_scan_model::PageReading;
 
 const FIRST: &str = "page 1 card 7 side 3 kind test-absentee\nborder";
 
@@ -50,20 +52,16 @@ fn walk_parts(
     }
 }
 
-#[test]
-fn a_block_says_its_reading(rt: HostRuntime) -> Result<(), Fail> {
-    let text = text_of(rt.alloc(), FIRST, 146, "\nbubble 0 4 1 19 marginal\nend\n")?;
-    let bytes = text.as_bytes();
-    assert!(rt; bytes.len() < 1 << 31);
-    let mut reader = ReadingsReader::new(rt.alloc(), Paper::Letter, 5, bytes);
-    let Some(SaidPage::Reading(said)) = reader.next()? else {
-        return Err("no reading")?;
-    };
-    let reading = said.reading;
+/// The block's page, and the score of its bubble.
+fn assert_reading<R: Abort>(rt: &R, reading: &PageReading) {
     assert_eq!(rt; (reading.code.version, reading.code.tag), (1, 5));
     assert_eq!(rt; (reading.code.card, reading.code.page), (7, 3));
     assert!(rt; reading.code.test && !reading.turned);
     assert_eq!(rt; reading.scores.as_slice(), [19].as_slice());
+}
+
+/// Which bubble the block names, and in which line.
+fn assert_bubbles<R: Abort>(rt: &R, said: &SaidReading) {
     assert_eq!(rt;
         said.names.as_slice(),
         [BubbleName {
@@ -73,6 +71,19 @@ fn a_block_says_its_reading(rt: HostRuntime) -> Result<(), Fail> {
         .as_slice()
     );
     assert_eq!(rt; said.first_bubble, 3);
+}
+
+#[test]
+fn a_block_says_its_reading(rt: HostRuntime) -> Result<(), Fail> {
+    let text = text_of(rt.alloc(), FIRST, 146, "\nbubble 0 4 1 19 marginal\nend\n")?;
+    let bytes = text.as_bytes();
+    assert!(rt; bytes.len() < 1 << 31);
+    let mut reader = ReadingsReader::new(rt.alloc(), Paper::Letter, 5, bytes);
+    let Some(SaidPage::Reading(said)) = reader.next()? else {
+        return Err("no reading")?;
+    };
+    assert_reading(&rt, &said.reading);
+    assert_bubbles(&rt, &said);
     Ok(())
 }
 

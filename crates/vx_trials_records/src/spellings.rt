@@ -1,4 +1,5 @@
 use std::alloc::Global;
+use std::process::Abort;
 use std::test::Fail;
 use vx_base::OutOfMemory;
 use vx_election::read_election;
@@ -56,45 +57,46 @@ fn the_header_names_the_definition(rt: HostRuntime) -> Result<(), Fail> {
     Ok(())
 }
 
+/// An event is written so.
+fn assert_spelled<R: AllocGlobal + Abort>(rt: &R, event: &Event, text: &str) -> Result<(), Fail> {
+    let record = encode(rt.alloc(), event)?;
+    assert_eq!(rt; record.as_slice(), text.as_bytes());
+    Ok(())
+}
+
+fn added(alloc: Global) -> Result<Event, OutOfMemory> {
+    Ok(Event::Add {
+        key: key_of(alloc, "b1", 1)?,
+        sheet: sheet_of(alloc, 0)?,
+    })
+}
+
+fn claimed(alloc: Global) -> Result<Event, OutOfMemory> {
+    Ok(Event::Claim {
+        station: 7,
+        key: key_of(alloc, "b1", 999_999)?,
+    })
+}
+
+/// No option is selected.
+fn deselected(alloc: Global) -> Result<Event, OutOfMemory> {
+    decided(alloc, Decision::Selections(Options::new(alloc)))
+}
+
+/// A write-in slot is given a name.
+fn named(alloc: Global) -> Result<Event, OutOfMemory> {
+    let name = WriteInName::Words(Text::from_str(alloc, "Zo\u{eb} B")?);
+    decided(alloc, Decision::NameWriteIn { slot: 2, name })
+}
+
 #[test]
 fn events_have_their_spelling(rt: HostRuntime) -> Result<(), Fail> {
-    let alloc = rt.alloc();
-    let words = WriteInName::Words(Text::from_str(alloc, "Zo\u{eb} B")?);
-    let events = [
-        (
-            Event::Add {
-                key: key_of(alloc, "b1", 1)?,
-                sheet: sheet_of(alloc, 0)?,
-            },
-            "1 add b1 1 12 3 test-absentee 0:mgc",
-        ),
-        (
-            Event::Claim {
-                station: 7,
-                key: key_of(alloc, "b1", 999_999)?,
-            },
-            "1 claim 7 b1 999999",
-        ),
-        (
-            decided(alloc, Decision::Selections(Options::new(alloc)))?,
-            "1 select 7 A-1_b 20 4 -",
-        ),
-        (
-            decided(
-                alloc,
-                Decision::NameWriteIn {
-                    slot: 2,
-                    name: words,
-                },
-            )?,
-            "1 name 7 A-1_b 20 4 2 text Zo\u{eb} B",
-        ),
-    ];
-    for (event, text) in &events {
-        let record = encode(alloc, event)?;
-        assert_eq!(rt; record.as_slice(), text.as_bytes());
-    }
-    Ok(())
+    let sheet = "1 add b1 1 12 3 test-absentee 0:mgc";
+    assert_spelled(&rt, &added(rt.alloc())?, sheet)?;
+    assert_spelled(&rt, &claimed(rt.alloc())?, "1 claim 7 b1 999999")?;
+    assert_spelled(&rt, &deselected(rt.alloc())?, "1 select 7 A-1_b 20 4 -")?;
+    let name = "1 name 7 A-1_b 20 4 2 text Zo\u{eb} B";
+    assert_spelled(&rt, &named(rt.alloc())?, name)
 }
 
 /// Records of each kind, each of which is read and written again.
@@ -199,22 +201,25 @@ fn name_of(alloc: Global, words: usize) -> Result<Vec<u8>, OutOfMemory> {
     Ok(text)
 }
 
+/// A name of so many bytes and those behind them has this fault.
+fn assert_name<R: AllocGlobal + Abort>(
+    rt: &R,
+    words: usize,
+    behind: &[u8],
+    fault: Option<JournalFault>,
+) -> Result<(), Fail> {
+    let mut text = name_of(rt.alloc(), words)?;
+    text.extend_from_slice(behind)?;
+    assert_eq!(rt; begun(rt.alloc(), text.as_slice()), fault);
+    Ok(())
+}
+
 #[test]
 fn words_have_at_most_256_bytes(rt: HostRuntime) -> Result<(), Fail> {
-    let text = name_of(rt.alloc(), 256)?;
-    assert_eq!(rt; begun(rt.alloc(), text.as_slice()), None);
-    let text = name_of(rt.alloc(), 257)?;
-    assert_eq!(rt;
-        begun(rt.alloc(), text.as_slice()),
-        Some(JournalFault::BadRecord(3, 278))
-    );
-    let mut text = name_of(rt.alloc(), 255)?;
-    text.extend_from_slice(b"\xc3\xab")?;
-    assert_eq!(rt;
-        begun(rt.alloc(), text.as_slice()),
-        Some(JournalFault::BadRecord(3, 277))
-    );
-    Ok(())
+    assert_name(&rt, 256, b"", None)?;
+    assert_name(&rt, 257, b"", Some(JournalFault::BadRecord(3, 278)))?;
+    let half = Some(JournalFault::BadRecord(3, 277));
+    assert_name(&rt, 255, b"\xc3\xab", half)
 }
 
 /// An added sheet with 106 contests of 150 states and another with so many.
@@ -230,26 +235,27 @@ fn sheet_text(alloc: Global, last: usize) -> Result<String, OutOfMemory> {
     Ok(text)
 }
 
+/// A sheet whose last contest has so many states, and what stands behind it, has this fault.
+fn assert_sheet<R: AllocGlobal + Abort>(
+    rt: &R,
+    last: usize,
+    behind: &str,
+    fault: Option<JournalFault>,
+) -> Result<(), Fail> {
+    let mut text = sheet_text(rt.alloc(), last)?;
+    text.push_str(behind)?;
+    assert_eq!(rt; begun(rt.alloc(), text.as_bytes()), fault);
+    Ok(())
+}
+
 #[test]
 fn records_have_at_most_16384_bytes(rt: HostRuntime) -> Result<(), Fail> {
-    let text = sheet_text(rt.alloc(), 37)?;
-    assert!(rt; text.len() == 16_384);
-    assert_eq!(rt; begun(rt.alloc(), text.as_bytes()), None);
-    let text = sheet_text(rt.alloc(), 38)?;
-    assert_eq!(rt;
-        begun(rt.alloc(), text.as_bytes()),
-        Some(JournalFault::BadRecord(3, 16_384))
-    );
-    let mut text = sheet_text(rt.alloc(), 31)?;
-    text.push_str(" 107:c")?;
-    assert_eq!(rt; begun(rt.alloc(), text.as_bytes()), None);
-    let mut text = sheet_text(rt.alloc(), 32)?;
-    text.push_str(" 107:c")?;
-    assert_eq!(rt;
-        begun(rt.alloc(), text.as_bytes()),
-        Some(JournalFault::BadRecord(3, 16_379))
-    );
-    Ok(())
+    assert!(rt; sheet_text(rt.alloc(), 37)?.len() == 16_384);
+    assert_sheet(&rt, 37, "", None)?;
+    assert_sheet(&rt, 38, "", Some(JournalFault::BadRecord(3, 16_384)))?;
+    assert_sheet(&rt, 31, " 107:c", None)?;
+    let cut = Some(JournalFault::BadRecord(3, 16_379));
+    assert_sheet(&rt, 32, " 107:c", cut)
 }
 
 #[test]

@@ -8,6 +8,11 @@ use vx_command_export::export;
 use vx_command_results::results;
 use vx_io::{MemInputs, MemKeeper, MemSink, NamedBytes, Records, Words};
 
+/// When an `export` is written, and by which device.
+const MOMENT: &str = "2026-11-04T08:00:00Z";
+
+const DEVICE: &str = "00000000-0000-4000-8000-000000000001";
+
 /// What a command answered, and what the sink had taken.
 #[derive(Drop)]
 pub struct Answer {
@@ -59,14 +64,58 @@ fn sink_of(alloc: Global, failing: Failing<'_>) -> Result<MemSink, AllocError> {
 
 /// What a command answered that ended so.
 fn answer_of(alloc: Global, ended: Result<(), Halt>, out: &MemSink) -> Result<Answer, AllocError> {
-    let status = match ended {
-        Ok(()) => String::from_str(alloc, "ok")?,
-        Err(halt) => format!(in alloc; "{halt}")?,
-    };
     Ok(Answer {
-        status,
+        status: told(alloc, ended)?,
         text: Vec::from_slice(alloc, out.held())?,
     })
+}
+
+/// How a command ended, as the program says it.
+fn told(alloc: Global, ended: Result<(), Halt>) -> Result<String, AllocError> {
+    match ended {
+        Ok(()) => String::from_str(alloc, "ok"),
+        Err(halt) => format!(in alloc; "{halt}"),
+    }
+}
+
+/// The devices of a command.
+#[derive(Drop)]
+struct Devices {
+    inputs: MemInputs,
+    out: MemSink,
+    keeper: MemKeeper,
+}
+
+/// The election as `E`, and a journal.
+fn devices_of(
+    alloc: Global,
+    election: &str,
+    records: &[&str],
+    failing: Failing<'_>,
+) -> Result<Devices, AllocError> {
+    Ok(Devices {
+        inputs: inputs_of(alloc, election.as_bytes(), failing.reads)?,
+        out: sink_of(alloc, failing)?,
+        keeper: keeper_of(alloc, records, failing.keeps)?,
+    })
+}
+
+fn run_results(alloc: Global, name: &str, devices: &mut Devices) -> Result<(), Halt> {
+    let Devices {
+        inputs,
+        out,
+        keeper,
+    } = devices;
+    results(alloc, name, inputs, out, keeper)
+}
+
+fn run_export(alloc: Global, devices: &mut Devices) -> Result<(), Halt> {
+    let Devices {
+        inputs,
+        out,
+        keeper,
+    } = devices;
+    export(alloc, "E", MOMENT, DEVICE, inputs, out, keeper)
 }
 
 /// Runs `results NAME` over a journal, where `E` is the election.
@@ -77,44 +126,44 @@ pub fn attempt(
     name: &str,
     failing: Failing<'_>,
 ) -> Result<Answer, AllocError> {
-    let mut inputs = inputs_of(alloc, election.as_bytes(), failing.reads)?;
-    let mut out = sink_of(alloc, failing)?;
-    let mut keeper = keeper_of(alloc, records, failing.keeps)?;
-    let ended = results(alloc, name, &mut inputs, &mut out, &mut keeper);
-    answer_of(alloc, ended, &out)
+    let mut devices = devices_of(alloc, election, records, failing)?;
+    let ended = run_results(alloc, name, &mut devices);
+    answer_of(alloc, ended, &devices.out)
 }
 
 /// What `export` writes of a journal.
 pub fn exported(alloc: Global, election: &str, records: &[&str]) -> Result<Answer, AllocError> {
-    let mut inputs = inputs_of(alloc, election.as_bytes(), &[])?;
-    let mut out = sink_of(alloc, Failing::NONE)?;
-    let mut keeper = keeper_of(alloc, records, &[])?;
-    let (moment, device) = (
-        "2026-11-04T08:00:00Z",
-        "00000000-0000-4000-8000-000000000001",
-    );
-    let ended = export(
-        alloc,
-        "E",
-        moment,
-        device,
-        &mut inputs,
-        &mut out,
-        &mut keeper,
-    );
-    answer_of(alloc, ended, &out)
+    let mut devices = devices_of(alloc, election, records, Failing::NONE)?;
+    let ended = run_export(alloc, &mut devices);
+    answer_of(alloc, ended, &devices.out)
+}
+
+/// The words of a `totals`.
+fn words_of_totals(alloc: Global) -> Result<Words, AllocError> {
+    let mut words = Words::new(alloc);
+    words.push("totals")?;
+    words.push("E")?;
+    Ok(words)
+}
+
+/// The status of a `totals` over devices, as the program says it.
+fn totals_over(
+    alloc: Global,
+    inputs: &mut MemInputs,
+    out: &mut MemSink,
+) -> Result<String, AllocError> {
+    let words = words_of_totals(alloc)?;
+    let status = run_audit(alloc, &words, inputs, out);
+    format!(in alloc; "{status}")
 }
 
 /// What `totals` writes of a report.
 pub fn totals_of(alloc: Global, report: &[u8]) -> Result<Answer, AllocError> {
-    let mut words = Words::new(alloc);
-    words.push("totals")?;
-    words.push("E")?;
     let mut inputs = inputs_of(alloc, report, &[])?;
     let mut out = sink_of(alloc, Failing::NONE)?;
-    let status = run_audit(alloc, &words, &mut inputs, &mut out);
+    let status = totals_over(alloc, &mut inputs, &mut out)?;
     Ok(Answer {
-        status: format!(in alloc; "{status}")?,
+        status,
         text: Vec::from_slice(alloc, out.held())?,
     })
 }

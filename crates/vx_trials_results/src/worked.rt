@@ -1,6 +1,7 @@
 //! Journals that were counted by hand, those of other elections, and devices that fail.
 
-use crate::devices::{Failing, attempt, exported, is_answer, totals_of};
+use crate::devices::{Answer, Failing, attempt, exported, is_answer, totals_of};
+use std::alloc::{AllocError, Global};
 use std::test::*;
 
 /// Two precincts, whose cards stand the other way round; a contest of two seats with write-ins, and a yes/no contest.
@@ -83,15 +84,21 @@ const WAITS: [(usize, &str); 6] = [
     (11, "waiting 2\n"),
 ];
 
+/// The totals of a journal's export, and a line behind them.
+fn totals_behind(alloc: Global, records: &[&str], line: &str) -> Result<Answer, AllocError> {
+    let report = exported(alloc, ELECTION, records)?;
+    let mut totals = totals_of(alloc, report.text.as_slice())?;
+    totals.text.extend_from_slice(line.as_bytes())?;
+    Ok(totals)
+}
+
 #[test]
 fn results_are_the_totals_of_the_export(rt: HostRuntime) -> Result<(), Fail> {
     let alloc = rt.alloc();
     for (count, waiting) in WAITS {
         let records = &DAY[..count];
         let answer = attempt(alloc, ELECTION, records, "E", Failing::NONE)?;
-        let report = exported(alloc, ELECTION, records)?;
-        let mut totals = totals_of(alloc, report.text.as_slice())?;
-        totals.text.extend_from_slice(waiting.as_bytes())?;
+        let totals = totals_behind(alloc, records, waiting)?;
         assert!(rt; totals.status.as_str() == "ok", "{}", totals.status);
         assert!(rt;
             answer.text.as_slice() == totals.text.as_slice(),

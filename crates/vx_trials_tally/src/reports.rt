@@ -1,8 +1,9 @@
 //! Reports from outside: what they say, and which fault comes first.
 
 use std::alloc::{AllocError, Global};
+use std::process::Abort;
 use std::test::*;
-use vx_tally::{Report, read_report};
+use vx_tally::{CvrRecord, Report, read_report};
 
 // A report with a part of each kind.
 const VALID: &str =
@@ -156,14 +157,20 @@ fn push_expanded(text: &mut String, from: &str) -> Result<(), AllocError> {
     Ok(())
 }
 
-// Whether a row's answer is the one that it names.
-fn holds(alloc: Global, row: &str) -> Result<bool, Fail> {
-    let (old, rest) = row.split_once(" -> ").ok_or("a row")?;
-    let (new, wanted) = rest.split_once(" -> ").ok_or("a row")?;
+// The valid report with another part in the place of one.
+fn with_part(alloc: Global, old: &str, new: &str) -> Result<String, Fail> {
     let (front, back) = VALID.split_once(old).ok_or("the part is there")?;
     let mut text = String::from_str(alloc, front)?;
     push_expanded(&mut text, new)?;
     text.push_str(back)?;
+    Ok(text)
+}
+
+// Whether a row's answer is the one that it names.
+fn holds(alloc: Global, row: &str) -> Result<bool, Fail> {
+    let (old, rest) = row.split_once(" -> ").ok_or("a row")?;
+    let (new, wanted) = rest.split_once(" -> ").ok_or("a row")?;
+    let text = with_part(alloc, old, new)?;
     Ok(answer(alloc, text.as_bytes())?.as_str() == wanted)
 }
 
@@ -178,15 +185,21 @@ fn each_rule_of_each_member(rt: HostRuntime) -> Result<(), Fail> {
     Ok(())
 }
 
+// Bytes that are no report, and what is then answered.
+const OTHERS: [(&[u8], &str); 5] = [
+    (b"[]", "3 "),
+    (b"7", "3 "),
+    (b"{}", "2 GpUnit"),
+    (b"", "1"),
+    (b"{\"x\":\"\xff\"}", "1"),
+];
+
 #[test]
 fn other_values_are_refused(rt: HostRuntime) -> Result<(), Fail> {
-    let alloc = rt.alloc();
-    assert_eq!(rt; answer(alloc, VALID.as_bytes())?.as_str(), "ok");
-    assert_eq!(rt; answer(alloc, b"[]")?.as_str(), "3 ");
-    assert_eq!(rt; answer(alloc, b"7")?.as_str(), "3 ");
-    assert_eq!(rt; answer(alloc, b"{}")?.as_str(), "2 GpUnit");
-    assert_eq!(rt; answer(alloc, b"")?.as_str(), "1");
-    assert_eq!(rt; answer(alloc, b"{\"x\":\"\xff\"}")?.as_str(), "1");
+    assert_eq!(rt; answer(rt.alloc(), VALID.as_bytes())?.as_str(), "ok");
+    for (bytes, wanted) in OTHERS {
+        assert_eq!(rt; answer(rt.alloc(), bytes)?.as_str(), wanted);
+    }
     Ok(())
 }
 
@@ -194,15 +207,26 @@ fn other_values_are_refused(rt: HostRuntime) -> Result<(), Fail> {
 fn told(alloc: Global, report: &Report) -> Result<String, AllocError> {
     let mut text = String::new(alloc);
     for unit in report.units.as_slice() {
-        text.push_str(format!(in alloc; "unit {}\n", unit.as_str())?.as_str())?;
+        write!(text, "unit {}\n", unit.as_str())?;
     }
     for contest in report.contests.as_slice() {
-        text.push_str(format!(in alloc; "contest {}\n", contest.id.as_str())?.as_str())?;
+        write!(text, "contest {}\n", contest.id.as_str())?;
         for id in contest.selections.as_slice() {
-            text.push_str(format!(in alloc; "selection {}\n", id.as_str())?.as_str())?;
+            write!(text, "selection {}\n", id.as_str())?;
         }
     }
     Ok(text)
+}
+
+// The first record is that of the worked report.
+fn assert_record<R: Abort>(rt: &R, records: &[CvrRecord]) -> Result<(), Fail> {
+    let record = records.first().ok_or("a record")?;
+    assert_eq!(rt; (record.unique.as_str(), record.unit), ("b1-1", 1));
+    let contest = record.contests.as_slice().first().ok_or("a contest")?;
+    assert_eq!(rt; (contest.contest, contest.over, contest.under), (0, 0, 0));
+    let row = contest.votes.as_slice().first().ok_or("a row")?;
+    assert_eq!(rt; (row.selection, row.votes), (1, 1));
+    Ok(())
 }
 
 #[test]
@@ -213,12 +237,5 @@ fn the_worked_report_is_read(rt: HostRuntime) -> Result<(), Fail> {
         selection selection-mayor-0\nselection selection-mayor-1\n";
     assert_eq!(rt; told(alloc, &report)?.as_str(), wanted);
     assert_eq!(rt; report.records.len(), 1);
-    let record = report.records.as_slice().first().ok_or("a record")?;
-    assert_eq!(rt; record.unique.as_str(), "b1-1");
-    assert_eq!(rt; record.unit, 1);
-    let contest = record.contests.as_slice().first().ok_or("a contest")?;
-    assert_eq!(rt; (contest.contest, contest.over, contest.under), (0, 0, 0));
-    let row = contest.votes.as_slice().first().ok_or("a row")?;
-    assert_eq!(rt; (row.selection, row.votes), (1, 1));
-    Ok(())
+    assert_record(&rt, report.records.as_slice())
 }

@@ -8,6 +8,7 @@ use crate::reports::WORKED;
 use rand_core::{Rng, SeedableRng};
 use rand_pcg::Pcg32;
 use std::alloc::Global;
+use std::process::Abort;
 use std::test::*;
 use vx_base::OutOfMemory;
 use vx_tally::{CvrRecord, Tally, read_report};
@@ -27,6 +28,16 @@ fn add_at(
     tally.add(alloc, &records[place])
 }
 
+/// The totals of the worked report.
+fn assert_totals<R: Abort>(rt: &R, tally: &Tally) {
+    assert_eq!(rt; tally.over(0), 0);
+    assert_eq!(rt; tally.under(0), 0);
+    assert_eq!(rt; tally.total(0, 0), 0);
+    assert_eq!(rt; tally.total(0, 1), 1);
+    assert_eq!(rt; tally.total_in(1, 0, 1), 1);
+    assert_eq!(rt; tally.total_in(0, 0, 1), 0);
+}
+
 #[test]
 fn the_worked_totals(rt: HostRuntime) -> Result<(), Fail> {
     let alloc = rt.alloc();
@@ -35,12 +46,7 @@ fn the_worked_totals(rt: HostRuntime) -> Result<(), Fail> {
     if !report.records.is_empty() {
         add_at(alloc, &mut tally, report.records.as_slice(), 0)?;
     }
-    assert_eq!(rt; tally.over(0), 0);
-    assert_eq!(rt; tally.under(0), 0);
-    assert_eq!(rt; tally.total(0, 0), 0);
-    assert_eq!(rt; tally.total(0, 1), 1);
-    assert_eq!(rt; tally.total_in(1, 0, 1), 1);
-    assert_eq!(rt; tally.total_in(0, 0, 1), 0);
+    assert_totals(&rt, &tally);
     Ok(())
 }
 
@@ -48,58 +54,82 @@ fn below(rng: &mut Pcg32, bound: u32) -> u32 {
     rng.next_u32().checked_rem(bound).unwrap_or(0)
 }
 
-// The first contests of a record, so many, each with its rows.
-fn push_contests(
+// So many rows of a contest.
+fn push_rows(
     text: &mut String,
-    alloc: Global,
     rng: &mut Pcg32,
-    count: u32,
+    contest: u32,
+    rows: u32,
 ) -> Result<(), OutOfMemory> {
+    for row in 0..rows {
+        let comma = if row == 0 { "" } else { "," };
+        let selection = below(rng, 3);
+        let votes = below(rng, 3);
+        write!(
+            text,
+            "{comma}{{\"ContestSelectionId\":\"s{contest}-{selection}\",\"SelectionPosition\":[{{\"NumberVotes\":{votes}}}]}}"
+        )?;
+    }
+    Ok(())
+}
+
+// The first contests of a record, so many, each with its rows.
+fn push_contests(text: &mut String, rng: &mut Pcg32, count: u32) -> Result<(), OutOfMemory> {
     for contest in 0..count {
         let comma = if contest == 0 { "" } else { "," };
         let over = below(rng, 3);
         let under = below(rng, 51);
-        text.push_str(format!(in alloc;
+        write!(
+            text,
             "{comma}{{\"ContestId\":\"c{contest}\",\"Overvotes\":{over},\"Undervotes\":{under},\"CVRContestSelection\":["
-        )?.as_str())?;
+        )?;
         let rows = below(rng, 4);
-        for row in 0..rows {
-            let comma = if row == 0 { "" } else { "," };
-            let selection = below(rng, 3);
-            let votes = below(rng, 3);
-            text.push_str(format!(in alloc;
-                "{comma}{{\"ContestSelectionId\":\"s{contest}-{selection}\",\"SelectionPosition\":[{{\"NumberVotes\":{votes}}}]}}"
-            )?.as_str())?;
-        }
+        push_rows(text, rng, contest, rows)?;
         text.push_str("]}")?;
     }
     Ok(())
 }
 
-// A report of forty records of three units and four contests with three selections each: whole
-// records have all four contests, the others up to three.
-fn drawn(alloc: Global, rng: &mut Pcg32, whole: bool) -> Result<String, OutOfMemory> {
-    let mut text = String::from_str(
-        alloc,
-        "{\"GpUnit\":[{\"@id\":\"u0\"},{\"@id\":\"u1\"},{\"@id\":\"u2\"}],",
-    )?;
+// The units and the contests of a report, with three selections each.
+fn push_lists(text: &mut String) -> Result<(), OutOfMemory> {
+    text.push_str("{\"GpUnit\":[{\"@id\":\"u0\"},{\"@id\":\"u1\"},{\"@id\":\"u2\"}],")?;
     text.push_str("\"Election\":[{\"Contest\":[")?;
     for contest in 0..4u32 {
         let comma = if contest == 0 { "" } else { "," };
-        text.push_str(format!(in alloc;
+        write!(
+            text,
             "{comma}{{\"@id\":\"c{contest}\",\"ContestSelection\":[{{\"@id\":\"s{contest}-0\"}},{{\"@id\":\"s{contest}-1\"}},{{\"@id\":\"s{contest}-2\"}}]}}"
-        )?.as_str())?;
+        )?;
     }
-    text.push_str("]}],\"CVR\":[")?;
+    text.push_str("]}],")
+}
+
+// A record, whole or of up to three contests.
+fn push_record(
+    text: &mut String,
+    rng: &mut Pcg32,
+    record: u32,
+    whole: bool,
+) -> Result<(), OutOfMemory> {
+    let comma = if record == 0 { "" } else { "," };
+    let unit = below(rng, 3);
+    write!(
+        text,
+        "{comma}{{\"UniqueId\":\"r-{record}\",\"BallotStyleUnitId\":\"u{unit}\",\"CVRSnapshot\":[{{\"CVRContest\":["
+    )?;
+    let count = if whole { 4 } else { below(rng, 4) };
+    push_contests(text, rng, count)?;
+    text.push_str("]}]}")
+}
+
+// A report of forty records of three units and four contests with three selections each: whole
+// records have all four contests, the others up to three.
+fn drawn(alloc: Global, rng: &mut Pcg32, whole: bool) -> Result<String, OutOfMemory> {
+    let mut text = String::new(alloc);
+    push_lists(&mut text)?;
+    text.push_str("\"CVR\":[")?;
     for record in 0..40u32 {
-        let comma = if record == 0 { "" } else { "," };
-        let unit = below(rng, 3);
-        text.push_str(format!(in alloc;
-            "{comma}{{\"UniqueId\":\"r-{record}\",\"BallotStyleUnitId\":\"u{unit}\",\"CVRSnapshot\":[{{\"CVRContest\":["
-        )?.as_str())?;
-        let count = if whole { 4 } else { below(rng, 4) };
-        push_contests(&mut text, alloc, rng, count)?;
-        text.push_str("]}]}")?;
+        push_record(&mut text, rng, record, whole)?;
     }
     text.push_str("]}")?;
     Ok(text)

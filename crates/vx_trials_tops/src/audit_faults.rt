@@ -1,7 +1,8 @@
 //! Reports that are refused, inputs that are too long, and devices that fail.
 
 use crate::audit_reports::{NOUGHT, WORKED};
-use crate::devices::{Failing, audit, is_answer};
+use crate::devices::{Answer, Failing, audit, is_answer};
+use std::process::Abort;
 use std::test::*;
 
 const HAND: &[u8] = b"hand b1-1 contest-mayor selection-mayor-1";
@@ -23,40 +24,42 @@ const REPORTS: [(&[u8], &str); 5] = [
     ),
 ];
 
+/// An answer is this status with this text.
+fn assert_answer<R: Abort>(rt: &R, answer: &Answer, status: &str, text: &[u8]) {
+    assert!(rt;
+        is_answer(answer, status, text),
+        "{status}: {}",
+        answer.status
+    );
+}
+
+/// An audit of these files is refused, and writes nothing.
+fn assert_refused<R: AllocGlobal + Abort>(
+    rt: &R,
+    files: &[(&str, &[u8])],
+    status: &str,
+) -> Result<(), Fail> {
+    let line = ["audit", "R", NOUGHT, "1", "H"];
+    let answer = audit(rt.alloc(), files, &line, Failing::NONE)?;
+    assert_answer(rt, &answer, status, b"");
+    Ok(())
+}
+
 #[test]
 fn reports_are_refused_before_what_hands_read(rt: HostRuntime) -> Result<(), Fail> {
     for (report, status) in REPORTS {
-        let line = ["audit", "R", NOUGHT, "1", "H"];
-        let answer = audit(rt.alloc(), &[("R", report)], &line, Failing::NONE)?;
-        assert!(rt;
-            is_answer(&answer, status, b""),
-            "{status}: {}",
-            answer.status
-        );
+        assert_refused(&rt, &[("R", report)], status)?;
     }
     Ok(())
 }
 
 #[test]
 fn long_inputs_are_refused(rt: HostRuntime) -> Result<(), Fail> {
-    let alloc = rt.alloc();
-    let long = vec![in alloc; b' '; 67_108_865]?;
-    let line = ["audit", "R", NOUGHT, "1", "H"];
+    let long = vec![in rt.alloc(); b' '; 67_108_865]?;
     let files = [("R", long.as_slice()), ("H", HAND)];
-    let answer = audit(alloc, &files, &line, Failing::NONE)?;
-    assert!(rt;
-        is_answer(&answer, "too long 1 67108865", b""),
-        "{}",
-        answer.status
-    );
+    assert_refused(&rt, &files, "too long 1 67108865")?;
     let files = [("R", WORKED), ("H", long.as_slice())];
-    let answer = audit(alloc, &files, &line, Failing::NONE)?;
-    assert!(rt;
-        is_answer(&answer, "too long 4 67108865", b""),
-        "{}",
-        answer.status
-    );
-    Ok(())
+    assert_refused(&rt, &files, "too long 4 67108865")
 }
 
 /// The calls that fail, the sink's room, the status and the text: each call of the inputs and of the sink in
@@ -86,11 +89,7 @@ fn failing_devices_are_told(rt: HostRuntime) -> Result<(), Fail> {
             ..Failing::NONE
         };
         let answer = audit(rt.alloc(), &files, &line, failing)?;
-        assert!(rt;
-            is_answer(&answer, status, text),
-            "{status}: {}",
-            answer.status
-        );
+        assert_answer(&rt, &answer, status, text);
     }
     Ok(())
 }
@@ -121,11 +120,7 @@ fn failing_devices_are_told_of_totals(rt: HostRuntime) -> Result<(), Fail> {
             ..Failing::NONE
         };
         let answer = audit(rt.alloc(), &[("R", WORKED)], &["totals", "R"], failing)?;
-        assert!(rt;
-            is_answer(&answer, status, text),
-            "{status}: {}",
-            answer.status
-        );
+        assert_answer(&rt, &answer, status, text);
     }
     Ok(())
 }

@@ -46,6 +46,14 @@ fn inputs_of(
     Ok(MemInputs::new(named, ListOf::from_vec(Vec::from_slice(alloc, reads)?)))
 }
 
+fn sink_of(alloc: Global, room: u64, writes: &[u64]) -> Result<MemSink, AllocError> {
+    MemSink::new(
+        alloc,
+        room,
+        ListOf::from_vec(Vec::from_slice(alloc, writes)?),
+    )
+}
+
 fn keeper_of(
     alloc: Global,
     texts: &[&str],
@@ -82,10 +90,9 @@ fn devices_of(
     records: &[&str],
     failing: Failing<'_>,
 ) -> Result<Devices, AllocError> {
-    let writes = ListOf::from_vec(Vec::from_slice(alloc, failing.writes)?);
     Ok(Devices {
         inputs: inputs_of(alloc, files, failing.reads)?,
-        out: MemSink::new(alloc, failing.room, writes)?,
+        out: sink_of(alloc, failing.room, failing.writes)?,
         keeper: keeper_of(alloc, records, failing.keeps)?,
     })
 }
@@ -99,6 +106,14 @@ fn answer_of(alloc: Global, status: String, devices: &Devices) -> Result<Answer,
     })
 }
 
+/// The status of the words of a `gray` over devices, as the program says it.
+fn gray_over(alloc: Global, line: &[&str], devices: &mut Devices) -> Result<String, AllocError> {
+    let words = words_of(alloc, line)?;
+    let Devices { inputs, out, .. } = devices;
+    let status = run_gray(alloc, &words, inputs, out);
+    format!(in alloc; "{status}")
+}
+
 /// Runs the words of a `gray` over files.
 pub fn gray(
     alloc: Global,
@@ -106,11 +121,17 @@ pub fn gray(
     line: &[&str],
     failing: Failing<'_>,
 ) -> Result<Answer, AllocError> {
-    let words = words_of(alloc, line)?;
     let mut devices = devices_of(alloc, files, &[], failing)?;
-    let Devices { inputs, out, .. } = &mut devices;
-    let status = run_gray(alloc, &words, inputs, out);
-    answer_of(alloc, format!(in alloc; "{status}")?, &devices)
+    let status = gray_over(alloc, line, &mut devices)?;
+    answer_of(alloc, status, &devices)
+}
+
+/// The status of the words of a `totals` or an `audit` over devices, as the program says it.
+fn audit_over(alloc: Global, line: &[&str], devices: &mut Devices) -> Result<String, AllocError> {
+    let words = words_of(alloc, line)?;
+    let Devices { inputs, out, .. } = devices;
+    let status = run_audit(alloc, &words, inputs, out);
+    format!(in alloc; "{status}")
 }
 
 /// Runs the words of a `totals` or an `audit` over files.
@@ -120,11 +141,21 @@ pub fn audit(
     line: &[&str],
     failing: Failing<'_>,
 ) -> Result<Answer, AllocError> {
-    let words = words_of(alloc, line)?;
     let mut devices = devices_of(alloc, files, &[], failing)?;
-    let Devices { inputs, out, .. } = &mut devices;
-    let status = run_audit(alloc, &words, inputs, out);
-    answer_of(alloc, format!(in alloc; "{status}")?, &devices)
+    let status = audit_over(alloc, line, &mut devices)?;
+    answer_of(alloc, status, &devices)
+}
+
+/// The status of the words of a `ranked` over devices, as the program says it.
+fn ranked_over(alloc: Global, line: &[&str], devices: &mut Devices) -> Result<String, AllocError> {
+    let words = words_of(alloc, line)?;
+    let Devices {
+        inputs,
+        out,
+        keeper,
+    } = devices;
+    let status = run_ranked(alloc, &words, inputs, out, keeper);
+    format!(in alloc; "{status}")
 }
 
 /// Runs the words of a `ranked` over files and a journal.
@@ -135,15 +166,9 @@ pub fn ranked(
     line: &[&str],
     failing: Failing<'_>,
 ) -> Result<Answer, AllocError> {
-    let words = words_of(alloc, line)?;
     let mut devices = devices_of(alloc, files, records, failing)?;
-    let Devices {
-        inputs,
-        out,
-        keeper,
-    } = &mut devices;
-    let status = run_ranked(alloc, &words, inputs, out, keeper);
-    answer_of(alloc, format!(in alloc; "{status}")?, &devices)
+    let status = ranked_over(alloc, line, &mut devices)?;
+    answer_of(alloc, status, &devices)
 }
 
 /// Runs a `ranked` of an election and a file over a journal.

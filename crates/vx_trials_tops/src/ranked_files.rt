@@ -1,6 +1,6 @@
 //! Files of ranked contests that are refused.
 
-use crate::devices::{is_answer, rank};
+use crate::devices::{Answer, is_answer, rank};
 use crate::ranked_elections::MIXED;
 use std::alloc::{AllocError, Global};
 use std::test::*;
@@ -139,15 +139,18 @@ fn groups(alloc: Global, count: u32) -> Result<String, AllocError> {
     Ok(file)
 }
 
+/// What is answered to a file with so many groups.
+fn ranked_groups(alloc: Global, count: u32) -> Result<Answer, AllocError> {
+    let file = groups(alloc, count)?;
+    rank(alloc, MIXED, file.as_str(), &[])
+}
+
 #[test]
 fn a_file_has_at_most_a_hundred_groups(rt: HostRuntime) -> Result<(), Fail> {
-    let alloc = rt.alloc();
-    let hundred = groups(alloc, 100)?;
-    let answer = rank(alloc, MIXED, hundred.as_str(), &[])?;
-    assert!(rt; is_answer(&answer, "ranked 3 ranked[0]", b""), "100 groups");
-    let more = groups(alloc, 101)?;
-    let answer = rank(alloc, MIXED, more.as_str(), &[])?;
-    assert!(rt; is_answer(&answer, "ranked 4 ranked", b""), "101 groups");
+    for (count, status) in [(100, "ranked 3 ranked[0]"), (101, "ranked 4 ranked")] {
+        let answer = ranked_groups(rt.alloc(), count)?;
+        assert!(rt; is_answer(&answer, status, b""), "{count} groups");
+    }
     Ok(())
 }
 

@@ -61,10 +61,16 @@ pub fn card_of(alloc: Global, kind: Kind) -> Result<Vec<u8>, Fail> {
         kind,
         test: false,
     };
-    let mut inputs = MemInputs::new(few(alloc)?, ListOf::new(alloc));
     let mut out = MemSink::new(alloc, 1_000_000, ListOf::new(alloc))?;
-    print(alloc, "e", ballot, &mut inputs, &mut out).map_err(|_| "it isn't printed")?;
+    print_into(alloc, ballot, &mut out)?;
     Ok(Vec::from_slice(alloc, out.held())?)
+}
+
+/// Prints a ballot of the election.
+fn print_into(alloc: Global, ballot: Ballot, out: &mut MemSink) -> Result<(), Fail> {
+    let mut inputs = MemInputs::new(few(alloc)?, ListOf::new(alloc));
+    print(alloc, "e", ballot, &mut inputs, out).map_err(|_| "it isn't printed")?;
+    Ok(())
 }
 
 /// A file of these bytes behind the others.
@@ -89,17 +95,22 @@ fn push_behind(alloc: Global, files: &mut NamedBytes, card: &[u8]) -> Result<(),
 /// as `other`, and the sheet with a byte behind it as `behind`.
 pub fn files_of(alloc: Global, card: &[u8], other: &[u8]) -> Result<NamedBytes, Fail> {
     let mut files = few(alloc)?;
-    push_file(alloc, &mut files, "sheet", card)?;
-    push_file(alloc, &mut files, "front", card.get(..PAGE).unwrap_or(card))?;
-    push_file(alloc, &mut files, "back", card.get(PAGE..).unwrap_or(card))?;
+    push_card(alloc, &mut files, card)?;
     push_file(
         alloc,
         &mut files,
         "other",
         other.get(PAGE..).unwrap_or(other),
     )?;
-    push_behind(alloc, &mut files, card)?;
     Ok(files)
+}
+
+/// A sheet, its pages alone, and the sheet with a byte behind it.
+fn push_card(alloc: Global, files: &mut NamedBytes, card: &[u8]) -> Result<(), AllocError> {
+    push_file(alloc, files, "sheet", card)?;
+    push_file(alloc, files, "front", card.get(..PAGE).unwrap_or(card))?;
+    push_file(alloc, files, "back", card.get(PAGE..).unwrap_or(card))?;
+    push_behind(alloc, files, card)
 }
 
 /// The names of scans.
@@ -146,14 +157,19 @@ pub fn attempt(
     scans: &[&str],
     failing: Failing<'_>,
 ) -> Result<Answer, Fail> {
+    let mut devices = devices_of(alloc, files, failing)?;
+    let status = status_over(alloc, scans, &mut devices)?;
+    Ok(answer_of(alloc, &status, &devices.out)?)
+}
+
+/// Tries scans over devices.
+fn status_over(alloc: Global, scans: &[&str], devices: &mut Devices) -> Result<Status, Fail> {
     let names = names_of(alloc, scans)?;
     if names.len() > 64 {
         return Err(Fail::from("too many scans"));
     }
-    let mut devices = devices_of(alloc, files, failing)?;
-    let Devices { inputs, out } = &mut devices;
-    let status = status_of(try_sheets(alloc, "e", &names, inputs, out));
-    Ok(answer_of(alloc, &status, &devices.out)?)
+    let Devices { inputs, out } = devices;
+    Ok(status_of(try_sheets(alloc, "e", &names, inputs, out)))
 }
 
 /// Whether an answer is this status with this text.

@@ -1,6 +1,6 @@
 //! Rows that were worked by hand.
 
-use crate::devices::{Failing, attempt, card_of, files_of, is_answer};
+use crate::devices::{Answer, Failing, attempt, card_of, files_of, is_answer};
 use std::alloc::Global;
 use std::test::*;
 use vx_grid::Kind;
@@ -66,14 +66,25 @@ const ROWS: [(&[&str], &str, &str); 14] = [
     ),
 ];
 
+/// Tries scans over the files of two cards.
+fn tried(
+    alloc: Global,
+    cards: [&[u8]; 2],
+    scans: &[&str],
+    failing: Failing<'_>,
+) -> Result<Answer, Fail> {
+    let [card, other] = cards;
+    attempt(alloc, files_of(alloc, card, other)?, scans, failing)
+}
+
 #[test]
 fn rows_are_answered(rt: HostRuntime) -> Result<(), Fail> {
     let alloc = rt.alloc();
     let card = card_of(alloc, Kind::Precinct)?;
     let other = card_of(alloc, Kind::Absentee)?;
     for (scans, status, text) in ROWS {
-        let files = files_of(alloc, card.as_slice(), other.as_slice())?;
-        let answer = attempt(alloc, files, scans, Failing::NONE)?;
+        let cards = [card.as_slice(), other.as_slice()];
+        let answer = tried(alloc, cards, scans, Failing::NONE)?;
         assert!(rt; is_answer(&answer, status, text), "{status}");
     }
     Ok(())
@@ -112,8 +123,8 @@ fn failing_devices_are_told(rt: HostRuntime) -> Result<(), Fail> {
             writes,
             room,
         };
-        let files = files_of(alloc, card.as_slice(), card.as_slice())?;
-        let answer = attempt(alloc, files, &["sheet", "sheet"], failing)?;
+        let cards = [card.as_slice(), card.as_slice()];
+        let answer = tried(alloc, cards, &["sheet", "sheet"], failing)?;
         assert!(rt; is_answer(&answer, status, text), "{status}");
     }
     Ok(())
@@ -128,8 +139,8 @@ fn a_sheet_that_is_none_is_told_or_the_sink_failed(rt: HostRuntime) -> Result<()
         writes: &[1],
         room: 100,
     };
-    let files = files_of(alloc, card.as_slice(), card.as_slice())?;
-    let answer = attempt(alloc, files, &["front", "front"], failing)?;
+    let cards = [card.as_slice(), card.as_slice()];
+    let answer = tried(alloc, cards, &["front", "front"], failing)?;
     assert!(rt; is_answer(&answer, "write fault", ""), "its line");
     Ok(())
 }

@@ -22,7 +22,7 @@ enum Way {
 
 /// A gate that lets everybody through, or nobody, or shows that two work side by side.
 #[derive(Drop)]
-pub struct TrialGate {
+pub(crate) struct TrialGate {
     way: Way,
     first: AtomicU64,
     second: AtomicU64,
@@ -40,27 +40,27 @@ impl TrialGate {
     }
 
     /// Lets everybody through.
-    pub fn open() -> Self {
+    pub(crate) fn open() -> Self {
         TrialGate::new(Way::Open)
     }
 
     /// Never answers true.
-    pub fn shut() -> Self {
+    pub(crate) fn shut() -> Self {
         TrialGate::new(Way::Shut)
     }
 
     /// Holds each of two images until the other has entered.
-    pub fn meeting() -> Self {
+    pub(crate) fn meeting() -> Self {
         TrialGate::new(Way::Meeting)
     }
 
     /// Holds each of two scripts until a call of the other was answered.
-    pub fn crossing() -> Self {
+    pub(crate) fn crossing() -> Self {
         TrialGate::new(Way::Crossing)
     }
 
     /// All that had to enter have entered, and nobody was held for all turns.
-    pub fn is_met(&self) -> bool {
+    pub(crate) fn is_met(&self) -> bool {
         let first = self.first.load(Ordering::SeqCst);
         let second = self.second.load(Ordering::SeqCst);
         let is_met = match self.way {
