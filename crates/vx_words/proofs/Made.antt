@@ -19,7 +19,7 @@ use Rattle.vx_words.specs.declared.name.Name.TheVariants as names
 use Rattle.vx_words.specs.Names.{name_word}
 use Rattle.vx_words.proofs.OneSpelling.{spells_it}
 use Rattle.vx_words.proofs.Parts.{known}
-use Rattle.vx_words.proofs.Spellings.{check_spelled, count_spelled, decide_spelled, demo_spelled, desk_spelled, export_spelled, no_seed, no_sheets, no_size, no_workers, print_spelled, read_spelled, sample_spelled, try_spelled}
+use Rattle.vx_words.proofs.Spellings.{check_spelled, count_spelled, decide_spelled, demo_spelled, desk_spelled, export_spelled, no_sheets, no_workers, print_spelled, read_spelled, sample_spelled, try_spelled}
 
 -- what the text past the end of a slice is
 abbrev pub nowhere : Bor (List ℕ)
@@ -187,19 +187,6 @@ sample_made (a ∷ b ∷ c ∷ d ∷ []) none bytes size least most are is_seed 
     sample_spelled (name_word names.Sample ∷ a.now ∷ b.now ∷ c.now ∷ d.now ∷ []) b.now c.now bytes size
     (record { first = refl; enough = omega arith; no_more = omega arith; arguments = are }) refl refl is_seed is_size
 sample_made (a ∷ b ∷ c ∷ d ∷ e ∷ more) none bytes size least most are is_seed is_size = absurd (omega (arith, most))
-
-pub no_seed_made : (words : List (Bor (List ℕ))) (none : Bor (List ℕ)) → 4 ≤ length words
-    → ((bytes : List ℕ) → IsSeed (get_or words 1 none).now bytes → ⊥) → NoCommand (name_word names.Sample ∷ shown words)
-no_seed_made [] none least bad = absurd (omega (arith, least))
-no_seed_made (a ∷ []) none least bad = absurd (omega (arith, least))
-no_seed_made (a ∷ b ∷ more) none least bad = no_seed (name_word names.Sample ∷ a.now ∷ b.now ∷ shown more) b.now refl refl bad
-
-pub no_size_made : (words : List (Bor (List ℕ))) (none : Bor (List ℕ)) → 4 ≤ length words
-    → ((size : ℕ) → IsSize (get_or words 2 none).now size → ⊥) → NoCommand (name_word names.Sample ∷ shown words)
-no_size_made [] none least bad = absurd (omega (arith, least))
-no_size_made (a ∷ []) none least bad = absurd (omega (arith, least))
-no_size_made (a ∷ b ∷ []) none least bad = absurd (omega (arith, least))
-no_size_made (a ∷ b ∷ c ∷ more) none least bad = no_size (name_word names.Sample ∷ a.now ∷ b.now ∷ c.now ∷ shown more) c.now refl refl bad
 
 pub desk_made :
     (words : List (Bor (List ℕ))) (none : Bor (List ℕ)) → 3 ≤ length words → length words ≤ 66 → All IsArgument (shown words)

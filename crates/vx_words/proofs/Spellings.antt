@@ -315,26 +315,6 @@ sample_spelled (name ∷ election ∷ c ∷ d ∷ hand ∷ []) seed word bytes s
     }
 sample_spelled (a ∷ b ∷ c ∷ d ∷ e ∷ f ∷ more) seed word bytes size called at_2 at_3 is_seed is_size = absurd (omega (arith, called.no_more))
 
--- a word that is no seed is none of a sample
-pub no_seed : (words : List (List ℕ)) (word : List ℕ) → slice_get words 0 ≡ Some (name_word names.Sample) → slice_get words 2 ≡ Some word
-    → ((bytes : List ℕ) → IsSeed word bytes → ⊥) → NoCommand words
-no_seed words word first at_2 none command spelled =
-    let sample = spells_it words names.Sample command first spelled in
-    let own : List ℕ = get_or words 2 [] in
-    let shown : slice_get words 2 ≡ Some own = ap (λ (w : List (List ℕ)). slice_get w 2) sample.words_are in
-    let same : own ≡ word = cc in
-    none (seed_bytes own) (subst (λ (w : List ℕ). IsSeed w (seed_bytes own)) same sample.sound.is_seed)
-
--- nor is one that is no size
-pub no_size : (words : List (List ℕ)) (word : List ℕ) → slice_get words 0 ≡ Some (name_word names.Sample) → slice_get words 3 ≡ Some word
-    → ((size : ℕ) → IsSize word size → ⊥) → NoCommand words
-no_size words word first at_3 none command spelled =
-    let sample = spells_it words names.Sample command first spelled in
-    let size : ℕ = digits_value 10 (get_or words 3 []) in
-    let shown : slice_get words 3 ≡ Some (decimal size) = ap (λ (w : List (List ℕ)). slice_get w 3) sample.words_are in
-    let same : decimal size ≡ word = cc in
-    none size (subst (λ (w : List ℕ). IsSize w size) same sample.sound.is_size)
-
 -- the words of a desk
 pub desk_spelled : (words : List (List ℕ)) (batch : List ℕ) → HasName words names.Desk → slice_get words 2 ≡ Some batch → is_batch batch ≡ true
     → Spells words (Desk (get_or words 1 []) (get_or words 2 []) (drop 3 words))

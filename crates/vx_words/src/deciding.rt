@@ -103,7 +103,10 @@ fn is_desk(words: &Words) -> bool
     requires { HasName words.now Name.Desk }
     ensures { Decides words.now result }
 {
-    is_batch(words.word(2).as_bytes())
+    if !is_batch(words.word(2).as_bytes()) {
+        return false;
+    }
+    true
 }
 
 /// The command whose name the words begin with, if they are as many as it has.

@@ -263,7 +263,8 @@ fn desk_of(alloc: Global, arguments: &[&str]) -> Result<Command, UsageFault>
     if arguments.len() < 3 || arguments.len() > 66 {
         return Err(UsageFault::Usage);
     }
-    if !is_batch(arguments[1].as_bytes()) {
+    let named = is_batch(arguments[1].as_bytes());
+    if !named {
         return Err(UsageFault::Usage);
     }
     let election = Text::from_str(alloc, arguments[0])?;

@@ -1,4 +1,4 @@
-use Rattle.vx_words.proofs.Made.{no_seed_made, no_size_made, sample_made}
+use Rattle.vx_words.proofs.Made.{sample_made}
 use Rattle.vx_words.proofs.making.sample_of.Goals as goal
 
 pub returns : goal.returns
