@@ -41,7 +41,8 @@ fn numbers_in(alloc: Global, text: &[u8]) -> Result<Vec<Number>, AllocError> {
 /// Adds the digits of a number.
 fn push_value(alloc: Global, text: &mut Vec<u8>, value: u32) -> Result<(), AllocError> {
     let digits = format!(in alloc; "{value}")?;
-    text.extend_from_slice(digits.as_bytes())
+    text.extend_from_slice(digits.as_bytes())?;
+    Ok(())
 }
 
 /// A text with another value in the place of a number.

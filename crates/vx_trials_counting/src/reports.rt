@@ -94,7 +94,8 @@ fn push_acts(
     let decide = decided(alloc, decision)?;
     events.push(claimed(alloc)?)?;
     events.push(decide)?;
-    events.push(released(alloc)?)
+    events.push(released(alloc)?)?;
+    Ok(())
 }
 
 /// Both candidates are marked, and a station gives the contest to the second.

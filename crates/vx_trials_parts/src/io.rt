@@ -80,7 +80,11 @@ fn file_of(rt: &HostRuntime, name: &str) -> Result<String, Fail> {
 }
 
 /// The file's bytes are taken, whole and from a place on, and are refused where they are too many.
-fn assert_reads(rt: &HostRuntime, inputs: &mut StdInputs<'_, HostRuntime>, file: &str) {
+fn assert_reads<R: Abort + AllocGlobal>(
+    rt: &R,
+    inputs: &mut StdInputs<'_, HostRuntime>,
+    file: &str,
+) {
     let mut part = [b'-'; 6];
     assert_takes(rt, inputs, file, 6, b"ballot");
     assert_refuses(rt, inputs, file, 5, TakeFault::TooLong(6));
@@ -117,20 +121,14 @@ fn long_text(alloc: Global, size: u32) -> Result<Vec<u8>, AllocError> {
     Ok(text)
 }
 
-/// A file of so many bytes is taken whole.
-fn assert_long(rt: &HostRuntime, file: &str, size: u32) -> Result<(), Fail> {
-    let text = long_text(rt.alloc(), size)?;
-    fs::write(rt, file, text.as_slice())?;
-    let mut inputs = StdInputs::new(rt);
-    assert_takes(rt, &mut inputs, file, 1 << 26, text.as_slice());
-    Ok(())
-}
-
 #[test]
 fn long_files_are_taken_whole(rt: HostRuntime) -> Result<(), Fail> {
     let file = file_of(&rt, "vx_io_long")?;
+    let mut inputs = StdInputs::new(&rt);
     for size in [65_537, 5_000_000] {
-        assert_long(&rt, file.as_str(), size)?;
+        let text = long_text(rt.alloc(), size)?;
+        fs::write(&rt, file.as_str(), text.as_slice())?;
+        assert_takes(&rt, &mut inputs, file.as_str(), 1 << 26, text.as_slice());
     }
     fs::remove_file(&rt, file.as_str())?;
     Ok(())
