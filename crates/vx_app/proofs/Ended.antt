@@ -29,7 +29,7 @@ is-done (Demo seed sheets) files records taken taken_now held_now answer runs do
 is-done (Try name scans) files records taken taken_now held_now answer runs done = done
 is-done (Cards name) files records taken taken_now held_now answer runs done = done
 is-done (Results name) files records taken taken_now held_now answer runs done = done
-is-done (Sample name seed size hand) files records taken taken_now held_now answer runs done = absurd (false≢true runs)
+is-done (Sample name seed size hand) files records taken taken_now held_now answer runs done = done
 is-done (Desk name batch scans) files records taken taken_now held_now answer runs done = absurd (false≢true runs)
 is-done (Center name moment named items) files records taken taken_now held_now answer runs done = absurd (false≢true runs)
 

@@ -64,7 +64,7 @@ done-of (Demo seed sheets) files records taken taken_now held_now answer runs do
 done-of (Try name scans) files records taken taken_now held_now answer runs done = done
 done-of (Cards name) files records taken taken_now held_now answer runs done = done
 done-of (Results name) files records taken taken_now held_now answer runs done = done
-done-of (Sample name seed size hand) files records taken taken_now held_now answer runs done = absurd (false≢true runs)
+done-of (Sample name seed size hand) files records taken taken_now held_now answer runs done = done
 done-of (Desk name batch scans) files records taken taken_now held_now answer runs done = absurd (false≢true runs)
 done-of (Center name moment named items) files records taken taken_now held_now answer runs done = absurd (false≢true runs)
 

@@ -34,6 +34,7 @@ use vx_command_print::{Ballot, print};
 use vx_command_queue::{queue, queues_write_what_waits};
 use vx_command_read::{fitting_scans_are_told, read};
 use vx_command_results::results;
+use vx_command_sample::sample;
 use vx_command_try::try_sheets;
 use vx_io::{Inputs, Keeper, Sink, Words};
 use vx_journal::{fronts_are_journals, journals_stay};
@@ -130,12 +131,27 @@ fn obey<R: Threads + Sync, I: Inputs, S: Sink, K: Keeper, G: Gate>(
             keeper,
         ),
         Command::Demo { seed, sheets } => demo(rt, alloc, seed, sheets, out),
-        Command::Center { .. } | Command::Sample { .. } | Command::Desk { .. } => unreachable!(),
+        Command::Center { .. } | Command::Desk { .. } => unreachable!(),
         Command::Try { election, scans } => {
             try_sheets(alloc, election.as_str(), &scans, inputs, out)
         }
         Command::Cards { election } => cards(alloc, election.as_str(), inputs, out),
         Command::Results { election } => results(alloc, election.as_str(), inputs, out, keeper),
+        Command::Sample {
+            election,
+            seed,
+            size,
+            hand,
+        } => sample(
+            alloc,
+            election.as_str(),
+            seed.as_str(),
+            size,
+            hand.as_str(),
+            inputs,
+            out,
+            keeper,
+        ),
     }
 }
 
@@ -181,8 +197,8 @@ fn run_words<R: Threads + Sync, I: Inputs, S: Sink, K: Keeper, G: Gate>(
 }
 
 /// Does a command but `center`, whole: reads its words, takes its inputs, writes what it writes and keeps
-/// what it keeps. The words of `center` are Usage here: `run_center` does them. So are those of `sample` and
-/// `desk`, which aren't made yet.
+/// what it keeps. The words of `center` are Usage here: `run_center` does them. So are those of `desk`,
+/// which isn't made yet.
 ///
 /// Where the inputs tell what they hold, and the keeper if the command uses it, the acts of the
 /// command's outcome are done in order: all of them, and the status is the outcome's; or up to one at

@@ -1,0 +1,151 @@
+ghost use Rattle.std.specs.Prelude.{◌≡◌, true, false};
+ghost use Rattle.std.specs.Option.{ForSome};
+ghost use Rattle.vx_election_model.specs.Valid.{IsValid};
+ghost use Rattle.vx_audit.specs.Sized.{IsSized};
+ghost use Rattle.vx_command.specs.Devices.{LeavesInputs, LeavesKeeper, LeavesSink, is_keeper_fault, writes_nothing};
+ghost use Rattle.vx_command.specs.Done.{IsDone, IsWritten};
+ghost use Rattle.vx_journal.specs.Steps.{once_read};
+ghost use Rattle.vx_results.specs.Report.{report_of_events};
+ghost use Rattle.vx_words.specs.Samples.{IsSeed, seed_bytes};
+ghost use Rattle.vx_command_sample.specs.Outcome.{hand_outcome, journal_outcome, sample_outcome};
+
+use crate::reading::compare_bytes;
+use std::alloc::Global;
+use vx_base::Bytes;
+use vx_center::Center;
+use vx_command::{Halt, INPUT_LIMIT, acts_in_order, steps_in_order, take_election, take_input};
+use vx_election_model::Election;
+use vx_io::{Inputs, Keeper, Sink};
+use vx_journal::{journals_in_order, read_journal};
+use vx_results::journal_report;
+use vx_tally::Report;
+use vx_words::sample_seed;
+
+/// Takes what hands read of a report under its name, which is word 4, and writes the comparison.
+fn take_hand<I: Inputs, S: Sink>(
+    alloc: Global,
+    report: &Report,
+    seed: [u8; 32],
+    size: u32,
+    hand: &str,
+    inputs: &mut I,
+    out: &mut S,
+) -> Result<(), Halt>
+    requires { IsSized report.now }
+    ensures done { ForSome (I.held inputs.old) (λ files.
+        IsWritten (hand_outcome seed size report.now (files hand.now)) (S.taken out.old) (S.taken out.new) result) }
+    ensures late { writes_nothing false result ≡ false }
+    ensures no_keeper_fault { is_keeper_fault result ≡ false }
+    ensures inputs { LeavesInputs (I.held inputs.old) (I.held inputs.new)
+        (I.faults inputs.old) (I.faults inputs.new) result }
+    ensures sink { LeavesSink (S.faults out.old) (S.faults out.new) result }
+{
+    steps_in_order::<Bytes>();
+    let bytes = take_input(Bytes::new(alloc), inputs, hand, 4, INPUT_LIMIT)?;
+    compare_bytes(alloc, report, seed, size, bytes.as_slice(), out)
+}
+
+/// Makes the report of a journal's events, takes what hands read of it, and writes the comparison.
+fn sample_events<I: Inputs, S: Sink>(
+    alloc: Global,
+    election: &Election,
+    center: &Center<'_>,
+    seed: [u8; 32],
+    size: u32,
+    hand: &str,
+    inputs: &mut I,
+    out: &mut S,
+) -> Result<(), Halt>
+    requires valid { IsValid election.now }
+    requires same { center.now.election ≡ election.now }
+    ensures done { ForSome (I.held inputs.old) (λ files.
+        IsWritten (hand_outcome seed size (report_of_events election.now center.now.events) (files hand.now))
+        (S.taken out.old) (S.taken out.new) result) }
+    ensures late { writes_nothing false result ≡ false }
+    ensures no_keeper_fault { is_keeper_fault result ≡ false }
+    ensures inputs { LeavesInputs (I.held inputs.old) (I.held inputs.new)
+        (I.faults inputs.old) (I.faults inputs.new) result }
+    ensures sink { LeavesSink (S.faults out.old) (S.faults out.new) result }
+{
+    acts_in_order();
+    let report = journal_report(alloc, election, center)?;
+    take_hand(alloc, &report, seed, size, hand, inputs, out)
+}
+
+/// Reads the journal and does the rest.
+fn sample_journal<I: Inputs, S: Sink, K: Keeper>(
+    alloc: Global,
+    election: &Election,
+    seed: [u8; 32],
+    size: u32,
+    hand: &str,
+    inputs: &mut I,
+    out: &mut S,
+    keeper: &mut K,
+) -> Result<(), Halt>
+    requires { IsValid election.now }
+    ensures done { ForSome (I.held inputs.old) (λ files. ForSome (K.held keeper.old) (λ records.
+        IsDone (once_read election.now records (journal_outcome seed size election.now (files hand.now)))
+        (S.taken out.old) (S.taken out.new) (K.held keeper.old) (K.held keeper.new) result)) }
+    ensures nothing_written { writes_nothing false result ≡ true → S.taken out.new ≡ S.taken out.old }
+    ensures held { K.held keeper.new ≡ K.held keeper.old }
+    ensures inputs { LeavesInputs (I.held inputs.old) (I.held inputs.new)
+        (I.faults inputs.old) (I.faults inputs.new) result }
+    ensures sink { LeavesSink (S.faults out.old) (S.faults out.new) result }
+    ensures keeper { LeavesKeeper (K.faults keeper.old) (K.faults keeper.new) result }
+{
+    journals_in_order();
+    let journal = read_journal(alloc, election, keeper)?;
+    sample_events(
+        alloc,
+        election,
+        &journal.center,
+        seed,
+        size,
+        hand,
+        inputs,
+        out,
+    )
+}
+
+/// The bytes of a seed's word.
+fn bytes_of(seed: &str) -> [u8; 32]
+    requires { IsSeed seed.now (seed_bytes seed.now) }
+    ensures { result ≡ seed_bytes seed.now }
+{
+    match sample_seed(seed) {
+        Some(bytes) => bytes,
+        None => unreachable!(),
+    }
+}
+
+/// Does the command `sample`: takes the election under its name, which is word 1, reads its journal, takes what
+/// hands read of its sheets under its name, which is word 4, and writes for each record that the first `size`
+/// words of the generator with the seed draw, how what the record says compares with that. The seed is given
+/// as its word, 64 hexadecimal digits in lower case.
+pub fn sample<I: Inputs, S: Sink, K: Keeper>(
+    alloc: Global,
+    election: &str,
+    seed: &str,
+    size: u32,
+    hand: &str,
+    inputs: &mut I,
+    out: &mut S,
+    keeper: &mut K,
+) -> Result<(), Halt>
+    requires { IsSeed seed.now (seed_bytes seed.now) }
+    ensures done { ForSome (I.held inputs.old) (λ files. ForSome (K.held keeper.old) (λ records.
+        IsDone (sample_outcome election.now seed.now size hand.now files records)
+        (S.taken out.old) (S.taken out.new) (K.held keeper.old) (K.held keeper.new) result)) }
+    ensures nothing_written { writes_nothing false result ≡ true → S.taken out.new ≡ S.taken out.old }
+    ensures held { K.held keeper.new ≡ K.held keeper.old }
+    ensures inputs { LeavesInputs (I.held inputs.old) (I.held inputs.new)
+        (I.faults inputs.old) (I.faults inputs.new) result }
+    ensures sink { LeavesSink (S.faults out.old) (S.faults out.new) result }
+    ensures keeper { LeavesKeeper (K.faults keeper.old) (K.faults keeper.new) result }
+{
+    steps_in_order::<Election>();
+    let bytes = bytes_of(seed);
+    let given = take_election(alloc, inputs, election)?;
+    sample_journal(alloc, &given, bytes, size, hand, inputs, out, keeper)
+}
