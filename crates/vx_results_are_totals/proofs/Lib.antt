@@ -1,2 +1,3 @@
 pub mod Totals
 pub mod Waiting
+pub mod Sampled
