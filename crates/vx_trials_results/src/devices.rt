@@ -45,7 +45,7 @@ fn inputs_of(alloc: Global, file: &[u8], reads: &[u64]) -> Result<MemInputs, All
     Ok(MemInputs::new(named, ListOf::from_vec(Vec::from_slice(alloc, reads)?)))
 }
 
-fn keeper_of(
+pub(crate) fn keeper_of(
     alloc: Global,
     texts: &[&str],
     keeps: &[(u64, bool)],
@@ -57,13 +57,17 @@ fn keeper_of(
     Ok(MemKeeper::new(records, ListOf::from_vec(Vec::from_slice(alloc, keeps)?)))
 }
 
-fn sink_of(alloc: Global, failing: Failing<'_>) -> Result<MemSink, AllocError> {
+pub(crate) fn sink_of(alloc: Global, failing: Failing<'_>) -> Result<MemSink, AllocError> {
     let writes = ListOf::from_vec(Vec::from_slice(alloc, failing.writes)?);
     MemSink::new(alloc, failing.room, writes)
 }
 
 /// What a command answered that ended so.
-fn answer_of(alloc: Global, ended: Result<(), Halt>, out: &MemSink) -> Result<Answer, AllocError> {
+pub(crate) fn answer_of(
+    alloc: Global,
+    ended: Result<(), Halt>,
+    out: &MemSink,
+) -> Result<Answer, AllocError> {
     Ok(Answer {
         status: told(alloc, ended)?,
         text: Vec::from_slice(alloc, out.held())?,

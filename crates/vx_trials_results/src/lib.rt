@@ -1,8 +1,12 @@
-//! Trials of `results`: journals that were counted by hand, and that their text is what `totals` writes of their export;
-//! journals of other elections, and devices that fail. Nothing stands on it.
+//! Trials of `results` and `sample`: journals that were counted by hand, and that their texts are what `totals` and
+//! `audit` write of their export; journals of other elections, and devices that fail. Nothing stands on it.
 #![tactic(auto)]
 
 #[cfg(test)]
 mod devices;
+#[cfg(test)]
+mod drawing;
+#[cfg(test)]
+mod sampled;
 #[cfg(test)]
 mod worked;

@@ -5,13 +5,14 @@ use std::alloc::{AllocError, Global};
 use std::test::*;
 
 /// Two precincts, whose cards stand the other way round; a contest of two seats with write-ins, and a yes/no contest.
-const ELECTION: &str =
+pub(crate) const ELECTION: &str =
     r#"{"title":"Town","date":"2026-11-03","districts":[{"id":"d","name":"d"}],"precincts":[{"id":"p","name":"North"},{"id":"q","name":"South"}],"contests":[{"id":"mayor","type":"candidate","districtId":"d","title":"Mayor","seats":2,"candidates":[{"id":"a","name":"A"},{"id":"b","name":"B"},{"id":"c","name":"C"}],"allowWriteIns":true},{"id":"park","type":"yesno","districtId":"d","title":"Park"}],"ballotStyles":[{"id":"s","precincts":["q","p"],"districts":["d"]}],"vxReasons":["Overvote","MarginalMark","WriteIn"]}"#;
 
 /// Its journal's header.
-const HEADER: &str = "1 election f3c38ac2ffa08b6cbd56113fe5d7208b8700f479b265a19849cff74423cad05c";
+pub(crate) const HEADER: &str =
+    "1 election f3c38ac2ffa08b6cbd56113fe5d7208b8700f479b265a19849cff74423cad05c";
 
-const DAY: [&str; 15] = [
+pub(crate) const DAY: [&str; 15] = [
     HEADER,
     "1 add b 1 0 1 precinct 0:mmccc 1:mc",
     "1 add b 2 1 1 precinct 0:mcccc 1:cc",
