@@ -26,7 +26,7 @@ use Rattle.vx_scan_model.specs.declared.reading.PageReading.{PageReading}
 use Rattle.vx_scan_model.specs.Reading.{reading_of}
 use Rattle.vx_desk.specs.declared.region.Region.{Region}
 use Rattle.vx_desk.specs.Json.{text, whole, list}
-use Rattle.vx_desk.specs.Shown.{Shown, bubble_at, score_at, state_at, image_with}
+use Rattle.vx_desk.specs.Shown.{Shown, bubble_at, score_at, state_at, image_with, shown_by}
 use Rattle.vx_desk.specs.Regions.{region_round}
 use Rattle.vx_desk.specs.Kept.{are_kept}
 use Rattle.vx_desk.specs.Waits.{waiting_contests}
@@ -107,7 +107,7 @@ differing : (kept : List Event) (key : Key) → has_float (lines.differing_data 
 differing kept key = both (has_float (lines.holder_data (holder_of kept key))) _ (holder (holder_of kept key)) refl
 
 read : (election : Election) (kept : List Event) (key : Key) (sheet : SheetMarks) (first second : Page) (one other : Result PageReading PageFault) → has_float (lines.read_data election kept key sheet first second one other) ≡ false
-read election kept key sheet first second (Ok one) (Ok other) = kept_data election kept key sheet _ _
+read election kept key sheet first second (Ok one) (Ok other) = kept_data election kept key sheet (shown_by election first one) (shown_by election second other)
 read election kept key sheet first second (Ok one) (Err fault) = differing kept key
 read election kept key sheet first second (Err fault) other = differing kept key
 

@@ -41,6 +41,7 @@ module _ (election : Election) (kept : List Event) (batch : List ℕ) (sheets : 
     where
       left : List Added
       left = filter (λ (a : Added). nat_lt sheets a.key.number) rest
+
       by : (b : Bool) → map whole (map (λ (a : Added). a.key.number) (cond b (added ∷ left) left)) ≡ cond b (whole added.key.number ∷ []) [] ++ map whole (map (λ (a : Added). a.key.number) left)
       by true = refl
       by false = refl
@@ -84,7 +85,7 @@ module _ (election : Election) (kept : List Event) (batch : List ℕ) (sheets : 
       → (bytes_eq key.batch batch && any_waits election kept key (Some sheet)) ≡ true
       → Grew (missing_if sheets key) (length (waiting_contests election kept key sheet)) missing waiting missing_now waiting_now
       → Grew (missing_by election kept batch sheets event) (waiting_by election kept batch event) missing waiting missing_now waiting_now
-  grew_by key sheet event missing waiting missing_now waiting_now is yes grew = rw (is, yes) grew
+  grew_by key sheet event missing waiting missing_now waiting_now is waits grew = rw (is, waits) grew
 
   -- one event more
   pub so_far_more : (i : ℕ) (event : Event) (missing : List Data) (waiting : ℕ) (missing_now : List Data) (waiting_now : ℕ)
@@ -113,8 +114,9 @@ module _ (election : Election) (kept : List Event) (batch : List ℕ) (sheets : 
   pub so_far_last : (i : ℕ) (missing : List Data) (waiting : ℕ) → length kept ≤ i → IsSoFar election kept batch sheets i (drop i kept) missing waiting
       → (missing ≡ missing_from election kept batch sheets 0 kept) × (waiting ≡ waiting_from election kept batch 0 kept)
   so_far_last i missing waiting past so_far =
-      let nothing_left : drop i kept ≡ [] = drop_all i kept past in
-      (none_missing missing
-      ∙ ap (λ (events : List Event). missing ++ missing_from election kept batch sheets i events) (sym nothing_left)
-      ∙ so_far.numbers,
-      omega (arith, ap (λ (events : List Event). waiting_from election kept batch i events) nothing_left, so_far.contests))
+      let nothing_left : drop i kept ≡ [] = drop_all i kept past in (
+        none_missing missing
+            ∙ ap (λ (events : List Event). missing ++ missing_from election kept batch sheets i events) (sym nothing_left)
+            ∙ so_far.numbers,
+        omega (arith, ap (λ (events : List Event). waiting_from election kept batch i events) nothing_left, so_far.contests),
+      )

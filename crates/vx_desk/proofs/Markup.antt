@@ -41,9 +41,11 @@ byte x = by (x == 60) (x == 62) (x == 38) refl refl refl
     last : (c : Bool) → x == 38 ≡ c → x == 60 ≡ false → x == 62 ≡ false → HasNoMarkup (cond c (92 ∷ 117 ∷ 48 ∷ 48 ∷ 50 ∷ 54 ∷ []) (x ∷ []))
     last true is a b = refl
     last false is a b = both (is_markup x) false (both (x == 60 || x == 62) (x == 38) (both (x == 60) (x == 62) a b) is) refl
+
     middle : (b c : Bool) → x == 62 ≡ b → x == 38 ≡ c → x == 60 ≡ false → HasNoMarkup (cond b (92 ∷ 117 ∷ 48 ∷ 48 ∷ 51 ∷ 101 ∷ []) (cond c (92 ∷ 117 ∷ 48 ∷ 48 ∷ 50 ∷ 54 ∷ []) (x ∷ [])))
     middle true c is further a = refl
     middle false c is further a = last c further a is
+
     by : (a b c : Bool) → x == 60 ≡ a → x == 62 ≡ b → x == 38 ≡ c → HasNoMarkup (cond a (92 ∷ 117 ∷ 48 ∷ 48 ∷ 51 ∷ 99 ∷ []) (cond b (92 ∷ 117 ∷ 48 ∷ 48 ∷ 51 ∷ 101 ∷ []) (cond c (92 ∷ 117 ∷ 48 ∷ 48 ∷ 50 ∷ 54 ∷ []) (x ∷ []))))
     by true b c is next further = refl
     by false b c is next further = middle b c next further is

@@ -15,7 +15,7 @@ use Rattle.vx_desk.specs.Pictures.{half_byte_at, part_of, pixel_at, row_at, seen
 use Rattle.vx_desk.specs.Regions.{height_of, width_of}
 
 module _ (page : Page) (region : Region) (y : ℕ) where
-  dark : ℕ → Bool
+  abbrev dark : ℕ → Bool
   dark x = seen_from page region.left region.top (pos x) (pos y)
 
   -- a pixel of a row, also past its end

@@ -159,6 +159,16 @@ pub(crate) fn contests_of(
     let blank = is_blank(sheet);
     let contests = sheet.contests.as_slice();
     let mut values = Vec::new(alloc);
-    push_contests(alloc, &mut values, election, center, key, blank, contests, first, second)?;
+    push_contests(
+        alloc,
+        &mut values,
+        election,
+        center,
+        key,
+        blank,
+        contests,
+        first,
+        second,
+    )?;
     Ok(Value::Array(values))
 }

@@ -31,9 +31,9 @@ impl<'a> Model for Image<'a> {
     ghost Value = { Shown };
 
     ghost view = { λ a. record {
-        page = shown_page a.reading.now.turned a.scan.now;
-        reading = a.reading.now;
-        bubbles = a.bubbles.now;
+      page = shown_page a.reading.now.turned a.scan.now;
+      reading = a.reading.now;
+      bubbles = a.bubbles.now;
     } };
 
     ghost invariant = { λ a. CanBeShown a.scan.now a.bubbles.now };
@@ -197,7 +197,11 @@ impl<'a> Image<'a> {
 }
 
 /// The image on which a contest stands.
-pub(crate) fn image_with<'i>(contest: u32, first: &'i Image<'i>, second: &'i Image<'i>) -> &'i Image<'i>
+pub(crate) fn image_with<'i>(
+    contest: u32,
+    first: &'i Image<'i>,
+    second: &'i Image<'i>,
+) -> &'i Image<'i>
     ensures { result.now ≡ spec.image_with contest first.now second.now }
 {
     if first.has(contest) { first } else { second }

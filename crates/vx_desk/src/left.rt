@@ -52,7 +52,13 @@ fn waiting_of(election: &Election, center: &Center<'_>, key: &Key, sheet: &Sheet
     requires { is_sheet election.now sheet.now ≡ true }
     ensures { result ≡ length (waits.waiting_contests election.now center.now.events key.now sheet.now) }
 {
-    count_of(election, center, key, is_blank(sheet), sheet.contests.as_slice())
+    count_of(
+        election,
+        center,
+        key,
+        is_blank(sheet),
+        sheet.contests.as_slice(),
+    )
 }
 
 /// Adds a sheet's number, if it is behind the first so many.

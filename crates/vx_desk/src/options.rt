@@ -86,9 +86,7 @@ fn push_option(
     let bubble = image.bubbles()[k];
     if bubble.contest == number {
         let (score, state) = (image.score_at(k), image.state_at(k));
-        options.push(option_of(
-            alloc, contest, image, region, bubble, score, state,
-        )?)?;
+        options.push(option_of(alloc, contest, image, region, bubble, score, state)?)?;
     }
     Ok(())
 }
@@ -130,11 +128,7 @@ fn push_reason(
 }
 
 /// Adds the words of the reasons of a set, in their order.
-fn push_reasons(
-    alloc: Global,
-    words: &mut Vec<Value>,
-    set: ReasonSet,
-) -> Result<(), OutOfMemory>
+fn push_reasons(alloc: Global, words: &mut Vec<Value>, set: ReasonSet) -> Result<(), OutOfMemory>
     ensures { OnOk result (map view words.new.items
         ≡ map view words.old.items ++ spec.reason_texts set) }
 {

@@ -114,7 +114,13 @@ pub(crate) fn any_waits(
     requires { is_sheet election.now sheet.now ≡ true }
     ensures { result ≡ desk.any_waits election.now center.now.events key.now (Some sheet.now) }
 {
-    any_of(election, center, key, is_blank(sheet), sheet.contests.as_slice())
+    any_of(
+        election,
+        center,
+        key,
+        is_blank(sheet),
+        sheet.contests.as_slice(),
+    )
 }
 
 /// Whether the sheet of a batch with a number was added, and a contest of it waits.
