@@ -1,12 +1,12 @@
 -- What was decided of a contest, by the events.
 use Rattle.std.proofs.Common.{◌≡◌, ℕ, Bool, true, false, cond, List, [], ◌∷◌, ◌++◌, ◌==◌, refl}
 use Rattle.std.specs.Prelude.{◌||◌, ◌&&◌}
-use Rattle.std.specs.List.{list_any, flat_map}
+use Rattle.std.specs.List.{list_any}
 use Rattle.vx_events.specs.declared.decision.Decision.{Decision}
 use Rattle.vx_events.specs.declared.event.Event.{Event}
 use Rattle.vx_events.specs.declared.event.Event.TheVariants.{Add, Claim, Release, Decide}
 use Rattle.vx_events.specs.declared.key.Key.{Key}
-use Rattle.vx_center.specs.Decisions.{decided_of, decisions_on, of_contest}
+use Rattle.vx_center.specs.Decisions.{decided_of, decisions_on}
 use Rattle.vx_center.specs.Sheets.{same_key}
 use Rattle.vx_center.specs.Waiting.{is_decided}
 use Rattle.vx_center.specs.declared.decided.Decided.{Decided}

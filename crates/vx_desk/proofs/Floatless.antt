@@ -1,14 +1,12 @@
 -- The data hold no number with a fraction.
-use Rattle.std.proofs.Common.{◌≡◌, ℕ, Bool, true, false, ◌||◌, ◌==◌, cond, List, [], ◌∷◌, ◌++◌, length, map, refl, ap, ◌∙◌}
-use Rattle.std.specs.Prelude.{Option, None, Some, Result, Ok, Err, slice_index_or, filter}
+use Rattle.std.proofs.Common.{◌≡◌, ℕ, Bool, true, false, ◌||◌, ◌==◌, cond, List, [], ◌∷◌, ◌++◌, length, map, refl}
+use Rattle.std.specs.Prelude.{Option, None, Some, Result, Ok, Err, slice_index_or}
 use Rattle.std.specs.List.{flat_map, range_with_len}
 use Rattle.std.proofs.lemmas.Bool.{true≢false}
 use Rattle.serde_json.specs.Data.{Data}
 use Rattle.serde_json.specs.View.{items_of}
 use Rattle.serde_json.specs.Written.{has_float, items_have_float}
 use Rattle.vx_plane.specs.Plane.{Page}
-use Rattle.vx_grid.specs.declared.state.State.{State}
-use Rattle.vx_layout.specs.declared.bubbles.Bubble.{Bubble}
 use Rattle.vx_election_model.specs.declared.contest.Contest.{Contest}
 use Rattle.vx_election_model.specs.declared.election.Election.{Election}
 use Rattle.vx_election_model.specs.declared.reason.Reason.{Reason}
@@ -25,7 +23,7 @@ use Rattle.vx_scan_model.specs.declared.fault.PageFault.{PageFault}
 use Rattle.vx_scan_model.specs.declared.reading.PageReading.{PageReading}
 use Rattle.vx_scan_model.specs.Reading.{reading_of}
 use Rattle.vx_desk.specs.declared.region.Region.{Region}
-use Rattle.vx_desk.specs.Json.{text, whole, list}
+use Rattle.vx_desk.specs.Json.{text, whole}
 use Rattle.vx_desk.specs.Shown.{Shown, bubble_at, score_at, state_at, image_with, shown_by}
 use Rattle.vx_desk.specs.Regions.{region_round}
 use Rattle.vx_desk.specs.Kept.{are_kept}

@@ -1,18 +1,16 @@
 -- How large an image is that was read.
-use Rattle.std.proofs.Common.{◌≡◌, ◌≤◌, ◌<◌, ℕ, Bool, true, false, cond, refl, arith}
+use Rattle.std.proofs.Common.{◌≡◌, ◌≤◌, Bool, true, false, refl, arith}
 use Rattle.std.specs.Prelude.{◌&&◌, nat_le, if◌then◌else◌, Result, Ok, Err, All, List}
 use Rattle.vx_base.proofs.Booleans.{and-left, and-right}
 use Rattle.vx_base.proofs.Numbers.{at_most-from_yes}
 use Rattle.vx_plane.specs.Plane.{Page}
-use Rattle.vx_count.specs.Turned.{turned_page}
 use Rattle.vx_election_model.specs.declared.election.Election.{Election}
 use Rattle.vx_grid.specs.declared.paper.Paper.{Paper}
 use Rattle.vx_grid.specs.declared.paper.Paper.TheVariants.{Letter, Legal}
 use Rattle.vx_layout.specs.declared.bubbles.Bubble.{Bubble}
 use Rattle.vx_scan_model.specs.declared.fault.PageFault.{PageFault}
 use Rattle.vx_scan_model.specs.declared.reading.PageReading.{PageReading}
-use Rattle.vx_scan_model.specs.Border.{border_of}
-use Rattle.vx_scan_model.specs.Reading.{either_way, is_allowed, reading_of, reading_of_border, upright_reading_of}
+use Rattle.vx_scan_model.specs.Reading.{either_way, is_allowed, reading_of, upright_reading_of}
 use Rattle.vx_desk.specs.Shown.{CanBeShown, HasItsPlace}
 
 either_allowed : (b : Bool) (one other : Result PageReading PageFault) (fault further : PageFault) (reading : PageReading)

@@ -1,6 +1,6 @@
 -- Rows of pictures, packed.
-use Rattle.std.proofs.Common.{◌≡◌, ◌≤◌, ◌<◌, ◌+◌, ◌*◌, ℕ, Bool, true, false, List, [], length, map, get_or, refl, sym, ap, ◌∙◌, ◌⊎◌, inl, inr, pos, arith}
-use Rattle.std.specs.Prelude.{slice_index_or, nat_lt, if◌then◌else◌}
+use Rattle.std.proofs.Common.{◌≡◌, ◌≤◌, ◌<◌, ◌+◌, ◌*◌, ℕ, Bool, false, length, map, refl, sym, ap, ◌∙◌, ◌⊎◌, inl, inr, pos, arith}
+use Rattle.std.specs.Prelude.{slice_index_or, if◌then◌else◌}
 use Rattle.std.specs.List.{flat_map, range_with_len}
 use Rattle.std.proofs.lemmas.Bool.{cases_lt}
 use Rattle.std.proofs.lemmas.List.{get_or_past}
@@ -8,7 +8,7 @@ use Rattle.std.proofs.lemmas.List.FromFn.{length-map-range_with_len, get_or-map-
 use Rattle.std.proofs.lemmas.List.Folds.{flat_map-map}
 use Rattle.vx_base.proofs.Numbers.{below-yes, below-no}
 use Rattle.vx_plane.specs.Count.{one_if}
-use Rattle.vx_plane.specs.Plane.{Page, page_of, rows_of}
+use Rattle.vx_plane.specs.Plane.{Page, rows_of}
 use Rattle.vx_bits.specs.Packed.{packed_byte, packed_row, raster_of, stride_of}
 use Rattle.vx_desk.specs.declared.region.Region.{Region}
 use Rattle.vx_desk.specs.Pictures.{half_byte_at, part_of, pixel_at, row_at, seen_from}

@@ -1,6 +1,6 @@
 -- Walks over lists: what an element decides, and what is left behind it.
 use Rattle.std.proofs.Common.{◌≡◌, ◌≤◌, ◌<◌, ◌+◌, ℕ, Bool, true, false, cond, List, [], ◌∷◌, ◌++◌, length, drop, map, get_or, refl, sym, ap, ◌∙◌, append_assoc, arith}
-use Rattle.std.specs.Prelude.{◌||◌, filter, find, Option, Some, None}
+use Rattle.std.specs.Prelude.{◌||◌, filter, find, Some, None}
 use Rattle.std.specs.List.{list_any, flat_map, range_with_len}
 use Rattle.std.proofs.lemmas.List.{drop_more, drop_all}
 use Rattle.vx_base.proofs.Ranges.{flat_map-range_more, map-laid}

@@ -1,5 +1,5 @@
 -- Pixels of a turned page.
-use Rattle.std.proofs.Common.{◌≡◌, ◌<◌, ◌-◌, ℕ, Bool, ℤ, pos, ◌-ℤ◌, ap₂, ◌∙◌, arith}
+use Rattle.std.proofs.Common.{◌≡◌, ◌<◌, ◌-◌, ℕ, pos, ◌-ℤ◌, ap₂, ◌∙◌, arith}
 use Rattle.std.proofs.lemmas.Int.{ints}
 use Rattle.vx_plane.specs.Plane.{Page, dark_at}
 use Rattle.vx_plane.proofs.Pages.{dark_at-inside}

@@ -1,5 +1,5 @@
 -- Whole numbers of 64 bits that are near the origin.
-use Rattle.std.proofs.Common.{◌≡◌, ◌≤◌, ℕ, ℤ, pos, ◌+ℤ◌, ◌-ℤ◌, to_z, of_z, w64, arith, subst, sym}
+use Rattle.std.proofs.Common.{◌≡◌, ◌≤◌, ℕ, ℤ, ◌+ℤ◌, ◌-ℤ◌, to_z, of_z, w64, arith, subst, sym}
 use Rattle.std.proofs.lemmas.Int.{ints}
 use Rattle.vx_grid.specs.Places.{IsWithin}
 use Rattle.vx_fit.specs.Fit.{part_of, IsOnTheWay}

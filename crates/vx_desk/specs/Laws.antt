@@ -1,5 +1,5 @@
 -- What holds of the desk's data.
-use Rattle.std.specs.Prelude.{◌≡◌, ◌<◌, ◌+◌, ℕ, Bool, true, false, not, List, filter, pos, Some}
+use Rattle.std.specs.Prelude.{◌≡◌, ◌<◌, ◌+◌, ℕ, false, not, List, filter, pos}
 use Rattle.std.specs.List.{list_any}
 use Rattle.vx_plane.specs.Plane.{Page, dark_at}
 use Rattle.vx_bits.specs.Packed.{packed_page, raster_of}

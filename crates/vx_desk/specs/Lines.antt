@@ -1,5 +1,5 @@
 -- The lines of the desk's data: the batch, a line for each sheet with a contest that waits, and what is left over.
-use Rattle.std.specs.Prelude.{ℕ, Bool, true, false, nat_lt, if◌then◌else◌, List, [], ◌∷◌, map, filter, codes, Option, None, Some, Result, Ok, Err}
+use Rattle.std.specs.Prelude.{ℕ, Bool, true, nat_lt, if◌then◌else◌, List, [], ◌∷◌, map, filter, codes, Option, None, Some, Result, Ok}
 use Rattle.serde_json.specs.Data.{Data, boolean, null}
 use Rattle.vx_plane.specs.Plane.{Page}
 use Rattle.vx_election_model.specs.declared.election.Election.{Election}

@@ -1,5 +1,5 @@
 -- Which sheets of a batch have a contest that waits for a decision, by the rule of the center.
-use Rattle.std.specs.Prelude.{ℕ, ◌&&◌, Bool, true, false, not, List, length, filter, bytes_eq, Option, None, Some}
+use Rattle.std.specs.Prelude.{ℕ, ◌&&◌, Bool, false, not, List, length, filter, bytes_eq, Option, None, Some}
 use Rattle.std.specs.List.{flat_map, list_any}
 use Rattle.vx_election_model.specs.declared.election.Election.{Election}
 use Rattle.vx_rules.specs.declared.marks.ContestMarks.{ContestMarks}

@@ -1,4 +1,4 @@
-use Rattle.std.proofs.Common.{◌≡◌, sym}
+use Rattle.std.proofs.Common.{sym}
 use Rattle.vx_plane.proofs.Pages.{dark_at-inside, page_of-dark_at}
 use Rattle.vx_desk.specs.Pictures.{part_of, seen_from}
 use Rattle.vx_desk.specs.Regions.{height_of, width_of}

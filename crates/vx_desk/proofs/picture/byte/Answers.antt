@@ -1,4 +1,4 @@
-use Rattle.std.proofs.Common.{◌≡◌, ◌+◌, ◌*◌, ℕ, ap₂, ◌∙◌}
+use Rattle.std.proofs.Common.{◌+◌, ◌*◌, ℕ, ap₂, ◌∙◌}
 use Rattle.vx_desk.proofs.Packing.{byte_is}
 use Rattle.vx_desk.proofs.picture.byte.Goals as goal
 

@@ -1,4 +1,4 @@
-use Rattle.std.proofs.Common.{◌≡◌, ◌≤◌, ◌++◌, ◌∙◌, List, ℕ, ap, arith}
+use Rattle.std.proofs.Common.{◌≡◌, ◌++◌, ◌∙◌, List, ℕ, ap, arith}
 use Rattle.vx_bits.specs.Packed.{stride_of}
 use Rattle.vx_desk.specs.Regions.{width_of}
 use Rattle.vx_desk.proofs.Packing.{row_packed}

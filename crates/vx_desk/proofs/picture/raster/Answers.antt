@@ -1,4 +1,4 @@
-use Rattle.std.proofs.Common.{◌≡◌, ◌≤◌, ◌∙◌, arith}
+use Rattle.std.proofs.Common.{◌≡◌, ◌∙◌, arith}
 use Rattle.vx_desk.specs.Regions.{height_of}
 use Rattle.vx_desk.proofs.Packing.{rows_raster}
 use Rattle.vx_desk.proofs.picture.raster.Goals as goal

@@ -2,7 +2,7 @@ use Rattle.std.proofs.Common.{◌≡◌, ◌-ℤ◌, ◌+ℤ◌, ℤ, ap, ◌∙
 use Rattle.std.proofs.lemmas.Int.{ints}
 use Rattle.vx_grid.specs.Places.{IsWithin}
 use Rattle.vx_fit.specs.Fit.{part_of}
-use Rattle.vx_desk.proofs.Wide.{same_wide, step_near}
+use Rattle.vx_desk.proofs.Wide.{step_near}
 use Rattle.vx_desk.proofs.place.step.Goals as goal
 
 pub overflow_add-result : goal.overflow_add-result

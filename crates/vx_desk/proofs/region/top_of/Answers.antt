@@ -1,4 +1,4 @@
-use Rattle.std.proofs.Common.{◌≡◌, ◌∙◌, ap₂, ℕ, ℤ, to_z, of_z, w64}
+use Rattle.std.proofs.Common.{◌∙◌, ap₂, ℕ, ℤ}
 use Rattle.vx_desk.specs.Regions as spec
 use Rattle.vx_desk.proofs.Wide.{same_wide, wider}
 use Rattle.vx_desk.proofs.region.top_of.Goals as goal

@@ -1,4 +1,4 @@
-use Rattle.std.proofs.Common.{◌≡◌, ◌∙◌, ap, sym, Some}
+use Rattle.std.proofs.Common.{◌∙◌, ap, sym, Some}
 use Rattle.vx_events.specs.declared.key.Key.{Key}
 use Rattle.vx_desk.specs.Waits.{any_waits, key_of, sheet_waits}
 use Rattle.vx_desk.proofs.waiting.waits.Goals as goal
