@@ -1,0 +1,12 @@
+pub mod Json
+pub mod Page
+pub mod Escaped
+pub mod Waits
+pub mod Walk
+pub mod Kept
+pub mod Shown
+pub mod Regions
+pub mod Pictures
+pub mod Contests
+pub mod Lines
+pub mod Left

@@ -1,0 +1,140 @@
+//! A contest that waits, with all that its decision needs.
+
+ghost use Rattle.std.specs.Prelude.{◌≡◌, ◌<◌, ◌^◌, ◌++◌, All, IfOk, OnOk, map, true, not, filter};
+ghost use Rattle.serde_json.specs.Data.{Data};
+ghost use Rattle.serde_json.specs.View.{view};
+ghost use Rattle.vx_desk.specs.Regions.{HasFewOptions};
+ghost use Rattle.vx_events.specs.Fits.{is_read, is_sheet};
+ghost use Rattle.vx_rules.specs.Reasons.{is_blank_sheet};
+ghost use Rattle.vx_desk.specs.Contests as spec;
+ghost use Rattle.vx_desk.specs.Lines as lines;
+ghost use Rattle.vx_desk.specs.Waits.{waiting_contests};
+
+use crate::image::{Image, image_with};
+use crate::options::{options_of, reasons_of};
+use crate::picture::picture;
+use crate::region::region_round;
+use crate::waiting::contest_waits;
+use serde_json::{Value, json};
+use std::alloc::Global;
+use vx_base::OutOfMemory;
+use vx_center::Center;
+use vx_election_model::{Contest, Election, ReasonSet};
+use vx_events::Key;
+use vx_rules::{ContestMarks, SheetMarks, is_blank, reasons};
+
+/// A contest by its parts.
+fn contest_with(
+    alloc: Global,
+    contest: &Contest,
+    options: Value,
+    page: u32,
+    picture: Value,
+    reasons: Value,
+) -> Result<Value, OutOfMemory>
+    ensures { IfOk result (λ value. view value
+        ≡ spec.contest_with contest.now (view options) page (view picture) (view reasons)) }
+{
+    json!(in alloc; {
+        "id": contest.id.as_str(),
+        "options": options,
+        "page": page,
+        "picture": picture,
+        "reasons": reasons,
+        "seats": contest.seats,
+        "title": contest.title.as_str()
+    })
+}
+
+/// A contest with the reasons why it waits, on the page that shows it.
+fn contest_in(
+    alloc: Global,
+    contest: &Contest,
+    number: u32,
+    set: ReasonSet,
+    image: &Image<'_>,
+) -> Result<Value, OutOfMemory>
+    requires { HasFewOptions contest.now }
+    ensures { IfOk result (λ value. view value ≡ spec.contest_in contest.now number set image.now) }
+{
+    let region = region_round(image, contest, number);
+    let options = options_of(alloc, contest, number, image, region)?;
+    let picture = picture(alloc, image, region)?;
+    let words = reasons_of(alloc, set)?;
+    contest_with(alloc, contest, options, image.page(), picture, words)
+}
+
+/// A contest as it was read, which the election has, on the page that shows it.
+fn contest_data(
+    alloc: Global,
+    election: &Election,
+    sheet_blank: bool,
+    marks: &ContestMarks,
+    image: &Image<'_>,
+) -> Result<Value, OutOfMemory>
+    requires options { All HasFewOptions election.now.contests }
+    requires read { is_read election.now marks.now ≡ true }
+    ensures { IfOk result (λ value. view value
+        ≡ spec.contest_data election.now sheet_blank marks.now image.now) }
+{
+    let contest = &election.contests.as_slice()[marks.contest as usize];
+    let set = reasons(contest, &marks.states, sheet_blank, election.reasons);
+    contest_in(alloc, contest, marks.contest, set, image)
+}
+
+/// Adds a contest of a sheet, if it waits.
+fn push_contest(
+    alloc: Global,
+    values: &mut Vec<Value>,
+    election: &Election,
+    center: &Center<'_>,
+    key: &Key,
+    sheet_blank: bool,
+    marks: &ContestMarks,
+    first: &Image<'_>,
+    second: &Image<'_>,
+) -> Result<(), OutOfMemory>
+    requires options { All HasFewOptions election.now.contests }
+    requires read { is_read election.now marks.now ≡ true }
+    ensures { OnOk result (map view values.new.items ≡ map view values.old.items
+        ++ lines.contest_if election.now center.now.events key.now sheet_blank first.now second.now marks.now) }
+{
+    if contest_waits(election, center, key, sheet_blank, marks) {
+        let image = image_with(marks.contest, first, second);
+        values.push(contest_data(alloc, election, sheet_blank, marks, image)?)?;
+    }
+    Ok(())
+}
+
+/// The contests of a sheet that wait, in the sheet's order.
+pub(crate) fn waiting_contests(
+    alloc: Global,
+    election: &Election,
+    center: &Center<'_>,
+    key: &Key,
+    sheet: &SheetMarks,
+    first: &Image<'_>,
+    second: &Image<'_>,
+) -> Result<Value, OutOfMemory>
+    requires options { All HasFewOptions election.now.contests }
+    requires fits { is_sheet election.now sheet.now ≡ true }
+    ensures { IfOk result (λ value. view value ≡ lines.contests_of election.now center.now.events
+        key.now sheet.now first.now second.now) }
+{
+    let sheet_blank = is_blank(sheet);
+    let mut values = Vec::new(alloc);
+    for marks in sheet.contests.as_slice() {
+        push_contest(
+            alloc,
+            &mut values,
+            election,
+            center,
+            key,
+            sheet_blank,
+            marks,
+            first,
+            second,
+        )?;
+    }
+    Ok(Value::Array(values))
+}

@@ -1,0 +1,258 @@
+//! The lines of the desk's data.
+
+ghost use Rattle.std.specs.Prelude.{◌≡◌, ◌++◌, ◌-◌, ◌*◌, IfOk, OnOk, All, Some, true};
+ghost use Rattle.serde_json.specs.View.{view};
+ghost use Rattle.vx_election_model.specs.Valid.{IsValid};
+ghost use Rattle.vx_layout.specs.Plans.{ArePlansOf};
+ghost use Rattle.vx_center.specs.Holders.{holder_of};
+ghost use Rattle.vx_desk.specs.Regions.{HasFewOptions};
+ghost use Rattle.vx_events.specs.Fits.{is_sheet};
+ghost use Rattle.vx_sheet.specs.Came.{sheet_read};
+ghost use Rattle.vx_sheet.specs.Reads.{IsReadOf};
+ghost use Rattle.vx_sheet.specs.Shows.{IsOfPage};
+ghost use Rattle.vx_desk.specs.Kept as kept;
+ghost use Rattle.vx_desk.specs.Lines as lines;
+
+use crate::contests::waiting_contests;
+use crate::escape::push_line;
+use crate::find::find_sheet;
+use crate::image::Image;
+use crate::kept::is_that;
+use crate::left::left_over;
+use crate::waiting::any_waits;
+use serde_json::{Value, json};
+use std::alloc::Global;
+use vx_base::{Bytes, OutOfMemory};
+use vx_bits::BitView;
+use vx_center::Center;
+use vx_election_model::Election;
+use vx_events::Key;
+use vx_layout::{CardPlans, plans_show_each_option};
+use vx_rules::SheetMarks;
+use vx_sheet::{PageRead, read_sheet};
+
+/// The batch and the election's title.
+fn first_value(alloc: Global, election: &Election, batch: &str) -> Result<Value, OutOfMemory>
+    ensures { IfOk result (λ value. view value ≡ lines.first_data election.now batch.now) }
+{
+    json!(in alloc; {"batch": batch, "election": election.title.as_str()})
+}
+
+/// Adds the first line: the batch and the election's title.
+pub fn push_first(
+    alloc: Global,
+    text: &mut Bytes,
+    election: &Election,
+    batch: &str,
+) -> Result<(), OutOfMemory>
+    ensures { OnOk result (text.new ≡ text.old ++ lines.first_text election.now batch.now) }
+{
+    let value = first_value(alloc, election, batch)?;
+    push_line(alloc, text, &value)
+}
+
+/// Who holds a sheet, or nobody.
+fn holder(alloc: Global, center: &Center<'_>, key: &Key) -> Result<Value, OutOfMemory>
+    ensures { IfOk result (λ value. view value ≡ lines.holder_data (holder_of center.now.events key.now)) }
+{
+    match center.holder(key) {
+        None => Ok(Value::Null),
+        Some(station) => json!(in alloc; station),
+    }
+}
+
+/// A sheet whose images are what was kept: its contests that wait.
+fn kept_value(
+    alloc: Global,
+    election: &Election,
+    center: &Center<'_>,
+    key: &Key,
+    sheet: &SheetMarks,
+    first: &Image<'_>,
+    second: &Image<'_>,
+) -> Result<Value, OutOfMemory>
+    requires options { All HasFewOptions election.now.contests }
+    requires fits { is_sheet election.now sheet.now ≡ true }
+    ensures { IfOk result (λ value. view value ≡ lines.kept_data election.now center.now.events
+        key.now sheet.now first.now second.now) }
+{
+    let contests = waiting_contests(alloc, election, center, key, sheet, first, second)?;
+    let holder = holder(alloc, center, key)?;
+    json!(in alloc; {"contests": contests, "holder": holder, "number": key.number})
+}
+
+/// A sheet whose images are not what was kept.
+fn differing_value(alloc: Global, center: &Center<'_>, key: &Key) -> Result<Value, OutOfMemory>
+    ensures { IfOk result (λ value. view value ≡ lines.differing_data center.now.events key.now) }
+{
+    let holder = holder(alloc, center, key)?;
+    json!(in alloc; {"differs": true, "holder": holder, "number": key.number})
+}
+
+/// The two images of a sheet, and what they were read as.
+#[derive(Clone, Copy)]
+struct Images<'i> {
+    first: &'i BitView<'i>,
+    first_read: &'i PageRead,
+    second: &'i BitView<'i>,
+    second_read: &'i PageRead,
+}
+
+/// A sheet whose two images were read as what was kept.
+fn read_value(
+    alloc: Global,
+    election: &Election,
+    plans: &CardPlans,
+    center: &Center<'_>,
+    key: &Key,
+    sheet: &SheetMarks,
+    images: Images<'_>,
+) -> Result<Value, OutOfMemory>
+    requires valid { IsValid election.now }
+    requires plans { ArePlansOf election.now plans.now }
+    requires fits { is_sheet election.now sheet.now ≡ true }
+    requires first { IsReadOf election.now images.first.now images.first_read.now }
+    requires second { IsReadOf election.now images.second.now images.second_read.now }
+    ensures { IfOk result (λ value. view value ≡ lines.read_data election.now center.now.events key.now
+        sheet.now images.first.now images.second.now images.first_read.now images.second_read.now) }
+{
+    match (images.first_read, images.second_read) {
+        (Ok(one), Ok(other)) => {
+            let first = Image::new(election, plans, images.first, one);
+            let second = Image::new(election, plans, images.second, other);
+            kept_value(alloc, election, center, key, sheet, &first, &second)
+        }
+        _ => differing_value(alloc, center, key),
+    }
+}
+
+/// Whether the images of a sheet are read as what was kept.
+fn are_kept(
+    alloc: Global,
+    election: &Election,
+    plans: &CardPlans,
+    key: &Key,
+    sheet: &SheetMarks,
+    first: &PageRead,
+    second: &PageRead,
+) -> Result<bool, OutOfMemory>
+    requires valid { IsValid election.now }
+    requires plans { ArePlansOf election.now plans.now }
+    requires first { IfOk first.now (IsOfPage election.now) }
+    requires second { IfOk second.now (IsOfPage election.now) }
+    ensures { IfOk result (λ same. same ≡ kept.is_that sheet.now
+        (sheet_read election.now (2 * key.now.number - 1) first.now second.now)) }
+{
+    plans_show_each_option();
+    let image = (2 * u64::from(key.number)).saturating_sub(1);
+    let read = read_sheet(alloc, election, plans, image, first, second)?;
+    Ok(is_that(&read, sheet))
+}
+
+/// A sheet by its two images.
+fn sheet_value(
+    alloc: Global,
+    election: &Election,
+    plans: &CardPlans,
+    center: &Center<'_>,
+    key: &Key,
+    sheet: &SheetMarks,
+    images: Images<'_>,
+) -> Result<Value, OutOfMemory>
+    requires valid { IsValid election.now }
+    requires plans { ArePlansOf election.now plans.now }
+    requires fits { is_sheet election.now sheet.now ≡ true }
+    requires first { IsReadOf election.now images.first.now images.first_read.now }
+    requires second { IsReadOf election.now images.second.now images.second_read.now }
+    ensures { IfOk result (λ value. view value ≡ lines.sheet_data election.now center.now.events key.now
+        sheet.now images.first.now images.second.now) }
+{
+    let (first, second) = (images.first_read, images.second_read);
+    if are_kept(alloc, election, plans, key, sheet, first, second)? {
+        read_value(alloc, election, plans, center, key, sheet, images)
+    } else {
+        differing_value(alloc, center, key)
+    }
+}
+
+/// Adds the line of a sheet that was added, if a contest of it waits.
+fn push_found(
+    alloc: Global,
+    text: &mut Bytes,
+    election: &Election,
+    plans: &CardPlans,
+    center: &Center<'_>,
+    key: &Key,
+    sheet: &SheetMarks,
+    images: Images<'_>,
+) -> Result<(), OutOfMemory>
+    requires valid { IsValid election.now }
+    requires plans { ArePlansOf election.now plans.now }
+    requires same { center.now.election ≡ election.now }
+    requires fits { is_sheet election.now sheet.now ≡ true }
+    requires first { IsReadOf election.now images.first.now images.first_read.now }
+    requires second { IsReadOf election.now images.second.now images.second_read.now }
+    ensures { OnOk result (text.new ≡ text.old ++ lines.line_of election.now center.now.events key.now
+        images.first.now images.second.now (Some sheet.now)) }
+{
+    if !any_waits(election, center, key, sheet) {
+        return Ok(());
+    }
+    let value = sheet_value(alloc, election, plans, center, key, sheet, images)?;
+    push_line(alloc, text, &value)
+}
+
+/// Adds the line of the sheet of a batch with a number, of its first and second image and what they were
+/// read as; nothing where no contest of it waits.
+pub fn push_sheet(
+    alloc: Global,
+    text: &mut Bytes,
+    election: &Election,
+    plans: &CardPlans,
+    center: &Center<'_>,
+    batch: &str,
+    number: u64,
+    first: &BitView<'_>,
+    first_read: &PageRead,
+    second: &BitView<'_>,
+    second_read: &PageRead,
+) -> Result<(), OutOfMemory>
+    requires valid { IsValid election.now }
+    requires plans { ArePlansOf election.now plans.now }
+    requires same { center.now.election ≡ election.now }
+    requires first { IsReadOf election.now first.now first_read.now }
+    requires second { IsReadOf election.now second.now second_read.now }
+    ensures { OnOk result (text.new ≡ text.old
+        ++ lines.sheet_text election.now center.now.events batch.now number first.now second.now) }
+{
+    let images = Images {
+        first,
+        first_read,
+        second,
+        second_read,
+    };
+    match find_sheet(center, batch, number) {
+        None => Ok(()),
+        Some((key, sheet)) => {
+            push_found(alloc, text, election, plans, center, key, sheet, images)
+        }
+    }
+}
+
+/// Adds the last line: of the batch's sheets that wait, the numbers of those behind the first `sheets`,
+/// which have no images here, and how many contests wait in all.
+pub fn push_last(
+    alloc: Global,
+    text: &mut Bytes,
+    election: &Election,
+    center: &Center<'_>,
+    batch: &str,
+    sheets: u64,
+) -> Result<(), OutOfMemory>
+    requires { center.now.election ≡ election.now }
+    ensures { OnOk result (text.new
+        ≡ text.old ++ lines.last_text election.now center.now.events batch.now sheets) }
+{
+    let value = left_over(alloc, election, center, batch, sheets)?;
+    push_line(alloc, text, &value)
+}

@@ -1,0 +1,152 @@
+//! The part of a page round a contest's block.
+
+ghost use Rattle.std.specs.Prelude.{◌≡◌, ◌<◌, ◌≤◌, ◌^◌};
+ghost use Rattle.vx_election_model.specs.Options.{options_of};
+ghost use Rattle.vx_layout.specs.Blocks as blocks;
+ghost use Rattle.vx_layout.specs.Lines as text_lines;
+ghost use Rattle.vx_desk.specs.Regions as spec;
+ghost use Rattle.vx_desk.specs.Shown.{HasItsPlace};
+
+use crate::image::Image;
+use crate::place::place;
+use vx_election_model::Contest;
+use vx_json::characters_of;
+use vx_layout::Bubble;
+
+/// How far a picture reaches beside its block on each side: half a row of the grid, in pixels.
+const MARGIN: i64 = 25;
+
+/// How many characters a row of a block has.
+const ROW: usize = 58;
+
+/// A block by its outer grid columns and rows.
+#[derive(Clone, Copy)]
+pub(crate) struct Block {
+    pub(crate) left: u32,
+    pub(crate) right: u32,
+    pub(crate) top: u64,
+    pub(crate) bottom: u64,
+}
+
+/// A rectangle of pixels of a page: its first and last column and row.
+#[derive(Clone, Copy)]
+pub(crate) struct Region {
+    pub(crate) left: u32,
+    pub(crate) right: u32,
+    pub(crate) top: u32,
+    pub(crate) bottom: u32,
+}
+
+impl Region {
+    /// How many columns it has.
+    pub(crate) fn width(self) -> u32
+        requires { self.right < 4096 }
+        ensures value { result ≡ spec.width_of self }
+        ensures bound { result ≤ 4096 }
+    {
+        self.right.saturating_sub(self.left) + 1
+    }
+
+    /// How many rows it has.
+    pub(crate) fn height(self) -> u32
+        requires { self.bottom < 4096 }
+        ensures value { result ≡ spec.height_of self }
+        ensures bound { result ≤ 4096 }
+    {
+        self.bottom.saturating_sub(self.top) + 1
+    }
+}
+
+/// How many rows of a block a text takes.
+fn rows_of(text: &str) -> u64
+    ensures value { result ≡ text_lines.rows_of text.now }
+    ensures bound { result ≤ 2 ^ 59 }
+{
+    let count = characters_of(text);
+    (count / ROW + (count % ROW + 57) / ROW) as u64
+}
+
+/// What a contest asks beside its title: only a yes/no contest asks anything.
+fn description_of(contest: &Contest) -> &str
+    ensures { result.now ≡ blocks.description_of contest.now }
+{
+    if contest.is_yes_no {
+        contest.description.as_str()
+    } else {
+        ""
+    }
+}
+
+/// The rows of a block above those of its options.
+fn heading_rows(contest: &Contest) -> u64
+    ensures { result ≡ blocks.heading_rows contest.now }
+{
+    rows_of(contest.title.as_str()) + rows_of(description_of(contest)) + 1
+}
+
+/// The block of a contest whose first option has this bubble.
+fn block_of(contest: &Contest, bubble: Bubble) -> Block
+    requires options { options_of contest.now < 2 ^ 32 }
+    requires place { HasItsPlace bubble }
+    ensures value { result ≡ spec.block_of contest.now bubble }
+    ensures columns { (result.left ≤ 33) × (result.right ≤ 33) }
+    ensures rows { (result.top < 2 ^ 40) × (result.bottom < 2 ^ 40) }
+{
+    let row = u64::from(bubble.row);
+    let options = u64::from(contest.options());
+    Block {
+        left: bubble.col.saturating_sub(1),
+        right: bubble.col + 8,
+        top: row.saturating_sub(heading_rows(contest)),
+        bottom: (row + options).saturating_sub(1),
+    }
+}
+
+/// The column or row of a frame that is nearest to a whole number.
+fn nearest(size: u32, at: i64) -> u32
+    requires { 0 < size }
+    ensures value { result ≡ spec.nearest size at }
+    ensures bound { result < size }
+{
+    if at < 0 {
+        return 0;
+    }
+    (at as u64).min(u64::from(size) - 1) as u32
+}
+
+/// The rectangle round the four corners of a block, with the margin on each side, cut at the frame.
+fn region_of(image: &Image<'_>, block: Block) -> Region
+    requires columns { (block.left ≤ 33) × (block.right ≤ 33) }
+    requires rows { (block.top < 2 ^ 40) × (block.bottom < 2 ^ 40) }
+    ensures value { result ≡ spec.region_of image.now.page image.now.reading.border block }
+    ensures inside { spec.IsInside image.now.page result }
+{
+    let border = image.border();
+    let top_left = place(border, block.left, block.top);
+    let top_right = place(border, block.right, block.top);
+    let bottom_left = place(border, block.left, block.bottom);
+    let bottom_right = place(border, block.right, block.bottom);
+    Region {
+        left: nearest(image.width(), top_left.u.min(bottom_left.u) - MARGIN),
+        right: nearest(image.width(), top_right.u.max(bottom_right.u) + MARGIN),
+        top: nearest(image.height(), top_left.v.min(top_right.v) - MARGIN),
+        bottom: nearest(image.height(), bottom_left.v.max(bottom_right.v) + MARGIN),
+    }
+}
+
+/// The region of a contest on the page that shows it.
+pub(crate) fn region_round(image: &Image<'_>, contest: &Contest, number: u32) -> Region
+    requires { options_of contest.now < 2 ^ 32 }
+    ensures value { result ≡ spec.region_round contest.now number image.now }
+    ensures inside { spec.IsInside image.now.page result }
+{
+    region_of(image, block_of(contest, image.first_bubble(number)))
+}
+
+/// How far a whole number is behind a column or row, and nothing where it lies before it.
+pub(crate) fn behind(from: u32, at: i64) -> u64
+    requires { (from : ℕ) < 4096 }
+    ensures { result ≡ spec.behind from at }
+{
+    (at - i64::from(from)).max(0) as u64
+}
