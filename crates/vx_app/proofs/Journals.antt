@@ -17,7 +17,7 @@ use Rattle.vx_command_decide.specs.Outcome.{decide_outcome}
 use Rattle.vx_journal.specs.Laws.{FrontsAreJournals, HoldsJournal, IsJournal, JournalsStay, StaysJournal}
 use Rattle.vx_journal.specs.Replay.{replay_of}
 use Rattle.vx_words.specs.declared.command.Command.{Command}
-use Rattle.vx_words.specs.declared.command.Command.TheVariants.{Print, Read, Check, Count, Decide, Queue, Export, Demo, Center, Try, Cards, Results}
+use Rattle.vx_words.specs.declared.command.Command.TheVariants.{Print, Read, Check, Count, Decide, Queue, Export, Demo, Center, Try, Cards, Results, Sample, Desk}
 use Rattle.vx_words.specs.Words.{IsSound}
 use Rattle.vx_app.specs.Outcome.{appends, outcome_of}
 use Rattle.vx_app.specs.Journals.{AreRuns, HoldsMore, IsDoneOf, IsFor, IsRun, KeepsMore, Run, RunsKeepEvents, RunsLeaveJournals}
@@ -64,6 +64,8 @@ done-of (Demo seed sheets) files records taken taken_now held_now answer runs do
 done-of (Try name scans) files records taken taken_now held_now answer runs done = done
 done-of (Cards name) files records taken taken_now held_now answer runs done = done
 done-of (Results name) files records taken taken_now held_now answer runs done = done
+done-of (Sample name seed size hand) files records taken taken_now held_now answer runs done = absurd (false≢true runs)
+done-of (Desk name batch scans) files records taken taken_now held_now answer runs done = absurd (false≢true runs)
 done-of (Center name moment named items) files records taken taken_now held_now answer runs done = absurd (false≢true runs)
 
 module _ (count : CountKeepsJournals) (decide : DecideKeepsJournals) (center : CenterKeepsJournals) (stays : JournalsStay) (fronts : FrontsAreJournals) where
@@ -83,6 +85,8 @@ module _ (count : CountKeepsJournals) (decide : DecideKeepsJournals) (center : C
   kept-over (Try name scans) device files election records events taken taken_now held_now answer sound for_it is held done = unchanged election records events is held_now (held refl)
   kept-over (Cards name) device files election records events taken taken_now held_now answer sound for_it is held done = unchanged election records events is held_now (held refl)
   kept-over (Results name) device files election records events taken taken_now held_now answer sound for_it is held done = unchanged election records events is held_now (held refl)
+  kept-over (Sample name seed size hand) device files election records events taken taken_now held_now answer sound for_it is held done = unchanged election records events is held_now (held refl)
+  kept-over (Desk name batch scans) device files election records events taken taken_now held_now answer sound for_it is held done = unchanged election records events is held_now (held refl)
   kept-over (Center name moment named items) device files election records events taken taken_now held_now answer sound for_it is held done =
       appended election records events is stays fronts (center_outcome name moment named items files records done.history) taken taken_now held_now answer
       (center name moment named items files records done.history election sound.are_items for_it (is-ok_from (replay_of election records) events is)

@@ -19,7 +19,7 @@ ghost use Rattle.vx_app.specs.Counting.{IsCount};
 ghost use Rattle.vx_app.specs.Journals.{HoldsMore, IsFor};
 ghost use Rattle.vx_app.specs.Runs.{NoRun, SpellsRun, is_run};
 
-use crate::centering::is_center;
+use crate::centering::is_left_out;
 use std::alloc::Global;
 use std::thread::Threads;
 use vx_command::{Halt, Status, acts_in_order, status_of};
@@ -130,7 +130,7 @@ fn obey<R: Threads + Sync, I: Inputs, S: Sink, K: Keeper, G: Gate>(
             keeper,
         ),
         Command::Demo { seed, sheets } => demo(rt, alloc, seed, sheets, out),
-        Command::Center { .. } => unreachable!(),
+        Command::Center { .. } | Command::Sample { .. } | Command::Desk { .. } => unreachable!(),
         Command::Try { election, scans } => {
             try_sheets(alloc, election.as_str(), &scans, inputs, out)
         }
@@ -139,7 +139,7 @@ fn obey<R: Threads + Sync, I: Inputs, S: Sink, K: Keeper, G: Gate>(
     }
 }
 
-/// Does the command that the words spell, unless it is `center`; the workers of `count` go through the gate.
+/// Does the command that the words spell, unless it is one that `run` doesn't do; the workers of `count` go through the gate.
 fn run_words<R: Threads + Sync, I: Inputs, S: Sink, K: Keeper, G: Gate>(
     rt: &R,
     alloc: Global,
@@ -170,7 +170,7 @@ fn run_words<R: Threads + Sync, I: Inputs, S: Sink, K: Keeper, G: Gate>(
 {
     acts_in_order();
     words_spell_one_command();
-    if is_center(words) {
+    if is_left_out(words) {
         return Status::Usage;
     }
     match parse(alloc, words) {
@@ -181,7 +181,8 @@ fn run_words<R: Threads + Sync, I: Inputs, S: Sink, K: Keeper, G: Gate>(
 }
 
 /// Does a command but `center`, whole: reads its words, takes its inputs, writes what it writes and keeps
-/// what it keeps. The words of `center` are Usage here: `run_center` does them.
+/// what it keeps. The words of `center` are Usage here: `run_center` does them. So are those of `sample` and
+/// `desk`, which aren't made yet.
 ///
 /// Where the inputs tell what they hold, and the keeper if the command uses it, the acts of the
 /// command's outcome are done in order: all of them, and the status is the outcome's; or up to one at

@@ -17,7 +17,7 @@ use Rattle.vx_pbm.specs.FaultTexts.{pbm_fault_text}
 use Rattle.vx_refusals.specs.Texts.{readings_text, decision_text, journal_text}
 use Rattle.vx_command.specs.Causes.{sheet_text}
 use Rattle.vx_command.specs.declared.halt.Halt.{Halt}
-use Rattle.vx_command.specs.declared.halt.Halt.TheVariants.{NoInput, TooLong, Election, Layout, Pbm, NotCertified, Decision, Journal, TooManyEvents, NoSheet, ReadFault, WriteFault, KeeperFault, NoMemory}
+use Rattle.vx_command.specs.declared.halt.Halt.TheVariants.{NoInput, TooLong, Election, Layout, Pbm, NotCertified, Decision, Journal, TooManyEvents, NoSheet, Hand, ReadFault, WriteFault, KeeperFault, NoMemory}
 
 -- the number that the program ends with
 abbrev pub halt_number : Halt → ℕ
@@ -33,6 +33,7 @@ halt_number ReadFault = 10
 halt_number WriteFault = 11
 halt_number KeeperFault = 12
 halt_number NoMemory = 13
+halt_number (Hand line) = 15
 halt_number (TooManyEvents word count) = 18
 halt_number (NoSheet number cause) = 19
 
@@ -48,6 +49,7 @@ halt_line (Decision line fault) = codes "decision line " ++ decimal line ++ 32 �
 halt_line (Journal index stop) = codes "journal " ++ decimal index ++ 32 ∷ journal_text stop
 halt_line (TooManyEvents word count) = codes "too many events " ++ decimal word ++ 32 ∷ decimal count
 halt_line (NoSheet number cause) = codes "sheet " ++ decimal number ++ 32 ∷ sheet_text cause
+halt_line (Hand line) = codes "hand " ++ decimal line
 halt_line ReadFault = codes "read fault"
 halt_line WriteFault = codes "write fault"
 halt_line KeeperFault = codes "keeper fault"

@@ -34,6 +34,9 @@ pub enum Halt {
     TooManyEvents(u32, u64),
     /// The images of the sheet with that number, from 1, are no sheet.
     NoSheet(u64, SheetCause),
+    /// That line of what hands read isn't one, names what the report hasn't, or repeats a pair. Lines are
+    /// counted from 1.
+    Hand(u32),
     /// The inputs failed.
     ReadFault,
     /// The sink failed.
@@ -62,6 +65,7 @@ impl Halt {
             Halt::WriteFault => 11,
             Halt::KeeperFault => 12,
             Halt::NoMemory => 13,
+            Halt::Hand(_) => 15,
             Halt::TooManyEvents(_, _) => 18,
             Halt::NoSheet(_, _) => 19,
         }
@@ -87,6 +91,7 @@ impl fmt::Display for Halt {
             Halt::Journal(index, stop) => write!(f, "journal {index} {stop}"),
             Halt::TooManyEvents(word, count) => write!(f, "too many events {word} {count}"),
             Halt::NoSheet(number, cause) => write!(f, "sheet {number} {cause}"),
+            Halt::Hand(line) => write!(f, "hand {line}"),
             Halt::ReadFault => f.write_str("read fault"),
             Halt::WriteFault => f.write_str("write fault"),
             Halt::KeeperFault => f.write_str("keeper fault"),

@@ -3,8 +3,9 @@ use Rattle.std.proofs.Common.{◌≡◌, ℕ, Bool, true, false, zero, suc, ◌+
 use Rattle.std.specs.Prelude.{codes, slice_get, MatchBool}
 use Rattle.std.proofs.lemmas.Bool.{false≢true}
 use Rattle.std.proofs.lemmas.Fmt.{decimal_injective}
+use Rattle.vx_words.specs.Samples.{IsSeed, IsSize}
 use Rattle.vx_words.specs.Words.{IsArgument}
-use Rattle.vx_command_audit.specs.Words.{Asked, Totals, Audit, Asks, AsksNothing, HasAuditForm, IsSeed, IsSize, SpellsAudit, SpellsTotals}
+use Rattle.vx_command_audit.specs.Words.{Asked, Totals, Audit, Asks, AsksNothing, HasAuditForm, SpellsAudit, SpellsTotals}
 
 -- two words
 pub two-words : (words : List (List ℕ)) (a b : List ℕ) → length words ≡ 2 → slice_get words 0 ≡ Some a → slice_get words 1 ≡ Some b → words ≡ a ∷ b ∷ []

@@ -1,8 +1,6 @@
 -- Which words are a `totals` and which an `audit`.
-use Rattle.std.specs.Prelude.{◌≡◌, ◌≤◌, ℕ, ◌&&◌, ◌||◌, Bool, true, List, [], ◌∷◌, codes, nat_le, Ok}
-use Rattle.std.specs.Fmt.{decimal}
-use Rattle.std.specs.List.{list_all}
-use Rattle.hex.specs.Hex.{decode_sized}
+use Rattle.std.specs.Prelude.{◌≡◌, ℕ, List, [], ◌∷◌, codes}
+use Rattle.vx_words.specs.Samples.{IsSeed, IsSize}
 use Rattle.vx_words.specs.Words.{IsArgument}
 
 -- what the words ask for: the totals of a report; or its audit by the words of a generator with a seed, so many, and what
@@ -10,21 +8,6 @@ use Rattle.vx_words.specs.Words.{IsArgument}
 pub data Asked : Type 0 where
   Totals : List ℕ → Asked
   Audit : List ℕ → List ℕ → ℕ → List ℕ → Asked
-
--- a hexadecimal digit, in lower case
-abbrev pub is_lower_digit : ℕ → Bool
-is_lower_digit byte = nat_le 48 byte && nat_le byte 57 || nat_le 97 byte && nat_le byte 102
-
--- 64 of them, as the 32 bytes that they are
-pub record IsSeed (word seed : List ℕ) : Type 0 where
-  pub digits : decode_sized word 32 ≡ Ok seed
-  pub lower : list_all is_lower_digit word ≡ true
-
--- 1 to 10,000, without a sign and without a leading zero
-pub record IsSize (word : List ℕ) (size : ℕ) : Type 0 where
-  pub digits : word ≡ decimal size
-  pub some : 1 ≤ size
-  pub few : size ≤ 10000
 
 -- `totals REPORT`
 pub record SpellsTotals (words : List (List ℕ)) (report : List ℕ) : Type 0 where

@@ -7,12 +7,13 @@ ghost use Rattle.vx_command_audit.specs.Outcome.{asked_outcome};
 ghost use Rattle.vx_command_audit.specs.Status.{answer_of, may_have_written};
 ghost use Rattle.vx_command_audit.specs.Words.{Asked, Audit, Totals, Asks, AsksNothing};
 
-use crate::asking::{is_audit_form, seed_of, size_of, totals_in};
+use crate::asking::{is_audit_form, totals_in};
 use crate::status::AuditStatus;
 use crate::taking::{take_hand, take_report};
 use crate::writing::{write_audit, write_totals};
 use std::alloc::Global;
 use vx_io::{Inputs, Sink, Words};
+use vx_words::{sample_seed, sample_size};
 
 /// Does the command `totals` of the report under a name.
 fn totals<I: Inputs, S: Sink>(alloc: Global, name: &str, inputs: &mut I, out: &mut S) -> AuditStatus
@@ -89,10 +90,10 @@ pub fn run_audit<I: Inputs, S: Sink>(
     if !is_audit_form(words) {
         return AuditStatus::Usage;
     }
-    let Some(seed) = seed_of(words.word(2)) else {
+    let Some(seed) = sample_seed(words.word(2)) else {
         return AuditStatus::Usage;
     };
-    let Some(size) = size_of(words.word(3)) else {
+    let Some(size) = sample_size(words.word(3)) else {
         return AuditStatus::Usage;
     };
     audit(alloc, words.word(1), seed, size, words.word(4), inputs, out)

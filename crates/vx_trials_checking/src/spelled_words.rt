@@ -90,6 +90,34 @@ fn with_parts(alloc: Global, command: &Command) -> Result<String, Fail> {
     })
 }
 
+/// A sample or a desk in the debug form of its parts.
+fn with_more(alloc: Global, command: &Command) -> Result<String, Fail> {
+    Ok(match command {
+        Command::Sample {
+            election,
+            seed,
+            size,
+            hand,
+        } => {
+            let election = election.as_str();
+            format!(in alloc;
+                "sample {election} {} {size} {}",
+                seed.as_str(),
+                hand.as_str()
+            )?
+        }
+        Command::Desk {
+            election,
+            batch,
+            scans,
+        } => {
+            let election = election.as_str();
+            format!(in alloc; "desk {election} {} {}", batch.as_str(), scans.len())?
+        }
+        _ => String::new(alloc),
+    })
+}
+
 /// A command in the debug form of its parts.
 fn told_of(alloc: Global, command: &Command) -> Result<String, Fail> {
     match command {
@@ -98,6 +126,7 @@ fn told_of(alloc: Global, command: &Command) -> Result<String, Fail> {
         Command::Queue { election } => alone(alloc, "queue", election),
         Command::Cards { election } => alone(alloc, "cards", election),
         Command::Results { election } => alone(alloc, "results", election),
+        Command::Sample { .. } | Command::Desk { .. } => with_more(alloc, command),
         _ => with_parts(alloc, command),
     }
 }
@@ -112,6 +141,8 @@ fn told(rt: &HostRuntime, words: &Words) -> Result<String, Fail> {
 }
 
 const DEVICE: &str = "00000000-0000-4000-8000-00000000000a";
+
+const SEED: &str = "00000000000000000000000000000000000000000000000000000000000000af";
 
 /// Lines of words and what they are read as.
 const LINES: &[(&[&str], &str)] = &[
@@ -156,6 +187,33 @@ const LINES: &[(&[&str], &str)] = &[
     (&["results", "e", "more"], "usage"),
     (&["try", "e"], "usage"),
     (&["try", "e", "s"], "try e 1"),
+    (
+        &["sample", "e", SEED, "1", "h"],
+        "sample e 00000000000000000000000000000000000000000000000000000000000000af 1 h",
+    ),
+    (
+        &["sample", "e", SEED, "10000", "h"],
+        "sample e 00000000000000000000000000000000000000000000000000000000000000af 10000 h",
+    ),
+    (&["sample", "e", SEED, "10001", "h"], "usage"),
+    (&["sample", "e", SEED, "0", "h"], "usage"),
+    (&["sample", "e", SEED, "01", "h"], "usage"),
+    (&["sample", "e", "af", "1", "h"], "usage"),
+    (
+        &[
+            "sample",
+            "e",
+            "00000000000000000000000000000000000000000000000000000000000000aF",
+            "1",
+            "h",
+        ],
+        "usage",
+    ),
+    (&["sample", "e", SEED, "1"], "usage"),
+    (&["sample", "e", SEED, "1", "h", "more"], "usage"),
+    (&["desk", "e", "b-1", "s", "t"], "desk e b-1 2"),
+    (&["desk", "e", "b-1"], "usage"),
+    (&["desk", "e", "b.1", "s"], "usage"),
     (
         &["export", "e", "2024-02-29T23:59:59Z", DEVICE],
         "export e 2024-02-29T23:59:59Z 00000000-0000-4000-8000-00000000000a",
@@ -247,6 +305,8 @@ const SCANS: &[(&[&str], u32, &str)] = &[
     (&["count", "e", "b1", "1"], 65, "usage"),
     (&["try", "e"], 64, "try e 64"),
     (&["try", "e"], 65, "usage"),
+    (&["desk", "e", "b1"], 64, "desk e b1 64"),
+    (&["desk", "e", "b1"], 65, "usage"),
 ];
 
 #[test]

@@ -8,7 +8,7 @@ use Rattle.std.proofs.lemmas.List.Elements.{All-cons, All-nil}
 use Rattle.vx_grid.specs.declared.kind.Kind.{Kind}
 use Rattle.vx_grid.specs.Kinds.{kind_word}
 use Rattle.vx_words.specs.declared.command.Command.{Command}
-use Rattle.vx_words.specs.declared.command.Command.TheVariants.{Print, Read, Check, Count, Decide, Queue, Export, Demo, Center, Try, Cards, Results}
+use Rattle.vx_words.specs.declared.command.Command.TheVariants.{Print, Read, Check, Count, Decide, Queue, Export, Demo, Center, Try, Cards, Results, Sample, Desk}
 use Rattle.vx_words.specs.declared.command.ItemWord.{ItemWord}
 use Rattle.vx_words.specs.declared.name.Name.{Name}
 use Rattle.vx_words.specs.declared.name.Name.TheVariants as names
@@ -33,6 +33,8 @@ found names.Center = refl
 found names.Try = refl
 found names.Cards = refl
 found names.Results = refl
+found names.Sample = refl
+found names.Desk = refl
 
 -- the command with a name that words spell, if they spell one
 abbrev pub command_at : Name → List (List ℕ) → Command
@@ -48,6 +50,8 @@ command_at names.Center words = Center (get_or words 1 []) (get_or words 2 []) (
 command_at names.Try words = Try (get_or words 1 []) (drop 2 words)
 command_at names.Cards words = Cards (get_or words 1 [])
 command_at names.Results words = Results (get_or words 1 [])
+command_at names.Sample words = Sample (get_or words 1 []) (get_or words 2 []) (digits_value 10 (get_or words 3 [])) (get_or words 4 [])
+command_at names.Desk words = Desk (get_or words 1 []) (get_or words 2 []) (drop 3 words)
 
 -- a command is the one that its words spell
 pub command_back : (device : List ℕ) (command : Command) → IsSound device command → command_at (name_of command) (words_with device command) ≡ command
@@ -72,6 +76,9 @@ command_back device (Center election moment named items) sound =
 command_back device (Try election scans) sound = refl
 command_back device (Cards election) sound = refl
 command_back device (Results election) sound = refl
+command_back device (Sample election seed size hand) sound =
+    ap (λ (n : ℕ). Sample election seed n hand) (decimal_is_IsNumeral size (omega (arith, sound.is_size.few))).1
+command_back device (Desk election batch scans) sound = refl
 
 -- a command's words, its name behind them
 pub named : (device : List ℕ) (command : Command) → IsSound device command → HasName (words_with device command) (name_of command)
@@ -148,4 +155,20 @@ named device (Results election) sound = record {
   enough = omega arith;
   no_more = omega arith;
   arguments = All-cons IsArgument election [] sound (All-nil IsArgument);
+}
+named device (Sample election seed size hand) sound = record {
+  first = refl;
+  enough = omega arith;
+  no_more = omega arith;
+  arguments = All-cons IsArgument election (seed ∷ decimal size ∷ hand ∷ []) sound.is_argument
+      (All-cons IsArgument seed (decimal size ∷ hand ∷ []) sound.seed_is_argument
+      (All-cons IsArgument (decimal size) (hand ∷ []) (number_is_argument size (omega (arith, sound.is_size.few)))
+      (All-cons IsArgument hand [] sound.hand_is_argument (All-nil IsArgument))));
+}
+named device (Desk election batch scans) sound = record {
+  first = refl;
+  enough = omega (arith, sound.are_scans.some);
+  no_more = omega (arith, sound.are_scans.few);
+  arguments = All-cons IsArgument election (batch ∷ scans) sound.is_argument
+      (All-cons IsArgument batch scans sound.batch_is_argument sound.are_scans.are_arguments);
 }

@@ -10,15 +10,16 @@ use Rattle.vx_grid.specs.declared.kind.Kind.TheVariants.{Other}
 use Rattle.vx_grid.specs.Kinds.{kind_word}
 use Rattle.vx_events.specs.Fits.{is_batch}
 use Rattle.vx_words.specs.declared.command.Command.{Command}
-use Rattle.vx_words.specs.declared.command.Command.TheVariants.{Print, Read, Check, Count, Decide, Export, Demo, Try}
+use Rattle.vx_words.specs.declared.command.Command.TheVariants.{Print, Read, Check, Count, Decide, Export, Demo, Try, Sample, Desk}
 use Rattle.vx_words.specs.Moments.{is_moment}
+use Rattle.vx_words.specs.Samples.{IsSeed, IsSize}
 use Rattle.vx_words.specs.Devices.{device_of}
 use Rattle.vx_words.specs.Words.{IsArgument, NoCommand, Spells}
 use Rattle.vx_words.specs.declared.name.Name.TheVariants as names
 use Rattle.vx_words.specs.Names.{name_word}
 use Rattle.vx_words.proofs.OneSpelling.{spells_it}
 use Rattle.vx_words.proofs.Parts.{known}
-use Rattle.vx_words.proofs.Spellings.{check_spelled, count_spelled, decide_spelled, demo_spelled, export_spelled, no_sheets, no_workers, print_spelled, read_spelled, try_spelled}
+use Rattle.vx_words.proofs.Spellings.{check_spelled, count_spelled, decide_spelled, demo_spelled, desk_spelled, export_spelled, no_sheets, no_workers, print_spelled, read_spelled, sample_spelled, try_spelled}
 
 -- what the text past the end of a slice is
 abbrev pub nowhere : Bor (List ℕ)
@@ -173,3 +174,28 @@ no_device_made (a ∷ b ∷ c ∷ more) none three bad = λ command spelled.
     let is : IsExport (name_word names.Export ∷ a.now ∷ b.now ∷ c.now ∷ shown more) = exported (a.now ∷ b.now ∷ c.now ∷ shown more) command spelled in
     let same : c.now ≡ is.device = ap (λ (w : List (List ℕ)). get_or w 3 []) is.words_are in
     false≢true (ap is_some (bad ∙ ap device_of same ∙ is.is_named))
+
+pub sample_made :
+    (words : List (Bor (List ℕ))) (none : Bor (List ℕ)) (bytes : List ℕ) (size : ℕ) → 4 ≤ length words → length words < 5 → All IsArgument (shown words)
+    → IsSeed (get_or words 1 none).now bytes → IsSize (get_or words 2 none).now size
+    → Spells (name_word names.Sample ∷ shown words) (Sample (get_or words 0 none).now (get_or words 1 none).now size (get_or words 3 none).now)
+sample_made [] none bytes size least most are is_seed is_size = absurd (omega (arith, least))
+sample_made (a ∷ []) none bytes size least most are is_seed is_size = absurd (omega (arith, least))
+sample_made (a ∷ b ∷ []) none bytes size least most are is_seed is_size = absurd (omega (arith, least))
+sample_made (a ∷ b ∷ c ∷ []) none bytes size least most are is_seed is_size = absurd (omega (arith, least))
+sample_made (a ∷ b ∷ c ∷ d ∷ []) none bytes size least most are is_seed is_size =
+    sample_spelled (name_word names.Sample ∷ a.now ∷ b.now ∷ c.now ∷ d.now ∷ []) b.now c.now bytes size
+    (record { first = refl; enough = omega arith; no_more = omega arith; arguments = are }) refl refl is_seed is_size
+sample_made (a ∷ b ∷ c ∷ d ∷ e ∷ more) none bytes size least most are is_seed is_size = absurd (omega (arith, most))
+
+pub desk_made :
+    (words : List (Bor (List ℕ))) (none : Bor (List ℕ)) → 3 ≤ length words → length words ≤ 66 → All IsArgument (shown words)
+    → is_batch (get_or words 1 none).now ≡ true
+    → Spells (name_word names.Desk ∷ shown words) (Desk (get_or words 0 none).now (get_or words 1 none).now (drop 2 (shown words)))
+desk_made [] none least most are good = absurd (omega (arith, least))
+desk_made (a ∷ []) none least most are good = absurd (omega (arith, least))
+desk_made (a ∷ b ∷ []) none least most are good = absurd (omega (arith, least))
+desk_made (a ∷ b ∷ c ∷ more) none least most are good =
+    let size : length (shown more) ≡ length more = length-map more (λ (word : Bor (List ℕ)). word.now) in
+    desk_spelled (name_word names.Desk ∷ a.now ∷ b.now ∷ c.now ∷ shown more) b.now
+    (record { first = refl; enough = omega (arith, size); no_more = omega (arith, size, most); arguments = are }) refl good

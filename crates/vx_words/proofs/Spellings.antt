@@ -11,11 +11,12 @@ use Rattle.vx_grid.specs.declared.kind.Kind.{Kind}
 use Rattle.vx_grid.specs.declared.kind.Kind.TheVariants.{Other}
 use Rattle.vx_grid.specs.Kinds.{kind_word}
 use Rattle.vx_words.specs.declared.command.Command.{Command}
-use Rattle.vx_words.specs.declared.command.Command.TheVariants.{Print, Read, Check, Count, Decide, Queue, Export, Demo, Try, Cards, Results}
+use Rattle.vx_words.specs.declared.command.Command.TheVariants.{Print, Read, Check, Count, Decide, Queue, Export, Demo, Try, Cards, Results, Sample, Desk}
 use Rattle.vx_words.specs.declared.fault.UsageFault.{UsageFault}
 use Rattle.vx_words.specs.declared.fault.UsageFault.TheVariants.{Usage, OutOfMemory}
 use Rattle.vx_events.specs.Fits.{is_batch}
 use Rattle.vx_words.specs.Moments.{is_moment}
+use Rattle.vx_words.specs.Samples.{IsSeed, IsSize, decoded, seed_bytes}
 use Rattle.vx_words.specs.Devices.{device_of}
 use Rattle.vx_words.specs.Words.{HasName, IsArgument, NoCommand, Parses, Spells, name_of}
 use Rattle.vx_words.specs.declared.name.Name.{Name}
@@ -276,3 +277,63 @@ pub has_name : (words : List (List ℕ)) (word : List ℕ) (name : Name) → sli
     → (row_of name).least ≤ length words → length words ≤ (row_of name).most → All IsArgument (drop 1 words) → HasName words name
 has_name words word name at_0 is enough no_more are =
     record { first = at_0 ∙ ap Some (sym (its_word word name (sym is))); enough = enough; no_more = no_more; arguments = are }
+
+-- a seed's word is one with its own bytes
+pub own_seed : (word bytes : List ℕ) → IsSeed word bytes → IsSeed word (seed_bytes word)
+own_seed word bytes is = record { digits = is.digits ∙ sym (ap (λ r. Ok (decoded r)) is.digits); lower = is.lower }
+
+-- a size's word is that of its number
+pub own_size : (word : List ℕ) (size : ℕ) → IsSize word size → IsSize (decimal size) size
+own_size word size is = record { digits = refl; some = is.some; few = is.few }
+
+-- the words of a sample
+pub sample_spelled :
+    (words : List (List ℕ)) (seed word bytes : List ℕ) (size : ℕ) → HasName words names.Sample
+    → slice_get words 2 ≡ Some seed → slice_get words 3 ≡ Some word → IsSeed seed bytes → IsSize word size
+    → Spells words (Sample (get_or words 1 []) (get_or words 2 []) size (get_or words 4 []))
+sample_spelled [] seed word bytes size called at_2 at_3 is_seed is_size = absurd (omega (arith, called.enough))
+sample_spelled (a ∷ []) seed word bytes size called at_2 at_3 is_seed is_size = absurd (omega (arith, called.enough))
+sample_spelled (a ∷ b ∷ []) seed word bytes size called at_2 at_3 is_seed is_size = absurd (omega (arith, called.enough))
+sample_spelled (a ∷ b ∷ c ∷ []) seed word bytes size called at_2 at_3 is_seed is_size = absurd (omega (arith, called.enough))
+sample_spelled (a ∷ b ∷ c ∷ d ∷ []) seed word bytes size called at_2 at_3 is_seed is_size = absurd (omega (arith, called.enough))
+sample_spelled (name ∷ election ∷ c ∷ d ∷ hand ∷ []) seed word bytes size called at_2 at_3 is_seed is_size =
+    let behind : All IsArgument (c ∷ d ∷ hand ∷ []) = All-tail IsArgument election (c ∷ d ∷ hand ∷ []) called.arguments in
+    let further : All IsArgument (d ∷ hand ∷ []) = All-tail IsArgument c (d ∷ hand ∷ []) behind in
+    let its_seed : c ≡ seed = cc in
+    let its_size : d ≡ word = cc in
+    let printed : word ≡ decimal size = is_size.digits in
+    record {
+      device = [];
+      words_are = (let first = called.first in cc);
+      sound = record {
+        is_argument = All-head IsArgument election (c ∷ d ∷ hand ∷ []) called.arguments;
+        seed_is_argument = All-head IsArgument c (d ∷ hand ∷ []) behind;
+        is_seed = own_seed c bytes (subst (λ (w : List ℕ). IsSeed w bytes) (sym its_seed) is_seed);
+        is_size = own_size word size is_size;
+        hand_is_argument = All-head IsArgument hand [] (All-tail IsArgument d (hand ∷ []) further);
+      };
+    }
+sample_spelled (a ∷ b ∷ c ∷ d ∷ e ∷ f ∷ more) seed word bytes size called at_2 at_3 is_seed is_size = absurd (omega (arith, called.no_more))
+
+-- the words of a desk
+pub desk_spelled : (words : List (List ℕ)) (batch : List ℕ) → HasName words names.Desk → slice_get words 2 ≡ Some batch → is_batch batch ≡ true
+    → Spells words (Desk (get_or words 1 []) (get_or words 2 []) (drop 3 words))
+desk_spelled [] batch called at_2 good = absurd (omega (arith, called.enough))
+desk_spelled (a ∷ []) batch called at_2 good = absurd (omega (arith, called.enough))
+desk_spelled (a ∷ b ∷ []) batch called at_2 good = absurd (omega (arith, called.enough))
+desk_spelled (name ∷ election ∷ c ∷ scans) batch called at_2 good =
+    let behind : All IsArgument (c ∷ scans) = All-tail IsArgument election (c ∷ scans) called.arguments in
+    record {
+      device = [];
+      words_are = (let first = called.first in cc);
+      sound = record {
+        is_argument = All-head IsArgument election (c ∷ scans) called.arguments;
+        batch_is_argument = All-head IsArgument c scans behind;
+        batch_in_range = (let same : c ≡ batch = cc in ap is_batch same ∙ good);
+        are_scans = record {
+          some = omega (arith, called.enough);
+          few = omega (arith, called.no_more);
+          are_arguments = All-tail IsArgument c scans behind;
+        };
+      };
+    }

@@ -1,5 +1,6 @@
 pub mod Moments
 pub mod Devices
+pub mod Samples
 pub mod Names
 pub mod Words
 pub mod Line

@@ -2,7 +2,7 @@
 use Rattle.std.specs.Prelude.{ℕ, List, [], ◌∷◌, Option, codes, find}
 use Rattle.std.specs.Str.{bytes_eq}
 use Rattle.vx_words.specs.declared.name.Name.{Name}
-use Rattle.vx_words.specs.declared.name.Name.TheVariants.{Print, Read, Check, Count, Decide, Queue, Export, Demo, Center, Try, Cards, Results}
+use Rattle.vx_words.specs.declared.name.Name.TheVariants.{Print, Read, Check, Count, Decide, Queue, Export, Demo, Center, Try, Cards, Results, Sample, Desk}
 
 -- a command's name, and how many words it has at least and at most, its name among them
 pub record Row : Type 0 where
@@ -27,10 +27,12 @@ row_of Center = row (codes "center") 5 20
 row_of Try = row (codes "try") 3 66
 row_of Cards = row (codes "cards") 2 2
 row_of Results = row (codes "results") 2 2
+row_of Sample = row (codes "sample") 5 5
+row_of Desk = row (codes "desk") 4 67
 
 -- all commands, in the table's order
 abbrev pub all_names : List Name
-all_names = Print ∷ Read ∷ Check ∷ Count ∷ Decide ∷ Queue ∷ Export ∷ Demo ∷ Center ∷ Try ∷ Cards ∷ Results ∷ []
+all_names = Print ∷ Read ∷ Check ∷ Count ∷ Decide ∷ Queue ∷ Export ∷ Demo ∷ Center ∷ Try ∷ Cards ∷ Results ∷ Sample ∷ Desk ∷ []
 
 -- the word that names a command
 abbrev pub name_word : Name → List ℕ

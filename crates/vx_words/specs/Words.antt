@@ -6,7 +6,7 @@ use Rattle.vx_grid.specs.declared.kind.Kind.TheVariants.{Other}
 use Rattle.vx_grid.specs.Kinds.{kind_word}
 use Rattle.vx_events.specs.Fits.{is_batch}
 use Rattle.vx_words.specs.declared.command.Command.{Command}
-use Rattle.vx_words.specs.declared.command.Command.TheVariants.{Print, Read, Check, Count, Decide, Queue, Export, Demo, Center, Try, Cards, Results}
+use Rattle.vx_words.specs.declared.command.Command.TheVariants.{Print, Read, Check, Count, Decide, Queue, Export, Demo, Center, Try, Cards, Results, Sample, Desk}
 use Rattle.vx_words.specs.declared.command.ItemWord.{ItemWord}
 use Rattle.vx_words.specs.declared.fault.UsageFault.{UsageFault}
 use Rattle.vx_words.specs.declared.fault.UsageFault.TheVariants.{Usage, OutOfMemory}
@@ -14,6 +14,7 @@ use Rattle.vx_words.specs.declared.name.Name.{Name}
 use Rattle.vx_words.specs.declared.name.Name.TheVariants as names
 use Rattle.vx_words.specs.Names.{name_word, row_of}
 use Rattle.vx_words.specs.Moments.{is_moment}
+use Rattle.vx_words.specs.Samples.{IsSeed, IsSize, seed_bytes}
 use Rattle.vx_words.specs.Devices.{device_of}
 use Rattle.vx_words.specs.Items.{AreItemWords, item_word}
 
@@ -31,6 +32,8 @@ name_of (Center election moment named items) = names.Center
 name_of (Try election scans) = names.Try
 name_of (Cards election) = names.Cards
 name_of (Results election) = names.Results
+name_of (Sample election seed size hand) = names.Sample
+name_of (Desk election batch scans) = names.Desk
 
 -- the words behind a command's name, where the word that names its device is this one
 abbrev pub behind_name : List ℕ → Command → List (List ℕ)
@@ -46,6 +49,8 @@ behind_name device (Center election moment named items) = election ∷ moment �
 behind_name device (Try election scans) = election ∷ scans
 behind_name device (Cards election) = election ∷ []
 behind_name device (Results election) = election ∷ []
+behind_name device (Sample election seed size hand) = election ∷ seed ∷ decimal size ∷ hand ∷ []
+behind_name device (Desk election batch scans) = election ∷ batch ∷ scans
 
 -- the words of a command
 abbrev pub words_with : List ℕ → Command → List (List ℕ)
@@ -100,6 +105,21 @@ pub record IsSoundCenter (election moment device named : List ℕ) (items : List
   pub as_export : IsSoundExport election moment device named
   pub are_items : AreItemWords items
 
+-- a seed, a size, and what hands read
+pub record IsSoundSample (election seed : List ℕ) (size : ℕ) (hand : List ℕ) : Type 0 where
+  pub is_argument : IsArgument election
+  pub seed_is_argument : IsArgument seed
+  pub is_seed : IsSeed seed (seed_bytes seed)
+  pub is_size : IsSize (decimal size) size
+  pub hand_is_argument : IsArgument hand
+
+-- a batch and its scans
+pub record IsSoundDesk (election batch : List ℕ) (scans : List (List ℕ)) : Type 0 where
+  pub is_argument : IsArgument election
+  pub batch_is_argument : IsArgument batch
+  pub batch_in_range : is_batch batch ≡ true
+  pub are_scans : AreScans scans
+
 -- the parts of a command are in their ranges
 abbrev pub IsSound : List ℕ → Command → Type 0
 IsSound device (Print election card kind test) = IsSoundPrint election card kind
@@ -114,6 +134,8 @@ IsSound device (Center election moment named items) = IsSoundCenter election mom
 IsSound device (Try election scans) = IsSoundRead election scans
 IsSound device (Cards election) = IsArgument election
 IsSound device (Results election) = IsArgument election
+IsSound device (Sample election seed size hand) = IsSoundSample election seed size hand
+IsSound device (Desk election batch scans) = IsSoundDesk election batch scans
 
 -- The words are this command. It has one spelling, but for the word that names a device, which has several.
 pub record Spells (words : List (List ℕ)) (command : Command) : Type 0 where

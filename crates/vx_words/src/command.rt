@@ -79,6 +79,21 @@ pub enum Command {
     Results {
         election: Text,
     },
+    /// Compare records of the count that a seed draws with what hands read.
+    Sample {
+        election: Text,
+        /// 64 hexadecimal digits in lower case, as it was given.
+        seed: Text,
+        /// How many words are drawn, from 1 to 10,000.
+        size: u32,
+        hand: Text,
+    },
+    /// Write a page that shows each contest of a batch that waits, with its picture from the scans.
+    Desk {
+        election: Text,
+        batch: Text,
+        scans: Texts,
+    },
 }
 
 /// An item of a count, as a word names it.

@@ -9,6 +9,7 @@ use crate::items::are_items;
 use crate::kinds::kind_and_test;
 use crate::moment::{is_device, is_moment};
 use crate::name::{Name, Row, name_in, row_in_table};
+use crate::sample::{sample_seed, sample_size};
 use crate::seed::read_seed;
 use vx_base::read_number;
 use vx_events::is_batch;
@@ -85,6 +86,29 @@ fn is_center(words: &Words) -> bool
     are_items(words, 4)
 }
 
+fn is_sample(words: &Words) -> bool
+    requires { HasName words.now Name.Sample }
+    ensures { Decides words.now result }
+{
+    let Some(_seed) = sample_seed(words.word(2)) else {
+        return false;
+    };
+    let Some(_size) = sample_size(words.word(3)) else {
+        return false;
+    };
+    true
+}
+
+fn is_desk(words: &Words) -> bool
+    requires { HasName words.now Name.Desk }
+    ensures { Decides words.now result }
+{
+    if !is_batch(words.word(2).as_bytes()) {
+        return false;
+    }
+    true
+}
+
 /// The command whose name the words begin with, if they are as many as it has.
 fn called(words: &Words) -> Option<Name>
     ensures { MatchOption result
@@ -125,5 +149,7 @@ pub fn is_command(words: &Words) -> bool
         Name::Try => true,
         Name::Cards => true,
         Name::Results => true,
+        Name::Sample => is_sample(words),
+        Name::Desk => is_desk(words),
     }
 }

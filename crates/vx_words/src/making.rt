@@ -11,6 +11,7 @@ use crate::items::items_from;
 use crate::kinds::kind_and_test;
 use crate::moment::{device_of, is_moment};
 use crate::name::{Name, name_in};
+use crate::sample::{sample_seed, sample_size};
 use crate::seed::read_seed;
 use std::alloc::Global;
 use vx_base::read_number;
@@ -229,6 +230,53 @@ fn results_of(alloc: Global, arguments: &[&str]) -> Result<Command, UsageFault>
     Ok(Command::Results { election })
 }
 
+/// `sample ELECTION SEED SIZE HAND`.
+fn sample_of(alloc: Global, arguments: &[&str]) -> Result<Command, UsageFault>
+    requires { All IsArgument (map (λ word. word.now) arguments.now) }
+    ensures { Reads (name_word Name.Sample ∷ map (λ word. word.now) arguments.now) result }
+{
+    let [election, seed, size, hand] = arguments else {
+        return Err(UsageFault::Usage);
+    };
+    let Some(_bytes) = sample_seed(seed) else {
+        return Err(UsageFault::Usage);
+    };
+    let Some(size) = sample_size(size) else {
+        return Err(UsageFault::Usage);
+    };
+    let election = Text::from_str(alloc, election)?;
+    let seed = Text::from_str(alloc, seed)?;
+    let hand = Text::from_str(alloc, hand)?;
+    Ok(Command::Sample {
+        election,
+        seed,
+        size,
+        hand,
+    })
+}
+
+/// `desk ELECTION BATCH SCANS`.
+fn desk_of(alloc: Global, arguments: &[&str]) -> Result<Command, UsageFault>
+    requires { All IsArgument (map (λ word. word.now) arguments.now) }
+    ensures { Reads (name_word Name.Desk ∷ map (λ word. word.now) arguments.now) result }
+{
+    if arguments.len() < 3 || arguments.len() > 66 {
+        return Err(UsageFault::Usage);
+    }
+    let named = is_batch(arguments[1].as_bytes());
+    if !named {
+        return Err(UsageFault::Usage);
+    }
+    let election = Text::from_str(alloc, arguments[0])?;
+    let batch = Text::from_str(alloc, arguments[1])?;
+    let scans = texts_from(alloc, arguments, 2)?;
+    Ok(Command::Desk {
+        election,
+        batch,
+        scans,
+    })
+}
+
 /// The command of a row of the table, of the words behind its name.
 fn command_named(alloc: Global, name: Name, arguments: &[&str]) -> Result<Command, UsageFault>
     requires { All IsArgument (map (λ word. word.now) arguments.now) }
@@ -247,6 +295,8 @@ fn command_named(alloc: Global, name: Name, arguments: &[&str]) -> Result<Comman
         Name::Try => try_of(alloc, arguments),
         Name::Cards => cards_of(alloc, arguments),
         Name::Results => results_of(alloc, arguments),
+        Name::Sample => sample_of(alloc, arguments),
+        Name::Desk => desk_of(alloc, arguments),
     }
 }
 

@@ -20,10 +20,12 @@ pub enum Name {
     Try,
     Cards,
     Results,
+    Sample,
+    Desk,
 }
 
 /// All commands, in the table's order.
-pub const NAMES: [Name; 12] = [
+pub const NAMES: [Name; 14] = [
     Name::Print,
     Name::Read,
     Name::Check,
@@ -36,6 +38,8 @@ pub const NAMES: [Name; 12] = [
     Name::Try,
     Name::Cards,
     Name::Results,
+    Name::Sample,
+    Name::Desk,
 ];
 
 /// A command's name, and how many words it has at least and at most, its name among them.
@@ -74,6 +78,8 @@ pub fn row_in_table(name: Name) -> Row
         Name::Try => named("try", 3, 66),
         Name::Cards => named("cards", 2, 2),
         Name::Results => named("results", 2, 2),
+        Name::Sample => named("sample", 5, 5),
+        Name::Desk => named("desk", 4, 67),
     }
 }
 

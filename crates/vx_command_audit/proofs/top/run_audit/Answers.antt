@@ -14,16 +14,16 @@ returns-in-Some-clause-usage g c = (
 pub returns-clause-usage : goal.returns-clause-usage
 returns-clause-usage g c = (
   λ usage. absurd (c.audit.ensures.no_usage usage),
-  λ nothing. absurd (nothing (Audit c.word-3.result.now c.in-Some-seed_of.seed c.in-Some-size_of.size c.word-4.result.now)
+  λ nothing. absurd (nothing (Audit c.word-3.result.now c.in-Some-sample_seed.seed c.in-Some-sample_size.size c.word-4.result.now)
       (spells-audit c.args.words.now c.word-3.result.now c.word.result.now c.word-2.result.now c.word-4.result.now c.word-3.ensures c.word.ensures
-      c.word-2.ensures c.word-4.ensures c.in-Some-seed_of.seed c.in-Some-size_of.size c.if-not-is_audit_form.ensures c.in-Some-seed_of.ensures
-      c.in-Some-size_of.ensures)),
+      c.word-2.ensures c.word-4.ensures c.in-Some-sample_seed.seed c.in-Some-sample_size.size c.if-not-is_audit_form.ensures c.in-Some-sample_seed.ensures
+      c.in-Some-sample_size.ensures)),
 )
 
 pub returns-clause-done : goal.returns-clause-done
 returns-clause-done g c files told asked asks =
     let same = audit-asked c.args.words.now c.word-3.result.now c.word.result.now c.word-2.result.now c.word-4.result.now c.word-3.ensures c.word.ensures
-    c.word-2.ensures c.word-4.ensures c.in-Some-seed_of.seed c.in-Some-size_of.size c.if-not-is_audit_form.ensures c.in-Some-seed_of.ensures
-    c.in-Some-size_of.ensures asked asks in
+    c.word-2.ensures c.word-4.ensures c.in-Some-sample_seed.seed c.in-Some-sample_size.size c.if-not-is_audit_form.ensures c.in-Some-sample_seed.ensures
+    c.in-Some-sample_size.ensures asked asks in
     subst (λ (what : Asked). IsAuditDone (asked_outcome what files) (g.S.Sink.taken c.args.out.now) (g.S.Sink.taken c.audit.new.out) c.audit.result) (sym same)
     (c.audit.ensures.done files told)

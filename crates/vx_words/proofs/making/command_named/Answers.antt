@@ -35,3 +35,9 @@ returns-in-Cards c = rw c.in-Cards.is c.cards_of.ensures
 
 pub returns-in-Results : goal.returns-in-Results
 returns-in-Results c = rw c.in-Results.is c.results_of.ensures
+
+pub returns-in-Sample : goal.returns-in-Sample
+returns-in-Sample c = rw c.in-Sample.is c.sample_of.ensures
+
+pub returns-in-Desk : goal.returns-in-Desk
+returns-in-Desk c = rw c.in-Desk.is c.desk_of.ensures
