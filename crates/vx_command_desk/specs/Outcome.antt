@@ -40,11 +40,11 @@ scans_outcome text closing files word sheets waiting (name ∷ names) =
     (λ now left. scans_outcome text closing files (word + 1) now left names))
 
 -- the page begins: its head and the first line of data
-abbrev pub opening_text : Election → List ℕ → List ℕ
+unfoldable pub opening_text : Election → List ℕ → List ℕ
 opening_text election batch = head ++ first_text election batch
 
 -- it ends, behind so many sheets: the last line of data and the tail
-abbrev pub closing_text : Election → List Event → List ℕ → ℕ → List ℕ
+unfoldable pub closing_text : Election → List Event → List ℕ → ℕ → List ℕ
 closing_text election events batch sheets = last_text election events batch sheets ++ tail
 
 -- the page of a batch of kept events, with scans, the first of which is word 3

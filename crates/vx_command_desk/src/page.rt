@@ -13,6 +13,7 @@ use vx_desk::{push_first, push_head, push_last, push_tail};
 use vx_io::Sink;
 
 /// The head of the page and the first line of data.
+#[tactic(auto, unfolding(crate::specs::Outcome::opening_text))]
 fn opening(alloc: Global, setting: &Setting<'_>) -> Result<Bytes, OutOfMemory>
     ensures { IfOk result (λ text. text ≡ opening_text setting.now.election.now setting.now.batch.now) }
 {
@@ -23,6 +24,7 @@ fn opening(alloc: Global, setting: &Setting<'_>) -> Result<Bytes, OutOfMemory>
 }
 
 /// The last line of data, behind so many sheets, and the tail of the page.
+#[tactic(auto, unfolding(crate::specs::Outcome::closing_text))]
 fn closing(alloc: Global, setting: &Setting<'_>, sheets: u64) -> Result<Bytes, OutOfMemory>
     requires { IsSet setting.now }
     ensures { IfOk result (λ text. text ≡ closing_of setting.now sheets) }
