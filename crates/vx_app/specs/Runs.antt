@@ -7,9 +7,9 @@ use Rattle.vx_words.specs.declared.command.ItemWord.{ItemWord}
 use Rattle.vx_words.specs.Names.{name_word}
 use Rattle.vx_words.specs.Words.{Spells, name_of}
 
--- the name of a command that `run` doesn't do: `center` has a top call of its own, `sample` and `desk` aren't made yet
+-- the name of a command that `run` doesn't do: `center` has a top call of its own, `sample` isn't made yet
 abbrev pub is_other_name : List ℕ → Bool
-is_other_name word = bytes_eq word (codes "center") || bytes_eq word (codes "sample") || bytes_eq word (codes "desk")
+is_other_name word = bytes_eq word (codes "center") || bytes_eq word (codes "sample")
 
 -- a command that `run` does
 abbrev pub is_run : Command → Bool

@@ -41,7 +41,7 @@ pub fn is_center(words: &Words) -> bool
 fn is_other_name(word: &str) -> bool
     ensures { result ≡ is_other_name word.now }
 {
-    word == "center" || word == "sample" || word == "desk"
+    word == "center" || word == "sample"
 }
 
 /// Whether the first word names a command that `run` doesn't do. Such words are none that it does.

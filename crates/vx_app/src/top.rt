@@ -29,6 +29,7 @@ use vx_command_check::{certified_pages_say_what_fits, check};
 use vx_command_count::{count, count_keeps_journals, fitting_sheets_are_kept};
 use vx_command_decide::{decide, decide_keeps_journals};
 use vx_command_demo::demo;
+use vx_command_desk::desk;
 use vx_command_export::{export, exports_write_what_was_kept};
 use vx_command_print::{Ballot, print};
 use vx_command_queue::{queue, queues_write_what_waits};
@@ -130,12 +131,25 @@ fn obey<R: Threads + Sync, I: Inputs, S: Sink, K: Keeper, G: Gate>(
             keeper,
         ),
         Command::Demo { seed, sheets } => demo(rt, alloc, seed, sheets, out),
-        Command::Center { .. } | Command::Sample { .. } | Command::Desk { .. } => unreachable!(),
+        Command::Center { .. } | Command::Sample { .. } => unreachable!(),
         Command::Try { election, scans } => {
             try_sheets(alloc, election.as_str(), &scans, inputs, out)
         }
         Command::Cards { election } => cards(alloc, election.as_str(), inputs, out),
         Command::Results { election } => results(alloc, election.as_str(), inputs, out, keeper),
+        Command::Desk {
+            election,
+            batch,
+            scans,
+        } => desk(
+            alloc,
+            election.as_str(),
+            batch.as_str(),
+            &scans,
+            inputs,
+            out,
+            keeper,
+        ),
     }
 }
 
@@ -181,8 +195,8 @@ fn run_words<R: Threads + Sync, I: Inputs, S: Sink, K: Keeper, G: Gate>(
 }
 
 /// Does a command but `center`, whole: reads its words, takes its inputs, writes what it writes and keeps
-/// what it keeps. The words of `center` are Usage here: `run_center` does them. So are those of `sample` and
-/// `desk`, which aren't made yet.
+/// what it keeps. The words of `center` are Usage here: `run_center` does them. So are those of `sample`,
+/// which isn't made yet.
 ///
 /// Where the inputs tell what they hold, and the keeper if the command uses it, the acts of the
 /// command's outcome are done in order: all of them, and the status is the outcome's; or up to one at
