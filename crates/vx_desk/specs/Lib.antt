@@ -10,3 +10,4 @@ pub mod Pictures
 pub mod Contests
 pub mod Lines
 pub mod Left
+pub mod Laws

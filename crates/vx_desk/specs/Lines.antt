@@ -1,6 +1,5 @@
 -- The lines of the desk's data: the batch, a line for each sheet with a contest that waits, and what is left over.
 use Rattle.std.specs.Prelude.{ℕ, Bool, true, false, nat_lt, if◌then◌else◌, List, [], ◌∷◌, map, filter, codes, Option, None, Some, Result, Ok, Err}
-use Rattle.std.specs.List.{list_any}
 use Rattle.serde_json.specs.Data.{Data, boolean, null}
 use Rattle.vx_plane.specs.Plane.{Page}
 use Rattle.vx_election_model.specs.declared.election.Election.{Election}
@@ -10,9 +9,7 @@ use Rattle.vx_rules.specs.Reasons.{is_blank_sheet}
 use Rattle.vx_events.specs.declared.event.Event.{Event}
 use Rattle.vx_events.specs.declared.key.Key.{Key}
 use Rattle.vx_center.specs.Sheets.{Added, sheet_in}
-use Rattle.vx_center.specs.Decisions.{decided_of}
 use Rattle.vx_center.specs.Holders.{holder_of}
-use Rattle.vx_center.specs.Waiting.{exports_by}
 use Rattle.vx_scan_model.specs.declared.fault.PageFault.{PageFault}
 use Rattle.vx_scan_model.specs.declared.reading.PageReading.{PageReading}
 use Rattle.vx_scan_model.specs.Reading.{reading_of}
@@ -21,7 +18,7 @@ use Rattle.vx_desk.specs.Contests.{contest_data}
 use Rattle.vx_desk.specs.Escaped.{data_line}
 use Rattle.vx_desk.specs.Kept.{are_kept}
 use Rattle.vx_desk.specs.Shown.{Shown, image_with, shown_by}
-use Rattle.vx_desk.specs.Waits.{contest_waits, key_of, waiting_contests, waiting_in, waiting_sheets}
+use Rattle.vx_desk.specs.Waits.{any_waits, contest_waits, key_of, waiting_contests, waiting_in, waiting_sheets}
 
 -- the first line: the batch and the election's title
 abbrev pub first_data : Election → List ℕ → Data
@@ -44,8 +41,9 @@ contest_on election sheet_blank first second marks =
 -- the same, if it waits, where the sheet's other contests don't matter
 abbrev pub contest_if : Election → List Event → Key → Bool → Shown → Shown → ContestMarks → List Data
 contest_if election kept key sheet_blank first second marks =
-    if exports_by election sheet_blank (decided_of kept key) marks then []
-    else contest_on election sheet_blank first second marks ∷ []
+    if contest_waits election kept key sheet_blank marks
+    then contest_on election sheet_blank first second marks ∷ []
+    else []
 
 -- its contests that wait, in its order
 abbrev pub contests_of : Election → List Event → Key → SheetMarks → Shown → Shown → Data
@@ -81,7 +79,7 @@ sheet_data election kept key sheet first second =
 abbrev pub line_of : Election → List Event → Key → Page → Page → Option SheetMarks → List ℕ
 line_of election kept key first second None = []
 line_of election kept key first second (Some sheet) =
-    if list_any (contest_waits election kept key sheet) sheet.contests
+    if any_waits election kept key (Some sheet)
     then data_line (sheet_data election kept key sheet first second)
     else []
 
@@ -96,11 +94,14 @@ missing_of election kept batch sheets =
     map (λ (added : Added). added.key.number)
     (filter (λ (added : Added). nat_lt sheets added.key.number) (waiting_sheets election kept batch))
 
+-- what is left over: numbers of sheets, and how many contests
+abbrev pub left_data : List Data → ℕ → Data
+left_data numbers contests = described ((codes "missing", list numbers) ∷ (codes "waiting", whole contests) ∷ [])
+
 -- the last line: the sheets that wait and have no images here, and how many contests of the batch wait in all
 abbrev pub last_data : Election → List Event → List ℕ → ℕ → Data
-last_data election kept batch sheets = described
-    ((codes "missing", list (map whole (missing_of election kept batch sheets)))
-    ∷ (codes "waiting", whole (waiting_in election kept batch)) ∷ [])
+last_data election kept batch sheets =
+    left_data (map whole (missing_of election kept batch sheets)) (waiting_in election kept batch)
 
 unfoldable pub last_text : Election → List Event → List ℕ → ℕ → List ℕ
 last_text election kept batch sheets = data_line (last_data election kept batch sheets)

@@ -1,5 +1,5 @@
 -- The part of a page round a contest: where its block stands by the grid, in pixels of the upright page.
-use Rattle.std.specs.Prelude.{◌<◌, ℕ, ◌+◌, ◌-◌, ◌^◌, min, ℤ, pos, negsuc, ◌+ℤ◌, ◌-ℤ◌}
+use Rattle.std.specs.Prelude.{◌<◌, ◌≤◌, ℕ, ◌+◌, ◌-◌, ◌^◌, min, ℤ, pos, negsuc, ◌+ℤ◌, ◌-ℤ◌}
 use Rattle.std.specs.Int.{int_max, int_min}
 use Rattle.vx_plane.specs.Plane.{Page}
 use Rattle.vx_grid.specs.Borders.{MarkPlaces}
@@ -35,22 +35,22 @@ abbrev pub nearest : ℕ → ℤ → ℕ
 nearest size (pos n) = min n (size - 1)
 nearest size (negsuc n) = 0
 
+-- where a picture begins and ends on a frame of so many columns or rows: the margin before the lesser of two corners, and the
+-- margin past the greater
+abbrev pub before : ℕ → ℤ → ℤ → ℕ
+before size a b = nearest size (int_min a b -ℤ pos margin)
+
+abbrev pub past : ℕ → ℤ → ℤ → ℕ
+past size a b = nearest size (int_max a b +ℤ pos margin)
+
 -- the rectangle round the four corners of a block, which are grid places of a border, with the margin on each side, cut at
 -- the page's frame
 abbrev pub region_of : Page → MarkPlaces → Block → Region
 region_of page border block = record {
-  left =
-      nearest page.width
-      (int_min (place_of border block.left block.top).u (place_of border block.left block.bottom).u -ℤ pos margin);
-  right =
-      nearest page.width
-      (int_max (place_of border block.right block.top).u (place_of border block.right block.bottom).u +ℤ pos margin);
-  top =
-      nearest page.height
-      (int_min (place_of border block.left block.top).v (place_of border block.right block.top).v -ℤ pos margin);
-  bottom =
-      nearest page.height
-      (int_max (place_of border block.left block.bottom).v (place_of border block.right block.bottom).v +ℤ pos margin);
+  left = before page.width (place_of border block.left block.top).u (place_of border block.left block.bottom).u;
+  right = past page.width (place_of border block.right block.top).u (place_of border block.right block.bottom).u;
+  top = before page.height (place_of border block.left block.top).v (place_of border block.right block.top).v;
+  bottom = past page.height (place_of border block.left block.bottom).v (place_of border block.right block.bottom).v;
 }
 
 -- the region of a contest with a number on the page that shows it
@@ -73,9 +73,11 @@ natural (negsuc n) = 0
 abbrev pub behind : ℕ → ℤ → ℕ
 behind from at = natural (at -ℤ pos from)
 
--- a region lies in the frame of a page
+-- a region lies in the frame of a page, which isn't too large
 pub record IsInside (page : Page) (region : Region) : Type 0 where
   pub left : region.left < page.width
   pub right : region.right < page.width
   pub top : region.top < page.height
   pub bottom : region.bottom < page.height
+  pub few_columns : page.width ≤ 4096
+  pub few_rows : page.height ≤ 4096

@@ -1,6 +1,6 @@
 -- Which sheets of a batch have a contest that waits for a decision, by the rule of the center.
 use Rattle.std.specs.Prelude.{ℕ, ◌&&◌, Bool, true, false, not, List, length, filter, bytes_eq, Option, None, Some}
-use Rattle.std.specs.List.{list_any, sum_by}
+use Rattle.std.specs.List.{flat_map, list_any}
 use Rattle.vx_election_model.specs.declared.election.Election.{Election}
 use Rattle.vx_rules.specs.declared.marks.ContestMarks.{ContestMarks}
 use Rattle.vx_rules.specs.declared.marks.SheetMarks.{SheetMarks}
@@ -15,39 +15,40 @@ use Rattle.vx_center.specs.Waiting.{exports_by}
 abbrev pub key_of : List ℕ → ℕ → Key
 key_of batch number = record { batch = batch; number = number }
 
--- whether a contest of a sheet waits: it isn't exported yet
-abbrev pub contest_waits : Election → List Event → Key → SheetMarks → ContestMarks → Bool
-contest_waits election kept key sheet marks =
-    not (exports_by election (is_blank_sheet sheet) (decided_of kept key) marks)
+-- whether a contest of a sheet, blank or not, waits: it isn't exported yet
+abbrev pub contest_waits : Election → List Event → Key → Bool → ContestMarks → Bool
+contest_waits election kept key sheet_blank marks =
+    not (exports_by election sheet_blank (decided_of kept key) marks)
 
 -- the contests of a sheet that wait, in the sheet's order
 abbrev pub waiting_contests : Election → List Event → Key → SheetMarks → List ContestMarks
-waiting_contests election kept key sheet = filter (contest_waits election kept key sheet) sheet.contests
+waiting_contests election kept key sheet =
+    filter (contest_waits election kept key (is_blank_sheet sheet)) sheet.contests
 
 -- whether a contest of a sheet waits, if the sheet was added
 abbrev pub any_waits : Election → List Event → Key → Option SheetMarks → Bool
 any_waits election kept key None = false
-any_waits election kept key (Some sheet) = list_any (contest_waits election kept key sheet) sheet.contests
+any_waits election kept key (Some sheet) =
+    list_any (contest_waits election kept key (is_blank_sheet sheet)) sheet.contests
 
 -- the sheet of a batch with a number was added, and a contest of it waits
 unfoldable pub sheet_waits : Election → List Event → List ℕ → ℕ → Bool
 sheet_waits election kept batch number =
     any_waits election kept (key_of batch number) (sheet_in kept (key_of batch number))
 
--- whether a sheet is of a batch
-abbrev pub is_of_batch : List ℕ → Added → Bool
-is_of_batch batch added = bytes_eq added.key.batch batch
+-- whether a sheet is of a batch, and a contest of it waits
+abbrev pub waits_in : Election → List Event → List ℕ → Added → Bool
+waits_in election kept batch added =
+    bytes_eq added.key.batch batch && any_waits election kept added.key (Some added.sheet)
 
 -- the sheets of a batch with a contest that waits, in the order of adding
 abbrev pub waiting_sheets : Election → List Event → List ℕ → List Added
-waiting_sheets election kept batch =
-    filter (λ (added : Added). is_of_batch batch added && any_waits election kept added.key (Some added.sheet))
-    (sheets_in kept)
+waiting_sheets election kept batch = filter (waits_in election kept batch) (sheets_in kept)
 
--- how many contests of a sheet wait
-abbrev pub waiting_of : Election → List Event → Added → ℕ
-waiting_of election kept added = length (waiting_contests election kept added.key added.sheet)
+-- the contests that wait on a sheet that was added
+abbrev pub waiting_of : Election → List Event → Added → List ContestMarks
+waiting_of election kept added = waiting_contests election kept added.key added.sheet
 
 -- how many contests wait on the sheets of a batch
 abbrev pub waiting_in : Election → List Event → List ℕ → ℕ
-waiting_in election kept batch = sum_by (waiting_of election kept) (waiting_sheets election kept batch)
+waiting_in election kept batch = length (flat_map (waiting_of election kept) (waiting_sheets election kept batch))

@@ -1,14 +1,13 @@
 //! A contest that waits, with all that its decision needs.
 
-ghost use Rattle.std.specs.Prelude.{◌≡◌, ◌<◌, ◌^◌, ◌++◌, All, IfOk, OnOk, map, true, not, filter};
-ghost use Rattle.serde_json.specs.Data.{Data};
+ghost use Rattle.std.specs.Prelude.{◌≡◌, ◌<◌, ◌^◌, ◌++◌, All, IfOk, OnOk, map, true, filter};
 ghost use Rattle.serde_json.specs.View.{view};
 ghost use Rattle.vx_desk.specs.Regions.{HasFewOptions};
 ghost use Rattle.vx_events.specs.Fits.{is_read, is_sheet};
-ghost use Rattle.vx_rules.specs.Reasons.{is_blank_sheet};
+ghost use Rattle.std.specs.List.{list_all};
 ghost use Rattle.vx_desk.specs.Contests as spec;
 ghost use Rattle.vx_desk.specs.Lines as lines;
-ghost use Rattle.vx_desk.specs.Waits.{waiting_contests};
+ghost use Rattle.vx_desk.specs.Waits.{contest_waits};
 
 use crate::image::{Image, image_with};
 use crate::options::{options_of, reasons_of};
@@ -65,6 +64,7 @@ fn contest_in(
 }
 
 /// A contest as it was read, which the election has, on the page that shows it.
+#[tactic(auto, unfolding(crate::specs::Contests::contest_data))]
 fn contest_data(
     alloc: Global,
     election: &Election,
@@ -106,8 +106,43 @@ fn push_contest(
     Ok(())
 }
 
+/// Adds those of some contests of a sheet that wait, in order.
+#[tactic(auto, using(crate::proofs::Steps::kept_more))]
+fn push_contests(
+    alloc: Global,
+    values: &mut Vec<Value>,
+    election: &Election,
+    center: &Center<'_>,
+    key: &Key,
+    sheet_blank: bool,
+    contests: &[ContestMarks],
+    first: &Image<'_>,
+    second: &Image<'_>,
+) -> Result<(), OutOfMemory>
+    requires options { All HasFewOptions election.now.contests }
+    requires read { list_all (is_read election.now) contests.now ≡ true }
+    ensures { OnOk result (map view values.new.items ≡ map view values.old.items
+        ++ map (lines.contest_on election.now sheet_blank first.now second.now)
+        (filter (contest_waits election.now center.now.events key.now sheet_blank) contests.now)) }
+{
+    for marks in contests {
+        push_contest(
+            alloc,
+            values,
+            election,
+            center,
+            key,
+            sheet_blank,
+            marks,
+            first,
+            second,
+        )?;
+    }
+    Ok(())
+}
+
 /// The contests of a sheet that wait, in the sheet's order.
-pub(crate) fn waiting_contests(
+pub(crate) fn contests_of(
     alloc: Global,
     election: &Election,
     center: &Center<'_>,
@@ -121,20 +156,19 @@ pub(crate) fn waiting_contests(
     ensures { IfOk result (λ value. view value ≡ lines.contests_of election.now center.now.events
         key.now sheet.now first.now second.now) }
 {
-    let sheet_blank = is_blank(sheet);
+    let blank = is_blank(sheet);
+    let contests = sheet.contests.as_slice();
     let mut values = Vec::new(alloc);
-    for marks in sheet.contests.as_slice() {
-        push_contest(
-            alloc,
-            &mut values,
-            election,
-            center,
-            key,
-            sheet_blank,
-            marks,
-            first,
-            second,
-        )?;
-    }
+    push_contests(
+        alloc,
+        &mut values,
+        election,
+        center,
+        key,
+        blank,
+        contests,
+        first,
+        second,
+    )?;
     Ok(Value::Array(values))
 }

@@ -13,7 +13,7 @@ ghost use Rattle.vx_sheet.specs.Shows.{IsOfPage};
 ghost use Rattle.vx_desk.specs.Kept as kept;
 ghost use Rattle.vx_desk.specs.Lines as lines;
 
-use crate::contests::waiting_contests;
+use crate::contests::contests_of;
 use crate::escape::push_line;
 use crate::find::find_sheet;
 use crate::image::Image;
@@ -39,6 +39,7 @@ fn first_value(alloc: Global, election: &Election, batch: &str) -> Result<Value,
 }
 
 /// Adds the first line: the batch and the election's title.
+#[tactic(auto, unfolding(crate::specs::Lines::first_text))]
 pub fn push_first(
     alloc: Global,
     text: &mut Bytes,
@@ -76,7 +77,7 @@ fn kept_value(
     ensures { IfOk result (λ value. view value ≡ lines.kept_data election.now center.now.events
         key.now sheet.now first.now second.now) }
 {
-    let contests = waiting_contests(alloc, election, center, key, sheet, first, second)?;
+    let contests = contests_of(alloc, election, center, key, sheet, first, second)?;
     let holder = holder(alloc, center, key)?;
     json!(in alloc; {"contests": contests, "holder": holder, "number": key.number})
 }
@@ -114,7 +115,7 @@ fn read_value(
     requires first { IsReadOf election.now images.first.now images.first_read.now }
     requires second { IsReadOf election.now images.second.now images.second_read.now }
     ensures { IfOk result (λ value. view value ≡ lines.read_data election.now center.now.events key.now
-        sheet.now images.first.now images.second.now images.first_read.now images.second_read.now) }
+        sheet.now images.entry.first.now images.entry.second.now images.entry.first_read.now images.entry.second_read.now) }
 {
     match (images.first_read, images.second_read) {
         (Ok(one), Ok(other)) => {
@@ -165,7 +166,7 @@ fn sheet_value(
     requires first { IsReadOf election.now images.first.now images.first_read.now }
     requires second { IsReadOf election.now images.second.now images.second_read.now }
     ensures { IfOk result (λ value. view value ≡ lines.sheet_data election.now center.now.events key.now
-        sheet.now images.first.now images.second.now) }
+        sheet.now images.entry.first.now images.entry.second.now) }
 {
     let (first, second) = (images.first_read, images.second_read);
     if are_kept(alloc, election, plans, key, sheet, first, second)? {
@@ -193,7 +194,7 @@ fn push_found(
     requires first { IsReadOf election.now images.first.now images.first_read.now }
     requires second { IsReadOf election.now images.second.now images.second_read.now }
     ensures { OnOk result (text.new ≡ text.old ++ lines.line_of election.now center.now.events key.now
-        images.first.now images.second.now (Some sheet.now)) }
+        images.entry.first.now images.entry.second.now (Some sheet.now)) }
 {
     if !any_waits(election, center, key, sheet) {
         return Ok(());
@@ -204,6 +205,7 @@ fn push_found(
 
 /// Adds the line of the sheet of a batch with a number, of its first and second image and what they were
 /// read as; nothing where no contest of it waits.
+#[tactic(auto, unfolding(crate::specs::Lines::sheet_text))]
 pub fn push_sheet(
     alloc: Global,
     text: &mut Bytes,
@@ -241,6 +243,7 @@ pub fn push_sheet(
 
 /// Adds the last line: of the batch's sheets that wait, the numbers of those behind the first `sheets`,
 /// which have no images here, and how many contests wait in all.
+#[tactic(auto, unfolding(crate::specs::Lines::last_text))]
 pub fn push_last(
     alloc: Global,
     text: &mut Bytes,

@@ -33,11 +33,7 @@ fn push_escaped(text: &mut Bytes, json: &[u8]) -> Result<(), OutOfMemory>
 }
 
 /// Adds the line of a value.
-pub(crate) fn push_line(
-    alloc: Global,
-    text: &mut Bytes,
-    value: &Value,
-) -> Result<(), OutOfMemory>
+pub(crate) fn push_line(alloc: Global, text: &mut Bytes, value: &Value) -> Result<(), OutOfMemory>
     requires { has_float (view value.now) ≡ false }
     ensures { OnOk result (text.new ≡ text.old ++ spec.data_line (view value.now)) }
 {

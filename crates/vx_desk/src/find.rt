@@ -4,7 +4,7 @@ ghost use Rattle.vx_center.specs.States.{is_add};
 ghost use Rattle.vx_desk.specs.Walk.{IsSheetFound, adds};
 ghost use Rattle.vx_desk.specs.Waits.{key_of};
 
-use vx_center::Center;
+use vx_center::{Center, same_keys_are_equal};
 use vx_events::{Event, Key};
 use vx_rules::SheetMarks;
 
@@ -41,6 +41,7 @@ fn added_with<'e>(event: &'e Event, batch: &str, number: u64) -> Option<(&'e Key
 }
 
 /// The key and the marks of the sheet of a batch with a number, if it was added.
+#[tactic(auto, using(crate::proofs::Found::found_later, crate::proofs::Found::found_here, crate::proofs::Found::found_none))]
 pub(crate) fn find_sheet<'c>(
     center: &'c Center<'_>,
     batch: &str,
@@ -51,6 +52,7 @@ pub(crate) fn find_sheet<'c>(
         (λ parts. IsSheetFound center.now.election center.now.events (key_of batch.now number)
         parts.0.now parts.1.now) }
 {
+    same_keys_are_equal();
     for event in center.events().as_slice() {
         if let Some((key, sheet)) = added_with(event, batch, number) {
             return Some((key, sheet));

@@ -2,6 +2,7 @@
 
 ghost use Rattle.std.specs.Prelude.{◌≡◌, ◌<◌, ◌≤◌, pos, All, find, ◌==◌};
 ghost use Rattle.vx_plane.specs.Plane.{dark_at};
+ghost use Rattle.vx_count.specs.Turned.{shown_page, turned_page};
 ghost use Rattle.vx_scan_model.specs.Reading.{reading_of};
 ghost use Rattle.vx_election_model.specs.Valid.{IsValid};
 ghost use Rattle.vx_layout.specs.Plans.{ArePlansOf};
@@ -30,12 +31,41 @@ impl<'a> Model for Image<'a> {
     ghost Value = { Shown };
 
     ghost view = { λ a. record {
-        page = shown_page a.reading.now.turned a.scan.now;
-        reading = a.reading.now;
-        bubbles = a.bubbles.now;
+      page = shown_page a.reading.now.turned a.scan.now;
+      reading = a.reading.now;
+      bubbles = a.bubbles.now;
     } };
 
     ghost invariant = { λ a. CanBeShown a.scan.now a.bubbles.now };
+}
+
+/// Whether a pixel of the turned page is dark.
+#[tactic(auto, using(crate::proofs::Turned::turned_dark))]
+fn turned_dark(scan: &BitView<'_>, x: u32, y: u32) -> bool
+    requires column { x < scan.now.width }
+    requires row { y < scan.now.height }
+    requires columns { scan.now.width ≤ 4096 }
+    requires rows { scan.now.height ≤ 4096 }
+    ensures { result ≡ dark_at (turned_page scan.now) (pos x) (pos y) }
+{
+    let u = scan.width() - 1 - x;
+    let v = scan.height() - 1 - y;
+    scan.dark(u as i32, v as i32)
+}
+
+/// Whether a pixel of the page is dark that a scan shows, turned or not.
+fn shown_dark(scan: &BitView<'_>, turned: bool, x: u32, y: u32) -> bool
+    requires column { x < scan.now.width }
+    requires row { y < scan.now.height }
+    requires columns { scan.now.width ≤ 4096 }
+    requires rows { scan.now.height ≤ 4096 }
+    ensures { result ≡ dark_at (shown_page turned scan.now) (pos x) (pos y) }
+{
+    if turned {
+        turned_dark(scan, x, y)
+    } else {
+        scan.dark(x as i32, y as i32)
+    }
 }
 
 /// The bubbles of the page that a code names.
@@ -94,13 +124,7 @@ impl<'a> Image<'a> {
         requires row { y < self.now.page.height }
         ensures { result ≡ dark_at self.now.page (pos x) (pos y) }
     {
-        if self.reading.turned {
-            let u = self.scan.width() - 1 - x;
-            let v = self.scan.height() - 1 - y;
-            self.scan.dark(u as i32, v as i32)
-        } else {
-            self.scan.dark(x as i32, y as i32)
-        }
+        shown_dark(self.scan, self.reading.turned, x, y)
     }
 
     /// The number of the page on its card.
@@ -153,6 +177,7 @@ impl<'a> Image<'a> {
     }
 
     /// The bubble of a contest's first option, and one that stands for nothing where there is none.
+    #[tactic(auto, using(crate::proofs::Steps::find_here, crate::proofs::Steps::find_later, crate::proofs::Steps::find_none))]
     pub(crate) fn first_bubble(&self, contest: u32) -> Bubble
         ensures value { result ≡ spec.first_bubble contest self.now.bubbles }
         ensures on_grid { spec.HasItsPlace result }
@@ -172,7 +197,11 @@ impl<'a> Image<'a> {
 }
 
 /// The image on which a contest stands.
-pub(crate) fn image_with<'i>(contest: u32, first: &'i Image<'i>, second: &'i Image<'i>) -> &'i Image<'i>
+pub(crate) fn image_with<'i>(
+    contest: u32,
+    first: &'i Image<'i>,
+    second: &'i Image<'i>,
+) -> &'i Image<'i>
     ensures { result.now ≡ spec.image_with contest first.now second.now }
 {
     if first.has(contest) { first } else { second }

@@ -19,6 +19,7 @@ fn same_state(one: State, other: State) -> bool
     )
 }
 
+#[tactic(auto, using(crate::proofs::Same::lengths_differ, crate::proofs::Same::same_later, crate::proofs::Same::differ_here, crate::proofs::Same::same_end))]
 fn same_states(one: &[State], other: &[State]) -> bool
     ensures { result ≡ spec.same_list spec.same_state one.now other.now }
 {
@@ -39,6 +40,7 @@ fn same_marks(one: &ContestMarks, other: &ContestMarks) -> bool
     one.contest == other.contest && same_states(one.states.as_slice(), other.states.as_slice())
 }
 
+#[tactic(auto, using(crate::proofs::Same::lengths_differ, crate::proofs::Same::same_later, crate::proofs::Same::differ_here, crate::proofs::Same::same_end))]
 fn same_contests(one: &[ContestMarks], other: &[ContestMarks]) -> bool
     ensures { result ≡ spec.same_list spec.same_marks one.now other.now }
 {

@@ -15,6 +15,7 @@ mod escape;
 mod find;
 mod image;
 mod kept;
+mod laws;
 mod left;
 mod options;
 mod page;
@@ -24,5 +25,6 @@ mod region;
 mod waiting;
 
 pub use data::{push_first, push_last, push_sheet};
+pub use laws::{data_is_no_markup, desk_tells_what_waits, pictures_show_the_scan};
 pub use page::{push_head, push_tail};
 pub use waiting::waits;

@@ -9,8 +9,7 @@ ghost use Rattle.vx_desk.specs.Regions.{IsInside};
 ghost use Rattle.vx_desk.specs.Shown.{HasItsPlace};
 
 use crate::image::Image;
-use crate::place::place;
-use crate::region::{Region, behind};
+use crate::region::{Region, x_of, y_of};
 use serde_json::{Value, json};
 use std::alloc::Global;
 use vx_base::OutOfMemory;
@@ -55,9 +54,8 @@ fn option_of(
     ensures { IfOk result (λ value. view value
         ≡ spec.option_of contest.now image.now region bubble score state) }
 {
-    let middle = place(image.border(), bubble.col, u64::from(bubble.row));
-    let x = behind(region.left, middle.u);
-    let y = behind(region.top, middle.v);
+    let x = x_of(image, region, bubble);
+    let y = y_of(image, region, bubble);
     let name = name_of(contest, bubble.option);
     let slot = contest.choices.len() <= bubble.option as usize;
     json!(in alloc; {
@@ -88,14 +86,13 @@ fn push_option(
     let bubble = image.bubbles()[k];
     if bubble.contest == number {
         let (score, state) = (image.score_at(k), image.state_at(k));
-        options.push(option_of(
-            alloc, contest, image, region, bubble, score, state,
-        )?)?;
+        options.push(option_of(alloc, contest, image, region, bubble, score, state)?)?;
     }
     Ok(())
 }
 
 /// The options of a contest with a number, in order.
+#[tactic(auto, using(crate::proofs::Steps::laid))]
 pub(crate) fn options_of(
     alloc: Global,
     contest: &Contest,
@@ -131,11 +128,7 @@ fn push_reason(
 }
 
 /// Adds the words of the reasons of a set, in their order.
-fn push_reasons(
-    alloc: Global,
-    words: &mut Vec<Value>,
-    set: ReasonSet,
-) -> Result<(), OutOfMemory>
+fn push_reasons(alloc: Global, words: &mut Vec<Value>, set: ReasonSet) -> Result<(), OutOfMemory>
     ensures { OnOk result (map view words.new.items
         ≡ map view words.old.items ++ spec.reason_texts set) }
 {

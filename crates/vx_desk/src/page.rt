@@ -6,7 +6,9 @@ ghost use Rattle.vx_desk.specs.Page.{head, tail};
 use vx_base::{Bytes, OutOfMemory};
 
 const HEAD_1: &str = "<!doctype html>\n<html>\n<head>\n<title>Desk</title>\n</head>\n<body>\n";
+
 const HEAD_2: &str = "<script type=\"text/plain\" id=\"data\">\n";
+
 const TAIL_1: &str = "</script>\n</body>\n</html>\n";
 
 fn push_head_1(text: &mut Bytes) -> Result<(), OutOfMemory>

@@ -62,6 +62,7 @@ fn byte(image: &Image<'_>, region: Region, k: u32, y: u32) -> u8
 }
 
 /// Adds a row of the picture, packed.
+#[tactic(auto, using(crate::proofs::Steps::laid_one, crate::proofs::Packing::row_packed))]
 fn push_row(
     raster: &mut Bytes,
     image: &Image<'_>,
@@ -80,6 +81,7 @@ fn push_row(
 }
 
 /// The raster of a region.
+#[tactic(auto, using(crate::proofs::Steps::laid, crate::proofs::Packing::rows_raster))]
 fn raster(alloc: Global, image: &Image<'_>, region: Region) -> Result<Bytes, OutOfMemory>
     requires { IsInside image.now.page region }
     ensures { IfOk result (λ raster. raster ≡ raster_of (spec.part_of image.now.page region)) }

@@ -4,12 +4,15 @@ ghost use Rattle.std.specs.Prelude.{◌≡◌, ◌<◌, ◌≤◌, ◌^◌};
 ghost use Rattle.vx_election_model.specs.Options.{options_of};
 ghost use Rattle.vx_layout.specs.Blocks as blocks;
 ghost use Rattle.vx_layout.specs.Lines as text_lines;
+ghost use Rattle.vx_fit.specs.Fit.{place_of};
+ghost use Rattle.vx_grid.specs.Places.{IsWithin};
 ghost use Rattle.vx_desk.specs.Regions as spec;
 ghost use Rattle.vx_desk.specs.Shown.{HasItsPlace};
 
 use crate::image::Image;
-use crate::place::place;
+use crate::place::{place_u, place_v};
 use vx_election_model::Contest;
+use vx_grid::Border;
 use vx_json::characters_of;
 use vx_layout::Bubble;
 
@@ -114,6 +117,86 @@ fn nearest(size: u32, at: i64) -> u32
     (at as u64).min(u64::from(size) - 1) as u32
 }
 
+/// Where a picture begins on a frame: the margin before the lesser of two corners.
+fn first_of(size: u32, a: i64, b: i64) -> u32
+    requires size { 0 < size }
+    requires a { IsWithin 2147483648 a }
+    requires b { IsWithin 2147483648 b }
+    ensures value { result ≡ spec.before size a b }
+    ensures bound { result < size }
+{
+    let least = if b < a { b } else { a };
+    nearest(size, least - MARGIN)
+}
+
+/// Where a picture ends on a frame: the margin past the greater of two corners.
+fn last_of(size: u32, a: i64, b: i64) -> u32
+    requires size { 0 < size }
+    requires a { IsWithin 2147483648 a }
+    requires b { IsWithin 2147483648 b }
+    ensures value { result ≡ spec.past size a b }
+    ensures bound { result < size }
+{
+    let greatest = if b < a { a } else { b };
+    nearest(size, greatest + MARGIN)
+}
+
+/// The first column of the picture of a block.
+fn left_of(border: &Border, block: Block, width: u32) -> u32
+    requires columns { block.left ≤ 33 }
+    requires rows { (block.top < 2 ^ 40) × (block.bottom < 2 ^ 40) }
+    requires width { 0 < width }
+    ensures value { result ≡ spec.before width (place_of border.now block.left block.top).u
+        (place_of border.now block.left block.bottom).u }
+    ensures bound { result < width }
+{
+    let upper = place_u(border, block.left, block.top);
+    let lower = place_u(border, block.left, block.bottom);
+    first_of(width, upper, lower)
+}
+
+/// The last column of the picture of a block.
+fn right_of(border: &Border, block: Block, width: u32) -> u32
+    requires columns { block.right ≤ 33 }
+    requires rows { (block.top < 2 ^ 40) × (block.bottom < 2 ^ 40) }
+    requires width { 0 < width }
+    ensures value { result ≡ spec.past width (place_of border.now block.right block.top).u
+        (place_of border.now block.right block.bottom).u }
+    ensures bound { result < width }
+{
+    let upper = place_u(border, block.right, block.top);
+    let lower = place_u(border, block.right, block.bottom);
+    last_of(width, upper, lower)
+}
+
+/// The first row of the picture of a block.
+fn top_of(border: &Border, block: Block, height: u32) -> u32
+    requires columns { (block.left ≤ 33) × (block.right ≤ 33) }
+    requires rows { block.top < 2 ^ 40 }
+    requires height { 0 < height }
+    ensures value { result ≡ spec.before height (place_of border.now block.left block.top).v
+        (place_of border.now block.right block.top).v }
+    ensures bound { result < height }
+{
+    let left = place_v(border, block.left, block.top);
+    let right = place_v(border, block.right, block.top);
+    first_of(height, left, right)
+}
+
+/// The last row of the picture of a block.
+fn bottom_of(border: &Border, block: Block, height: u32) -> u32
+    requires columns { (block.left ≤ 33) × (block.right ≤ 33) }
+    requires rows { block.bottom < 2 ^ 40 }
+    requires height { 0 < height }
+    ensures value { result ≡ spec.past height (place_of border.now block.left block.bottom).v
+        (place_of border.now block.right block.bottom).v }
+    ensures bound { result < height }
+{
+    let left = place_v(border, block.left, block.bottom);
+    let right = place_v(border, block.right, block.bottom);
+    last_of(height, left, right)
+}
+
 /// The rectangle round the four corners of a block, with the margin on each side, cut at the frame.
 fn region_of(image: &Image<'_>, block: Block) -> Region
     requires columns { (block.left ≤ 33) × (block.right ≤ 33) }
@@ -122,15 +205,12 @@ fn region_of(image: &Image<'_>, block: Block) -> Region
     ensures inside { spec.IsInside image.now.page result }
 {
     let border = image.border();
-    let top_left = place(border, block.left, block.top);
-    let top_right = place(border, block.right, block.top);
-    let bottom_left = place(border, block.left, block.bottom);
-    let bottom_right = place(border, block.right, block.bottom);
+    let (width, height) = (image.width(), image.height());
     Region {
-        left: nearest(image.width(), top_left.u.min(bottom_left.u) - MARGIN),
-        right: nearest(image.width(), top_right.u.max(bottom_right.u) + MARGIN),
-        top: nearest(image.height(), top_left.v.min(top_right.v) - MARGIN),
-        bottom: nearest(image.height(), bottom_left.v.max(bottom_right.v) + MARGIN),
+        left: left_of(border, block, width),
+        right: right_of(border, block, width),
+        top: top_of(border, block, height),
+        bottom: bottom_of(border, block, height),
     }
 }
 
@@ -144,9 +224,33 @@ pub(crate) fn region_round(image: &Image<'_>, contest: &Contest, number: u32) ->
 }
 
 /// How far a whole number is behind a column or row, and nothing where it lies before it.
-pub(crate) fn behind(from: u32, at: i64) -> u64
-    requires { (from : ℕ) < 4096 }
+fn behind(from: u32, at: i64) -> u64
+    requires from { from < 4096 }
+    requires at { IsWithin 2147483648 at }
     ensures { result ≡ spec.behind from at }
 {
-    (at - i64::from(from)).max(0) as u64
+    let way = at - i64::from(from);
+    if way < 0 { 0 } else { way as u64 }
+}
+
+/// The column of a bubble's middle in the picture of a region.
+pub(crate) fn x_of(image: &Image<'_>, region: Region, bubble: Bubble) -> u64
+    requires place { HasItsPlace bubble }
+    requires inside { spec.IsInside image.now.page region }
+    ensures { result ≡ spec.behind region.left
+        (place_of image.now.reading.border bubble.col bubble.row).u }
+{
+    let middle = place_u(image.border(), bubble.col, u64::from(bubble.row));
+    behind(region.left, middle)
+}
+
+/// The row of a bubble's middle in the picture of a region.
+pub(crate) fn y_of(image: &Image<'_>, region: Region, bubble: Bubble) -> u64
+    requires place { HasItsPlace bubble }
+    requires inside { spec.IsInside image.now.page region }
+    ensures { result ≡ spec.behind region.top
+        (place_of image.now.reading.border bubble.col bubble.row).v }
+{
+    let middle = place_v(image.border(), bubble.col, u64::from(bubble.row));
+    behind(region.top, middle)
 }

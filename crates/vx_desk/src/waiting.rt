@@ -1,4 +1,5 @@
-ghost use Rattle.std.specs.Prelude.{◌≡◌, not, true, Some};
+ghost use Rattle.std.specs.Prelude.{◌≡◌, true, Some};
+ghost use Rattle.std.specs.List.{list_all, list_any};
 ghost use Rattle.vx_events.specs.Fits.{is_read, is_sheet};
 ghost use Rattle.vx_center.specs.Decisions as decisions;
 ghost use Rattle.vx_center.specs.Sheets.{same_key};
@@ -32,16 +33,23 @@ fn decides(event: &Event, key: &Key, contest: u32) -> bool
     }
 }
 
-/// Whether something was decided of a contest of the sheet with a key.
-fn is_decided(center: &Center<'_>, key: &Key, contest: u32) -> bool
-    ensures { result ≡ spec.is_decided
-        (decisions.decisions_on contest (decisions.decided_of center.now.events key.now)) }
+/// Whether an event decides something of a contest of the sheet with a key.
+fn has_decision(center: &Center<'_>, key: &Key, contest: u32) -> bool
+    ensures { result ≡ list_any (walk.decides key.now contest) center.now.events }
 {
     center
         .events()
         .as_slice()
         .iter()
         .any(|event| decides(event, key, contest))
+}
+
+/// Whether something was decided of a contest of the sheet with a key.
+fn is_decided(center: &Center<'_>, key: &Key, contest: u32) -> bool
+    ensures { result ≡ spec.is_decided
+        (decisions.decisions_on contest (decisions.decided_of center.now.events key.now)) }
+{
+    has_decision(center, key, contest)
 }
 
 /// Whether a set has any reason.
@@ -64,8 +72,7 @@ pub(crate) fn contest_waits(
     marks: &ContestMarks,
 ) -> bool
     requires { is_read election.now marks.now ≡ true }
-    ensures { result ≡ not (spec.exports_by election.now sheet_blank
-        (decisions.decided_of center.now.events key.now) marks.now) }
+    ensures { result ≡ desk.contest_waits election.now center.now.events key.now sheet_blank marks.now }
 {
     match election.contests.as_slice().get(marks.contest as usize) {
         None => true,
@@ -74,6 +81,27 @@ pub(crate) fn contest_waits(
                 && !is_decided(center, key, marks.contest)
         }
     }
+}
+
+/// Whether one of these contests of a sheet waits.
+#[tactic(auto, using(crate::proofs::Steps::any_here, crate::proofs::Steps::any_later, crate::proofs::Steps::any_none))]
+fn any_of(
+    election: &Election,
+    center: &Center<'_>,
+    key: &Key,
+    sheet_blank: bool,
+    contests: &[ContestMarks],
+) -> bool
+    requires { list_all (is_read election.now) contests.now ≡ true }
+    ensures { result ≡ list_any
+        (desk.contest_waits election.now center.now.events key.now sheet_blank) contests.now }
+{
+    for marks in contests {
+        if contest_waits(election, center, key, sheet_blank, marks) {
+            return true;
+        }
+    }
+    false
 }
 
 /// Whether a contest of a sheet waits.
@@ -86,13 +114,13 @@ pub(crate) fn any_waits(
     requires { is_sheet election.now sheet.now ≡ true }
     ensures { result ≡ desk.any_waits election.now center.now.events key.now (Some sheet.now) }
 {
-    let sheet_blank = is_blank(sheet);
-    for marks in sheet.contests.as_slice() {
-        if contest_waits(election, center, key, sheet_blank, marks) {
-            return true;
-        }
-    }
-    false
+    any_of(
+        election,
+        center,
+        key,
+        is_blank(sheet),
+        sheet.contests.as_slice(),
+    )
 }
 
 /// Whether the sheet of a batch with a number was added, and a contest of it waits.

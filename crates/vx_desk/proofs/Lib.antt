@@ -1,0 +1,11 @@
+mod Steps
+mod Decided
+mod Found
+mod Turned
+mod Framed
+mod Packing
+mod Wide
+mod Same
+mod LeftOver
+mod Floatless
+mod Markup
