@@ -30,7 +30,7 @@ is-done (Try name scans) files records taken taken_now held_now answer runs done
 is-done (Cards name) files records taken taken_now held_now answer runs done = done
 is-done (Results name) files records taken taken_now held_now answer runs done = done
 is-done (Sample name seed size hand) files records taken taken_now held_now answer runs done = done
-is-done (Desk name batch scans) files records taken taken_now held_now answer runs done = absurd (false≢true runs)
+is-done (Desk name batch scans) files records taken taken_now held_now answer runs done = done
 is-done (Center name moment named items) files records taken taken_now held_now answer runs done = absurd (false≢true runs)
 
 -- where all acts are done, all their records are kept

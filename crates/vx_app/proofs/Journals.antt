@@ -65,7 +65,7 @@ done-of (Try name scans) files records taken taken_now held_now answer runs done
 done-of (Cards name) files records taken taken_now held_now answer runs done = done
 done-of (Results name) files records taken taken_now held_now answer runs done = done
 done-of (Sample name seed size hand) files records taken taken_now held_now answer runs done = done
-done-of (Desk name batch scans) files records taken taken_now held_now answer runs done = absurd (false≢true runs)
+done-of (Desk name batch scans) files records taken taken_now held_now answer runs done = done
 done-of (Center name moment named items) files records taken taken_now held_now answer runs done = absurd (false≢true runs)
 
 module _ (count : CountKeepsJournals) (decide : DecideKeepsJournals) (center : CenterKeepsJournals) (stays : JournalsStay) (fronts : FrontsAreJournals) where

@@ -14,11 +14,12 @@ use Rattle.vx_command_try.specs.Outcome.{try_outcome}
 use Rattle.vx_command_cards.specs.Outcome.{cards_outcome}
 use Rattle.vx_command_results.specs.Outcome.{results_outcome}
 use Rattle.vx_command_sample.specs.Outcome.{sample_outcome}
+use Rattle.vx_command_desk.specs.Outcome.{desk_outcome}
 use Rattle.vx_words.specs.declared.command.Command.{Command}
 use Rattle.vx_words.specs.declared.command.Command.TheVariants.{Print, Read, Check, Count, Decide, Queue, Export, Demo, Center, Try, Cards, Results, Sample, Desk}
 
 -- what a command does, by the files and the records of the journal; the acts of `center`, which its history tells besides, stand
--- in its own `Centers`, and nothing here; `desk` isn't made yet
+-- in its own `Centers`, and nothing here
 abbrev pub outcome_of : Command → Files → List (List ℕ) → Outcome
 outcome_of (Print election card kind test) files records =
     print_outcome election (record { card = card; kind = kind; test = test }) files
@@ -34,7 +35,7 @@ outcome_of (Try election scans) files records = try_outcome election scans files
 outcome_of (Cards election) files records = cards_outcome election files
 outcome_of (Results election) files records = results_outcome election files records
 outcome_of (Sample election seed size hand) files records = sample_outcome election seed size hand files records
-outcome_of (Desk election batch scans) files records = finished
+outcome_of (Desk election batch scans) files records = desk_outcome election batch scans files records
 
 -- a command that has an act of the keeper
 abbrev pub uses_keeper : Command → Bool

@@ -1,5 +1,5 @@
 -- Which commands `run` does, and which words are `run_center`'s.
-use Rattle.std.specs.Prelude.{◌≡◌, ℕ, Bool, true, List, Some, ◌||◌, codes, not, slice_get}
+use Rattle.std.specs.Prelude.{◌≡◌, ℕ, Bool, true, List, Some, codes, not, slice_get}
 use Rattle.std.specs.Str.{bytes_eq}
 use Rattle.vx_words.specs.declared.command.Command.{Command}
 use Rattle.vx_words.specs.declared.command.Command.TheVariants.{Center}
@@ -7,13 +7,9 @@ use Rattle.vx_words.specs.declared.command.ItemWord.{ItemWord}
 use Rattle.vx_words.specs.Names.{name_word}
 use Rattle.vx_words.specs.Words.{Spells, name_of}
 
--- the name of a command that `run` doesn't do: `center` has a top call of its own, `desk` isn't made yet
-abbrev pub is_other_name : List ℕ → Bool
-is_other_name word = bytes_eq word (codes "center") || bytes_eq word (codes "desk")
-
--- a command that `run` does
+-- a command that `run` does: each but `center`, which has a top call of its own
 abbrev pub is_run : Command → Bool
-is_run command = not (is_other_name (name_word (name_of command)))
+is_run command = not (bytes_eq (name_word (name_of command)) (codes "center"))
 
 -- the words are this command, which `run` does
 pub record SpellsRun (words : List (List ℕ)) (command : Command) : Type 0 where
@@ -31,9 +27,3 @@ NoCenter words = (election moment device : List ℕ) (items : List ItemWord) →
 -- the first word names `center`
 abbrev pub NamesCenter : List (List ℕ) → Type 0
 NamesCenter words = slice_get words 0 ≡ Some (codes "center")
-
--- the first word names a command that `run` doesn't do
-pub record NamesOther (words : List (List ℕ)) : Type 0 where
-  pub word : List ℕ
-  pub first : slice_get words 0 ≡ Some word
-  pub is_other : is_other_name word ≡ true

@@ -13,7 +13,7 @@ ghost use Rattle.vx_words.specs.declared.command.ItemWord.{ItemWord};
 ghost use Rattle.vx_words.specs.Words.{Spells};
 ghost use Rattle.vx_app.specs.Adding.{CenterAddsWhatFits};
 ghost use Rattle.vx_app.specs.Journals.{HoldsMore, IsNamed};
-ghost use Rattle.vx_app.specs.Runs.{NamesCenter, NamesOther, NoCenter, is_other_name};
+ghost use Rattle.vx_app.specs.Runs.{NamesCenter, NoCenter};
 
 use crate::laws::fitting_sheets_are_in_their_items;
 use std::alloc::Global;
@@ -35,20 +35,6 @@ pub fn is_center(words: &Words) -> bool
     ensures { IsTrue result ↔ NamesCenter words.now }
 {
     words.count() > 0 && words.word(0) == "center"
-}
-
-/// Whether a word names a command that `run` doesn't do.
-fn is_other_name(word: &str) -> bool
-    ensures { result ≡ is_other_name word.now }
-{
-    word == "center" || word == "desk"
-}
-
-/// Whether the first word names a command that `run` doesn't do. Such words are none that it does.
-pub fn is_left_out(words: &Words) -> bool
-    ensures { IsTrue result ↔ NamesOther words.now }
-{
-    words.count() > 0 && is_other_name(words.word(0))
 }
 
 /// Does the `center` that the words spell.

@@ -19,7 +19,7 @@ ghost use Rattle.vx_app.specs.Counting.{IsCount};
 ghost use Rattle.vx_app.specs.Journals.{HoldsMore, IsFor};
 ghost use Rattle.vx_app.specs.Runs.{NoRun, SpellsRun, is_run};
 
-use crate::centering::is_left_out;
+use crate::centering::is_center;
 use std::alloc::Global;
 use std::thread::Threads;
 use vx_command::{Halt, Status, acts_in_order, status_of};
@@ -29,6 +29,7 @@ use vx_command_check::{certified_pages_say_what_fits, check};
 use vx_command_count::{count, count_keeps_journals, fitting_sheets_are_kept};
 use vx_command_decide::{decide, decide_keeps_journals};
 use vx_command_demo::demo;
+use vx_command_desk::desk;
 use vx_command_export::{export, exports_write_what_was_kept};
 use vx_command_print::{Ballot, print};
 use vx_command_queue::{queue, queues_write_what_waits};
@@ -131,7 +132,7 @@ fn obey<R: Threads + Sync, I: Inputs, S: Sink, K: Keeper, G: Gate>(
             keeper,
         ),
         Command::Demo { seed, sheets } => demo(rt, alloc, seed, sheets, out),
-        Command::Center { .. } | Command::Desk { .. } => unreachable!(),
+        Command::Center { .. } => unreachable!(),
         Command::Try { election, scans } => {
             try_sheets(alloc, election.as_str(), &scans, inputs, out)
         }
@@ -152,10 +153,23 @@ fn obey<R: Threads + Sync, I: Inputs, S: Sink, K: Keeper, G: Gate>(
             out,
             keeper,
         ),
+        Command::Desk {
+            election,
+            batch,
+            scans,
+        } => desk(
+            alloc,
+            election.as_str(),
+            batch.as_str(),
+            &scans,
+            inputs,
+            out,
+            keeper,
+        ),
     }
 }
 
-/// Does the command that the words spell, unless it is one that `run` doesn't do; the workers of `count` go through the gate.
+/// Does the command that the words spell, unless it is `center`; the workers of `count` go through the gate.
 fn run_words<R: Threads + Sync, I: Inputs, S: Sink, K: Keeper, G: Gate>(
     rt: &R,
     alloc: Global,
@@ -186,7 +200,7 @@ fn run_words<R: Threads + Sync, I: Inputs, S: Sink, K: Keeper, G: Gate>(
 {
     acts_in_order();
     words_spell_one_command();
-    if is_left_out(words) {
+    if is_center(words) {
         return Status::Usage;
     }
     match parse(alloc, words) {
@@ -197,8 +211,7 @@ fn run_words<R: Threads + Sync, I: Inputs, S: Sink, K: Keeper, G: Gate>(
 }
 
 /// Does a command but `center`, whole: reads its words, takes its inputs, writes what it writes and keeps
-/// what it keeps. The words of `center` are Usage here: `run_center` does them. So are those of `desk`,
-/// which isn't made yet.
+/// what it keeps. The words of `center` are Usage here: `run_center` does them.
 ///
 /// Where the inputs tell what they hold, and the keeper if the command uses it, the acts of the
 /// command's outcome are done in order: all of them, and the status is the outcome's; or up to one at

@@ -88,6 +88,7 @@ fn only_reads(words: &Words) -> bool {
         || begins_with(words, "ranked")
         || begins_with(words, "results")
         || begins_with(words, "sample")
+        || begins_with(words, "desk")
 }
 
 /// Whether the journal is one in memory: it is called `-`, or it is a file that isn't there and that the

@@ -8,7 +8,7 @@ use Rattle.vx_words.specs.declared.command.Command.TheVariants.{Center}
 use Rattle.vx_words.specs.declared.fault.UsageFault.{UsageFault}
 use Rattle.vx_words.specs.Words.{NoCommand, Parses, Spells}
 use Rattle.vx_app.proofs.Centered.{centers-of}
-use Rattle.vx_app.proofs.Named.{names_center, no_other}
+use Rattle.vx_app.proofs.Named.{is_center, names_center, no_other}
 use Rattle.vx_app.proofs.centering.center_words.Goals as goal
 
 -- the one status of words that are no center

@@ -9,7 +9,7 @@ use Rattle.vx_words.specs.declared.command.Command.{Command}
 use Rattle.vx_words.specs.declared.fault.UsageFault.{UsageFault}
 use Rattle.vx_words.specs.Words.{NoCommand, Parses, Spells}
 use Rattle.vx_app.specs.Outcome.{appends, outcome_of, takes_first, uses_keeper}
-use Rattle.vx_app.proofs.Named.{is_left_out, is_other}
+use Rattle.vx_app.proofs.Named.{is_center, is_other}
 use Rattle.vx_app.proofs.top.run_words.Goals as goal
 
 -- the one status of words that are no command
@@ -17,22 +17,22 @@ is_usage : Status → Bool
 is_usage Usage = true
 is_usage other = false
 
-pub returns-then-is_left_out-clause-usage : goal.returns-then-is_left_out-clause-usage
-returns-then-is_left_out-clause-usage g c =
-    let named = c.is_left_out.ensures.0 c.if-is_left_out.true in
-    (λ is command spells. false≢true (sym (is_left_out c.args.words.now command named spells.spells) ∙ spells.is_run), λ none. refl)
+pub returns-then-is_center-clause-usage : goal.returns-then-is_center-clause-usage
+returns-then-is_center-clause-usage g c =
+    let named = c.is_center.ensures.0 c.if-is_center.true in
+    (λ is command spells. false≢true (sym (is_center c.args.words.now command named spells.spells) ∙ spells.is_run), λ none. refl)
 
-pub returns-then-is_left_out-clause-done : goal.returns-then-is_left_out-clause-done
-returns-then-is_left_out-clause-done g c files told command spells records kept =
-    let named = c.is_left_out.ensures.0 c.if-is_left_out.true in
-    absurd (false≢true (sym (is_left_out c.args.words.now command named spells.spells) ∙ spells.is_run))
+pub returns-then-is_center-clause-done : goal.returns-then-is_center-clause-done
+returns-then-is_center-clause-done g c files told command spells records kept =
+    let named = c.is_center.ensures.0 c.if-is_center.true in
+    absurd (false≢true (sym (is_center c.args.words.now command named spells.spells) ∙ spells.is_run))
 
 pub returns-in-Err-OutOfMemory-clause-usage : goal.returns-in-Err-OutOfMemory-clause-usage
 unfolding is_usage
 returns-in-Err-OutOfMemory-clause-usage g c =
     let Parsed : UsageFault → Type 0 = λ fault. Parses c.args.words.now (Err fault) in
     let spelled : (command : Command) × Spells c.args.words.now command = subst Parsed c.in-Err-OutOfMemory.field-0-is c.in-Err-OutOfMemory.ensures in
-    let runs = is_other c.args.words.now spelled.0 (λ named. false≢true (sym c.if-is_left_out.false ∙ c.is_left_out.ensures.1 named)) spelled.1 in
+    let runs = is_other c.args.words.now spelled.0 (λ named. false≢true (sym c.if-is_center.false ∙ c.is_center.ensures.1 named)) spelled.1 in
     (λ is. absurd (false≢true (ap is_usage is)), λ none. absurd (none spelled.0 (record { spells = spelled.1; is_run = runs })))
 
 pub returns-in-Err-Usage-clause-usage : goal.returns-in-Err-Usage-clause-usage

@@ -1,0 +1,4 @@
+pub mod ImageActs
+pub mod InputActs
+pub mod ScanActs
+pub mod Silent

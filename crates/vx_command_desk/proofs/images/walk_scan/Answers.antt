@@ -1,0 +1,48 @@
+use Rattle.std.proofs.Common.{◌≡◌, ◌<◌, length, Option, Some, Ok, Err, refl, ap, subst, ◌∙◌}
+use Rattle.std.specs.Prelude.{OnSome}
+use Rattle.std.proofs.lemmas.Result.{err_from_is_err_and}
+use Rattle.vx_plane.specs.Plane.{Page}
+use Rattle.vx_pbm.specs.Images.{Unread, with_page, images_left, Walks}
+use Rattle.vx_command_desk.specs.Setting.{texts_of}
+use Rattle.vx_command_desk.proofs.ScanActs.{all-walked, image-more, image-stops, none-yet, reader-halts}
+use Rattle.vx_command_desk.proofs.images.walk_scan.Goals as goal
+
+pub images-init : goal.images-init
+images-init g c = record {
+  up_to = none-yet (texts_of c.args.setting.now) c.args.word c.args.walked c.args.bytes.now c.new-reader.result (g.S.Sink.taken c.args.out.now) c.new-reader.ensures;
+  still = refl;
+}
+
+pub returns-in-Err-clause-done : goal.returns-in-Err-clause-done
+returns-in-Err-clause-done g c next held =
+    rw c.halt_of_bitmap.ensures (reader-halts c.acts_in_order.ensures (texts_of c.args.setting.now) c.args.word c.args.walked c.args.bytes.now _ _ c.images.now c.images.reader c.images.invariant.up_to c.in-Err.fault c.next.new.self c.in-Err.ensures.images next held)
+
+pub returns-in-Ok-None-clause-done : goal.returns-in-Ok-None-clause-done
+returns-in-Ok-None-clause-done g c =
+    let Left : Option Page → Type 0 = λ found. Walks c.images.reader (Ok found) c.next.new.self in
+    all-walked c.acts_in_order.ensures (texts_of c.args.setting.now) c.args.word c.args.walked c.args.bytes.now _ _ c.images.now c.images.reader c.images.invariant.up_to (subst Left c.in-Ok-None.field-0-is c.in-Ok-None.ensures.images)
+
+pub returns-in_err-now-in-Ok-Some-clause-done : goal.returns-in_err-now-in-Ok-Some-clause-done
+returns-in_err-now-in-Ok-Some-clause-done g c =
+    let err = err_from_is_err_and c.from_residual.result c.from_residual.ensures.1 in
+    let Left : Option Page → Type 0 = λ found. Walks c.images.reader (Ok found) c.next.new.self in
+    let left : images_left c.images.reader ≡ with_page c.in-Ok-Some.image (images_left c.next.new.self) = subst Left c.in-Ok-Some.field-0-is c.in-Ok-Some.ensures.images in
+    rw (err.1 ∙ ap Err err.2) (image-stops c.acts_in_order.ensures (texts_of c.args.setting.now) c.args.word c.args.walked c.args.bytes.now _ _ c.images.now c.images.reader c.images.invariant.up_to c.in-Ok-Some.image c.next.new.self _ c.in_err-now-in-Ok-Some.field-0.0 left c.in_err-now-in-Ok-Some.ensures.done)
+
+less_unread : (old new : Unread) (found : Option Page) (page : Page) → found ≡ Some page → OnSome found (length new.text < length old.text) → length new.text < length old.text
+less_unread old new found page is less =
+    let Less : Option Page → Type 0 = λ some. OnSome some (length new.text < length old.text) in
+    subst Less is less
+
+pub images-smaller : goal.images-smaller
+images-smaller g c = less_unread c.images.reader c.next.new.self _ c.in-Ok-Some.image c.in-Ok-Some.field-0-is c.in-Ok-Some.ensures.less
+
+pub images-preserved : goal.images-preserved
+images-preserved g c =
+    let Left : Option Page → Type 0 = λ found. Walks c.images.reader (Ok found) c.next.new.self in
+    let left : images_left c.images.reader ≡ with_page c.in-Ok-Some.image (images_left c.next.new.self) = subst Left c.in-Ok-Some.field-0-is c.in-Ok-Some.ensures.images in
+    let less : length c.next.new.self.text < length c.images.reader.text = less_unread c.images.reader c.next.new.self _ c.in-Ok-Some.image c.in-Ok-Some.field-0-is c.in-Ok-Some.ensures.less in
+    record {
+      up_to = image-more c.acts_in_order.ensures (texts_of c.args.setting.now) c.args.word c.args.walked c.args.bytes.now _ _ c.images.now c.images.reader c.images.invariant.up_to c.in-Ok-Some.image c.next.new.self _ _ left less c.in_ok-now-in-Ok-Some.ensures.one_more c.in_ok-now-in-Ok-Some.ensures.done;
+      still = c.in_ok-now-in-Ok-Some.ensures.sink.sink.still refl ∙ c.images.invariant.still;
+    }

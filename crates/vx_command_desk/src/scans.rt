@@ -1,0 +1,104 @@
+ghost use Rattle.std.specs.Prelude.{◌≡◌, ◌≤◌, ◌<◌, ◌+◌, ◌^◌, [], false, length, IfOk};
+ghost use Rattle.std.specs.Option.{ForSome};
+ghost use Rattle.vx_command.specs.Devices.{is_keeper_fault, LeavesInputs, LeavesSink, writes_nothing};
+ghost use Rattle.vx_command.specs.Done.{IsWritten};
+ghost use Rattle.vx_command_desk.specs.Outcome.{scans_outcome};
+ghost use Rattle.vx_command_desk.specs.Setting.{IsSet, closing_of, images_in, texts_of};
+ghost use Rattle.vx_command_desk.specs.Steps.{WalksFirst};
+
+use crate::images::walk_scan;
+use crate::memory::SheetMemory;
+use crate::page::close_page;
+use crate::setting::Setting;
+use crate::walked::Walked;
+use std::alloc::Global;
+use std::mem::replace;
+use vx_base::Bytes;
+use vx_command::{Halt, INPUT_LIMIT, acts_in_order, steps_in_order, take_input};
+use vx_io::{Inputs, Sink};
+use vx_json::Text;
+
+/// What is kept over all scans, so that none takes memory anew: that of the last input and those of the last
+/// sheet.
+#[derive(Drop)]
+struct ScanMemory {
+    bytes: Bytes,
+    sheets: SheetMemory,
+}
+
+impl ScanMemory {
+    fn new(alloc: Global) -> ScanMemory {
+        ScanMemory {
+            bytes: Bytes::new(alloc),
+            sheets: SheetMemory::new(alloc),
+        }
+    }
+}
+
+/// Takes the scan of a word under its name and goes through its images, behind those of the scans before.
+fn walk_input<I: Inputs, S: Sink>(
+    alloc: Global,
+    memory: &mut ScanMemory,
+    setting: &Setting<'_>,
+    name: &str,
+    word: u32,
+    walked: Walked,
+    inputs: &mut I,
+    out: &mut S,
+) -> Result<Walked, Halt>
+    requires set { IsSet setting.now }
+    requires few { images_in walked < 2 ^ 61 }
+    requires later_word { 1 < word }
+    ensures done { ForSome (I.held inputs.old) (λ files.
+        WalksFirst (texts_of setting.now) (closing_of setting.now) files word walked name.now
+        (S.taken out.old) (S.taken out.new) result) }
+    ensures bound { IfOk result (λ now. images_in now ≤ images_in walked + 67108864) }
+    ensures inputs { LeavesInputs (I.held inputs.old) (I.held inputs.new)
+        (I.faults inputs.old) (I.faults inputs.new) result }
+    ensures sink { LeavesSink (S.faults out.old) (S.faults out.new) result }
+    ensures no_keeper_fault { is_keeper_fault result ≡ false }
+    ensures late { writes_nothing false result ≡ false }
+{
+    steps_in_order::<Bytes>();
+    let last = replace(&mut memory.bytes, Bytes::new(alloc));
+    let bytes = take_input(last, inputs, name, word, INPUT_LIMIT)?;
+    let sheets = &mut memory.sheets;
+    let now = walk_scan(alloc, sheets, setting, word, walked, bytes.as_slice(), out);
+    memory.bytes = bytes;
+    now
+}
+
+/// Goes through scans one after the other, the first of which is word 3, and closes the page. One input is
+/// held at a time, and all are held in the memory of the greatest.
+pub(crate) fn walk_scans<I: Inputs, S: Sink>(
+    alloc: Global,
+    setting: &Setting<'_>,
+    scans: &[Text],
+    inputs: &mut I,
+    out: &mut S,
+) -> Result<(), Halt>
+    requires set { IsSet setting.now }
+    requires few { length scans.now ≤ 64 }
+    ensures done { ForSome (I.held inputs.old) (λ files.
+        IsWritten (scans_outcome (texts_of setting.now) (closing_of setting.now) files 3 0 [] scans.now)
+        (S.taken out.old) (S.taken out.new) result) }
+    ensures inputs { LeavesInputs (I.held inputs.old) (I.held inputs.new)
+        (I.faults inputs.old) (I.faults inputs.new) result }
+    ensures sink { LeavesSink (S.faults out.old) (S.faults out.new) result }
+    ensures no_keeper_fault { is_keeper_fault result ≡ false }
+    ensures late { writes_nothing false result ≡ false }
+{
+    acts_in_order();
+    let mut memory = ScanMemory::new(alloc);
+    let mut walked = Walked {
+        sheets: 0,
+        waiting: None,
+    };
+    let mut word = 3;
+    for scan in scans {
+        let name = scan.as_str();
+        walked = walk_input(alloc, &mut memory, setting, name, word, walked, inputs, out)?;
+        word += 1;
+    }
+    close_page(alloc, setting, walked.sheets, out)
+}
