@@ -9,3 +9,4 @@ mod Same
 mod LeftOver
 mod Floatless
 mod Markup
+mod Ways

@@ -3,7 +3,7 @@ use Rattle.std.proofs.Common.{◌≡◌, ◌≤◌, ℕ, ℤ, ◌+ℤ◌, ◌-�
 use Rattle.std.proofs.lemmas.Int.{ints}
 use Rattle.vx_grid.specs.Places.{IsWithin}
 use Rattle.vx_fit.specs.Fit.{part_of, IsOnTheWay}
-use Rattle.vx_fit.proofs.Parts.{part_on_the_way, step_within}
+use Rattle.vx_desk.proofs.Ways.{part_on_the_way, step_within}
 
 -- they are kept as they are
 pub same_wide : (z : ℤ) → IsWithin 4294967296 z → to_z w64 (of_z w64 z) ≡ z
