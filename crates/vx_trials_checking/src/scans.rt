@@ -31,9 +31,9 @@ pub(crate) struct Answer {
 /// The town's definition as `e`, scans as `s` and readings as `r`.
 fn inputs_of(alloc: Global, scans: &[u8], readings: &[u8]) -> Result<MemInputs, Fail> {
     let mut files = NamedBytes::new(alloc);
-    for (name, bytes) in [("e", TOWN.as_bytes()), ("s", scans), ("r", readings)] {
-        files.push(name, Bytes::from_slice(alloc, bytes)?)?;
-    }
+    files.push("e", Bytes::from_slice(alloc, TOWN.as_bytes())?)?;
+    files.push("s", Bytes::from_slice(alloc, scans)?)?;
+    files.push("r", Bytes::from_slice(alloc, readings)?)?;
     Ok(MemInputs::new(files, Calls::new(alloc)))
 }
 

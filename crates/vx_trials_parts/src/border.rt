@@ -64,12 +64,14 @@ fn a_clean_page_has_its_border(rt: HostRuntime) -> Result<(), Fail> {
 
 /// Why a page has no border.
 fn fault_of(alloc: Global, page: &BitPage) -> Result<Option<BorderFault>, Fail> {
+    let (_width, _height) = (page.width(), page.height());
     let counter = Counter::new(alloc, &page.view())?;
     Ok(trace(&counter, Paper::Letter).err())
 }
 
 /// Where marks 0, 1 and 5 of a page's border stand.
 fn places_on(alloc: Global, page: &BitPage) -> Result<[Point; 3], Fail> {
+    let (_width, _height) = (page.width(), page.height());
     let counter = Counter::new(alloc, &page.view())?;
     let border = trace(&counter, Paper::Letter).map_err(|_| "no border")?;
     Ok([border.at(0), border.at(1), border.at(5)])
