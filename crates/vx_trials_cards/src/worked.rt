@@ -56,8 +56,8 @@ fn sink_of(alloc: Global, room: u64, writes: &[u64]) -> Result<MemSink, AllocErr
 }
 
 /// How a `cards` ended.
-fn told(alloc: Global, result: Result<(), Halt>) -> Result<String, AllocError> {
-    match result {
+fn told(alloc: Global, ended: Result<(), Halt>) -> Result<String, AllocError> {
+    match ended {
         Ok(()) => String::from_str(alloc, "ok"),
         Err(halt) => format!(in alloc; "{halt}"),
     }
