@@ -5,7 +5,7 @@ use Rattle.vx_words.specs.declared.command.Command.{Command}
 use Rattle.vx_words.specs.declared.command.Command.TheVariants.{Center}
 use Rattle.vx_words.specs.declared.command.ItemWord.{ItemWord}
 use Rattle.vx_words.specs.Names.{name_word}
-use Rattle.vx_words.specs.Words.{Spells, name_of}
+use Rattle.vx_words.specs.Words.{NoCommand, Spells, name_of}
 
 -- a command that `run` does: each but `center`, which has a top call of its own
 abbrev pub is_run : Command → Bool
@@ -27,3 +27,9 @@ NoCenter words = (election moment device : List ℕ) (items : List ItemWord) →
 -- the first word names `center`
 abbrev pub NamesCenter : List (List ℕ) → Type 0
 NamesCenter words = slice_get words 0 ≡ Some (codes "center")
+
+-- commands by their first word: words that begin as a `center` does and are none are no command, and neither are others
+-- that are none of `run`
+pub record CommandsAreNamed : Type 0 where
+  pub center : (words : List (List ℕ)) → NamesCenter words → NoCenter words → NoCommand words
+  pub other : (words : List (List ℕ)) → (NamesCenter words → ⊥) → NoRun words → NoCommand words

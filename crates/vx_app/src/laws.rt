@@ -1,7 +1,8 @@
-//! What runs leave of a journal, and what `center` adds of scans that fit printed pages. These functions do
-//! nothing; their contracts are the laws.
+//! What runs leave of a journal, what `center` adds of scans that fit printed pages, and which words are no
+//! command. These functions do nothing; their contracts are the laws.
 
 ghost use Rattle.vx_app.specs.Adding.{FittingSheetsAreInTheirItems};
+ghost use Rattle.vx_app.specs.Runs.{CommandsAreNamed};
 ghost use Rattle.vx_app.specs.Journals.{EndedRunsKeepTheirActs, RunsAddRecords, RunsKeepEvents, RunsLeaveJournals};
 
 use vx_command::taken_elections_are_valid;
@@ -61,3 +62,9 @@ pub fn fitting_sheets_are_in_their_items()
     images_are_whole();
     fitting_sheets_are_read();
 }
+
+/// Words that begin as a `center` does and are none are no command at all, and neither are others that are
+/// none of `run`.
+pub fn commands_are_named()
+    ensures { CommandsAreNamed }
+{}

@@ -2,4 +2,5 @@ pub mod Fakes
 pub mod Keeping
 pub mod Laws
 pub mod Outside
+pub mod Real
 pub mod Take

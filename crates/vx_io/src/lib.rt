@@ -9,10 +9,12 @@
 //!
 //! The definitions stand in `specs/`: `Outside.antt` has what the outside holds and what a call
 //! counts, `Take.antt` what `take` may answer, `Fakes.antt` and `Keeping.antt` which calls fail in
-//! memory and what a call leaves. `Laws.antt` has the laws for callers, which the functions of `laws`
+//! memory and what a call leaves, `Real.antt` what is asked of a real file and what the system's answers
+//! are told as. `Laws.antt` has the laws for callers, which the functions of `laws`
 //! promise: fronts of a text, what was taken text after text, counts of faults.
 #![tactic(auto)]
 
+mod answers;
 mod giving;
 mod laws;
 mod lists;
@@ -36,4 +38,5 @@ pub use outside::{Failed, Inputs, Keeper, KeeperError, Sink};
 pub use std_inputs::StdInputs;
 pub use std_sink::StdSink;
 pub use taking::{TakeFault, take, take_reusing};
+pub use tally::count_fault;
 pub use words::Words;

@@ -2,6 +2,7 @@ ghost use Rattle.std.specs.Prelude.{◌≡◌, ◌<◌, ◌≤◌, None, IfOk, l
 ghost use Rattle.vx_io.specs.Fakes.{raised};
 ghost use Rattle.vx_io.specs.Outside.{CountsFaults, IsSameBehind, IsSizeOf, ReadsFrom};
 
+use crate::answers::{count_told, piece_of, size_told};
 use crate::outside::{Failed, Inputs};
 use crate::tally::count_fault;
 use std::fs::OpenFile;
@@ -44,17 +45,16 @@ fn size_of_file<R: Files>(rt: &R, path: &str) -> io::Result<u64> {
 }
 
 /// Reads a file from an offset on into the front of a buffer, as far as both reach, and answers how
-/// many bytes. It asks for no byte more, so that what lies behind them stays as it was.
+/// many bytes.
 fn read_file<R: Files>(rt: &R, path: &str, at: u64, buf: &mut [u8]) -> io::Result<usize>
     ensures within { IfOk result (λ count. count ≤ length buf.new) }
     ensures behind { IfOk result (λ count. IsSameBehind count buf.old buf.new) }
 {
     let mut file = fs::open(rt, path)?;
-    let left = file.metadata()?.len().saturating_sub(at) as usize;
-    let count = buf.len().min(left);
-    file.seek(SeekFrom::Start(at))?;
-    file.read_exact(&mut buf[..count])?;
-    Ok(count)
+    let piece = piece_of(buf.len(), file.metadata()?.len(), at);
+    file.seek(SeekFrom::Start(piece.from))?;
+    file.read_exact(&mut buf[..piece.count])?;
+    Ok(piece.count)
 }
 
 impl<R: Files> Inputs for StdInputs<'_, R> {
@@ -67,11 +67,9 @@ impl<R: Files> Inputs for StdInputs<'_, R> {
         ensures cause { CountsFaults (is_err result) self.old self.new }
         ensures counted { self.new ≡ (if is_err result then raised self.old else self.old) }
     {
-        match size_of_file(self.rt, name) {
-            Ok(size) => Ok(Some(size)),
-            Err(error) if error.kind() == ErrorKind::NotFound => Ok(None),
-            Err(_) => Err(count_fault(&mut self.faults)),
-        }
+        let size = size_told(size_of_file(self.rt, name));
+        count_fault(&mut self.faults, size.is_err());
+        size
     }
 
     fn read(&mut self, name: &str, at: u64, buf: &mut [u8]) -> Result<usize, Failed>
@@ -81,9 +79,8 @@ impl<R: Files> Inputs for StdInputs<'_, R> {
         ensures cause { CountsFaults (is_err result) self.old self.new }
         ensures counted { self.new ≡ (if is_err result then raised self.old else self.old) }
     {
-        match read_file(self.rt, name, at, buf) {
-            Ok(count) if count > 0 => Ok(count),
-            _ => Err(count_fault(&mut self.faults)),
-        }
+        let count = count_told(read_file(self.rt, name, at, buf));
+        count_fault(&mut self.faults, count.is_err());
+        count
     }
 }

@@ -2,6 +2,7 @@ ghost use Rattle.std.specs.Prelude.{◌≡◌, ◌<◌, ◌≤◌, None, IfOk, l
 ghost use Rattle.vx_io.specs.Fakes.{raised};
 ghost use Rattle.vx_io.specs.Outside.{CountsFaults, TookFront, TookPiece};
 
+use crate::answers::count_told;
 use crate::outside::{Failed, Sink};
 use crate::tally::count_fault;
 use std::marker::Model;
@@ -41,9 +42,8 @@ impl<R: Print> Sink for StdSink<'_, R> {
         ensures cause { CountsFaults (is_err result) self.old self.new }
         ensures counted { self.new ≡ (if is_err result then raised self.old else self.old) }
     {
-        match self.rt.write_some(piece) {
-            Ok(count) if count > 0 => Ok(count),
-            _ => Err(count_fault(&mut self.faults)),
-        }
+        let count = count_told(self.rt.write_some(piece));
+        count_fault(&mut self.faults, count.is_err());
+        count
     }
 }

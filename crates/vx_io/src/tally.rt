@@ -1,8 +1,6 @@
-ghost use Rattle.std.specs.Prelude.{◌≡◌, true};
+ghost use Rattle.std.specs.Prelude.{◌≡◌, if◌then◌else◌};
 ghost use Rattle.vx_io.specs.Fakes.{counted, number_of_next, raised};
 ghost use Rattle.vx_io.specs.Outside.{CountsFaults};
-
-use crate::outside::Failed;
 
 /// How often the outside in memory was called, and how many faults it counted. Both stand still at
 /// their last value.
@@ -41,11 +39,12 @@ impl Tally {
     }
 }
 
-/// Counts a fault.
-pub(crate) fn count_fault(faults: &mut u64) -> Failed
-    ensures raised { faults.new ≡ raised faults.old }
-    ensures cause { CountsFaults true faults.old faults.new }
+/// Counts a fault, where a call failed.
+pub fn count_fault(faults: &mut u64, failed: bool)
+    ensures counted { faults.new ≡ (if failed then raised faults.old else faults.old) }
+    ensures cause { CountsFaults failed faults.old faults.new }
 {
-    *faults = faults.saturating_add(1);
-    Failed
+    if failed {
+        *faults = faults.saturating_add(1);
+    }
 }

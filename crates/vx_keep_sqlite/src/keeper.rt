@@ -4,30 +4,28 @@ ghost use Rattle.vx_io.specs.Keeping.{has_failed};
 ghost use Rattle.vx_io.specs.Outside.{Appends, CountsFaults, IsCountOf, IsRecordAt, MayAppend};
 
 use crate::refusal::told;
-use crate::table::{Table, append_to, count_in, fetch_from};
+use crate::table::JournalFile;
 use std::alloc::AllocError;
 use std::marker::Model;
 use std::rt::HostRuntime;
 use vx_base::Bytes;
-use vx_io::{Keeper, KeeperError};
+use vx_io::{Keeper, KeeperError, count_fault};
 
 /// A journal in a file that SQLite reads. It tells nothing of its records; it keeps to the path that it
 /// was made with, and counts its faults: after the first each later call is one more.
 #[derive(Drop)]
 pub struct SqliteKeeper<'r> {
     rt: &'r HostRuntime,
-    path: String,
-    table: Option<Table>,
+    file: JournalFile,
     faults: u64,
 }
 
 impl<'r> Model for SqliteKeeper<'r> {
-    ghost use Rattle.std.specs.Prelude.{string_bytes};
     ghost use Rattle.vx_keep_sqlite.specs.OnFile.{OnFile};
 
     ghost Value = { OnFile };
 
-    ghost view = { λ keeper. record { path = string_bytes keeper.path; faults = keeper.faults } };
+    ghost view = { λ keeper. record { path = keeper.file; faults = keeper.faults } };
 }
 
 impl<'r> SqliteKeeper<'r> {
@@ -38,8 +36,7 @@ impl<'r> SqliteKeeper<'r> {
     {
         Ok(SqliteKeeper {
             rt,
-            path: String::from_str(rt.alloc(), path)?,
-            table: None,
+            file: JournalFile::new(rt.alloc(), path)?,
             faults: 0,
         })
     }
@@ -49,16 +46,6 @@ impl<'r> SqliteKeeper<'r> {
         ensures { result ≡ nat_lt 0 self.now.faults }
     {
         self.faults > 0
-    }
-}
-
-/// Counts a fault, where there was one.
-fn count_fault(faults: &mut u64, failed: bool)
-    ensures counted { faults.new ≡ (if failed then raised faults.old else faults.old) }
-    ensures cause { CountsFaults failed faults.old faults.new }
-{
-    if failed {
-        *faults = faults.saturating_add(1);
     }
 }
 
@@ -77,7 +64,7 @@ impl Keeper for SqliteKeeper<'_> {
         let counted = if self.has_given_up() {
             Err(KeeperError::Failed)
         } else {
-            told(count_in(self.rt, self.path.as_str(), &mut self.table))
+            told(self.file.count(self.rt))
         };
         count_fault(&mut self.faults, counted == Err(KeeperError::Failed));
         counted
@@ -95,7 +82,7 @@ impl Keeper for SqliteKeeper<'_> {
         let fetched = if self.has_given_up() {
             Err(KeeperError::Failed)
         } else {
-            told(fetch_from(self.rt, self.path.as_str(), &mut self.table, index, into))
+            told(self.file.fetch(self.rt, index, into))
         };
         if fetched.is_err() {
             into.clear();
@@ -115,7 +102,7 @@ impl Keeper for SqliteKeeper<'_> {
         let kept = if self.has_given_up() {
             Err(KeeperError::Failed)
         } else {
-            told(append_to(self.rt, self.path.as_str(), &mut self.table, body))
+            told(self.file.append(self.rt, body))
         };
         count_fault(&mut self.faults, kept == Err(KeeperError::Failed));
         kept

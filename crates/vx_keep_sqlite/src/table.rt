@@ -2,12 +2,14 @@ ghost use Rattle.std.specs.Prelude.{◌≡◌, ◌+ℤ◌, pos, IfOk, OnErr, OnO
 
 use sqlite::types::ValueRef;
 use sqlite::{Connection, Error, ErrorCode, File, FileStore, params};
+use std::alloc::{AllocError, Global};
+use std::marker::Model;
 use std::rt::HostRuntime;
 use vx_base::Bytes;
 
 /// The open file, and how many records its table has.
 #[derive(Drop)]
-pub(crate) struct Table {
+struct Table {
     connection: Connection<FileStore<File>>,
     records: i64,
 }
@@ -57,7 +59,7 @@ fn insert_record(
 
 impl Table {
     /// Opens the file, or makes it.
-    pub(crate) fn open(rt: &HostRuntime, path: &str) -> Result<Table, Error> {
+    fn open(rt: &HostRuntime, path: &str) -> Result<Table, Error> {
         let mut connection = connection_of(rt, path)?;
         let records = count_records(&mut connection)?;
         Ok(Table {
@@ -67,14 +69,14 @@ impl Table {
     }
 
     /// How many records there are.
-    pub(crate) fn count(&self) -> Result<u64, Error>
+    fn count(&self) -> Result<u64, Error>
         ensures { IfOk result (λ count. pos count ≡ self.now.records) }
     {
         u64::try_from(self.records).map_err(|_| Error::SqliteFailure(ErrorCode::DatabaseCorrupt))
     }
 
     /// Copies the record at an index behind what is there.
-    pub(crate) fn fetch(&mut self, index: u64, into: &mut Bytes) -> Result<(), Error>
+    fn fetch(&mut self, index: u64, into: &mut Bytes) -> Result<(), Error>
         ensures { self.new.records ≡ self.old.records }
     {
         let place = i64::try_from(index).map_err(|_| Error::QueryReturnedNoRows)?;
@@ -82,7 +84,7 @@ impl Table {
     }
 
     /// Adds a record at the end, in a transaction of its own. It is counted where that is done.
-    pub(crate) fn append(&mut self, body: &[u8]) -> Result<(), Error>
+    fn append(&mut self, body: &[u8]) -> Result<(), Error>
         ensures counted { OnOk result (self.new.records ≡ self.old.records +ℤ pos 1) }
         ensures as_before { OnErr result (self.new.records ≡ self.old.records) }
     {
@@ -96,7 +98,7 @@ impl Table {
     }
 }
 
-/// The open file; it is opened, or made, at the first call.
+/// The open table; the file is opened, or made, at the first call.
 fn opened<'t>(
     rt: &HostRuntime,
     path: &str,
@@ -110,32 +112,56 @@ fn opened<'t>(
         .ok_or(Error::SqliteFailure(ErrorCode::CannotOpen))
 }
 
-/// How many records there are in the file at the path.
-pub(crate) fn count_in(
-    rt: &HostRuntime,
-    path: &str,
-    table: &mut Option<Table>,
-) -> Result<u64, Error> {
-    opened(rt, path, table)?.count()
+/// The journal's file: the path that it was made with, and its table, once it is open. No call is handed
+/// a path, so each is about that one.
+#[derive(Drop)]
+pub(crate) struct JournalFile {
+    path: String,
+    table: Option<Table>,
 }
 
-/// Copies the record at an index of the file at the path behind what is there.
-pub(crate) fn fetch_from(
-    rt: &HostRuntime,
-    path: &str,
-    table: &mut Option<Table>,
-    index: u64,
-    into: &mut Bytes,
-) -> Result<(), Error> {
-    opened(rt, path, table)?.fetch(index, into)
+impl Model for JournalFile {
+    ghost use Rattle.std.specs.Prelude.{List, ℕ, string_bytes};
+
+    ghost Value = { List ℕ };
+
+    ghost view = { λ file. string_bytes file.path };
 }
 
-/// Adds a record at the end of the file at the path.
-pub(crate) fn append_to(
-    rt: &HostRuntime,
-    path: &str,
-    table: &mut Option<Table>,
-    body: &[u8],
-) -> Result<(), Error> {
-    opened(rt, path, table)?.append(body)
+impl JournalFile {
+    /// The file at a path, which isn't opened yet. It takes memory for the path alone.
+    pub(crate) fn new(alloc: Global, path: &str) -> Result<JournalFile, AllocError>
+        ensures { IfOk result (λ file. file ≡ path.now) }
+    {
+        Ok(JournalFile {
+            path: String::from_str(alloc, path)?,
+            table: None,
+        })
+    }
+
+    /// How many records there are in the file.
+    pub(crate) fn count(&mut self, rt: &HostRuntime) -> Result<u64, Error>
+        ensures path { self.new ≡ self.old }
+    {
+        opened(rt, self.path.as_str(), &mut self.table)?.count()
+    }
+
+    /// Copies the record at an index behind what is there.
+    pub(crate) fn fetch(
+        &mut self,
+        rt: &HostRuntime,
+        index: u64,
+        into: &mut Bytes,
+    ) -> Result<(), Error>
+        ensures path { self.new ≡ self.old }
+    {
+        opened(rt, self.path.as_str(), &mut self.table)?.fetch(index, into)
+    }
+
+    /// Adds a record at the end of the file.
+    pub(crate) fn append(&mut self, rt: &HostRuntime, body: &[u8]) -> Result<(), Error>
+        ensures path { self.new ≡ self.old }
+    {
+        opened(rt, self.path.as_str(), &mut self.table)?.append(body)
+    }
 }

@@ -3,19 +3,17 @@
 //! error and ends with the status's number.
 #![tactic(auto)]
 
-use std::alloc::Global;
 use std::process::ExitCode;
 use std::sync::Wait;
 use std::thread::Threads;
-use std::{env, fmt, fs};
-use vx_app::{arguments_status, command_words, is_center, run, run_center};
+use std::{env, fmt};
+use vx_app::{arguments_status, command_words};
 use vx_command::{Halt, Message, Status};
 use vx_command_audit::{AuditMessage, AuditStatus, run_audit};
 use vx_command_gray::{GrayMessage, GrayStatus, run_gray};
-use vx_command_ranked::{RankedMessage, RankedStatus, run_ranked};
-use vx_io::{Inputs, Keeper, KeeperCalls, MemKeeper, Records, Sink, StdInputs, StdSink, Words};
-use vx_keep_sqlite::SqliteKeeper;
-use vx_workers::OpenGate;
+use vx_command_ranked::{RankedMessage, RankedStatus};
+use vx_io::{StdInputs, StdSink, Words};
+use vx_program::{begins_with, rank_with, run_with};
 
 /// The arguments of the command line, the program's name before them.
 fn arguments_of_line(rt: &HostRuntime) -> Result<Vec<String>, Status> {
@@ -28,89 +26,6 @@ fn arguments_of_line(rt: &HostRuntime) -> Result<Vec<String>, Status> {
     }
 }
 
-/// Does a command: `center` alone may wait.
-fn run_command<R: Threads + Wait + Sync, I: Inputs, S: Sink, K: Keeper>(
-    threads: &R,
-    alloc: Global,
-    words: &Words,
-    inputs: &mut I,
-    out: &mut S,
-    keeper: &mut K,
-) -> Status {
-    if is_center(words) {
-        run_center(threads, alloc, words, inputs, out, keeper, &OpenGate)
-    } else {
-        run(threads, alloc, words, inputs, out, keeper)
-    }
-}
-
-/// Does a command with a journal in memory, which lasts for this run.
-fn run_in_memory<R: Threads + Wait + Sync>(rt: &HostRuntime, threads: &R, words: &Words) -> Status {
-    let mut inputs = StdInputs::new(rt);
-    let mut out = StdSink::new(rt);
-    let mut keeper = MemKeeper::new(Records::new(rt.alloc()), KeeperCalls::new(rt.alloc()));
-    run_command(
-        threads,
-        rt.alloc(),
-        words,
-        &mut inputs,
-        &mut out,
-        &mut keeper,
-    )
-}
-
-/// Does a command with a journal in the file of this name.
-fn run_on_file<R: Threads + Wait + Sync>(
-    rt: &HostRuntime,
-    threads: &R,
-    journal: &str,
-    words: &Words,
-) -> Status {
-    let mut inputs = StdInputs::new(rt);
-    let mut out = StdSink::new(rt);
-    match SqliteKeeper::new(rt, journal) {
-        Ok(mut keeper) => run_command(
-            threads,
-            rt.alloc(),
-            words,
-            &mut inputs,
-            &mut out,
-            &mut keeper,
-        ),
-        Err(_refused) => Status::Halted(Halt::NoMemory),
-    }
-}
-
-/// Whether a command reads the journal and appends nothing to it.
-fn only_reads(words: &Words) -> bool {
-    begins_with(words, "queue")
-        || begins_with(words, "export")
-        || begins_with(words, "ranked")
-        || begins_with(words, "results")
-        || begins_with(words, "sample")
-        || begins_with(words, "desk")
-}
-
-/// Whether the journal is one in memory: it is called `-`, or it is a file that isn't there and that the
-/// command would only read. Such a file is an empty journal, and isn't made.
-fn is_in_memory(rt: &HostRuntime, journal: &str, words: &Words) -> bool {
-    journal == "-" || (only_reads(words) && matches!(fs::exists(rt, journal), Ok(false)))
-}
-
-/// Does a command with the journal that the first argument names.
-fn run_with<R: Threads + Wait + Sync>(
-    rt: &HostRuntime,
-    threads: &R,
-    journal: &str,
-    words: &Words,
-) -> Status {
-    if is_in_memory(rt, journal, words) {
-        run_in_memory(rt, threads, words)
-    } else {
-        run_on_file(rt, threads, journal, words)
-    }
-}
-
 /// What the program ends with: the status of `run` or `run_center`, or that of another top call.
 #[derive(Drop)]
 enum Ending {
@@ -118,11 +33,6 @@ enum Ending {
     Gray(GrayStatus),
     Ranked(RankedStatus),
     Audit(AuditStatus),
-}
-
-/// Whether the words begin with this command's name.
-fn begins_with(words: &Words, name: &str) -> bool {
-    words.count() > 0 && words.word(0) == name
 }
 
 /// Makes grayscale scans into bitmaps; the journal has no part in it.
@@ -137,20 +47,6 @@ fn audit(rt: &HostRuntime, words: &Words) -> AuditStatus {
     let mut inputs = StdInputs::new(rt);
     let mut out = StdSink::new(rt);
     run_audit(rt.alloc(), words, &mut inputs, &mut out)
-}
-
-/// Counts the ranked contests of the journal with this name, or of one in memory.
-fn rank_with(rt: &HostRuntime, journal: &str, words: &Words) -> RankedStatus {
-    let mut inputs = StdInputs::new(rt);
-    let mut out = StdSink::new(rt);
-    if is_in_memory(rt, journal, words) {
-        let mut keeper = MemKeeper::new(Records::new(rt.alloc()), KeeperCalls::new(rt.alloc()));
-        return run_ranked(rt.alloc(), words, &mut inputs, &mut out, &mut keeper);
-    }
-    match SqliteKeeper::new(rt, journal) {
-        Ok(mut keeper) => run_ranked(rt.alloc(), words, &mut inputs, &mut out, &mut keeper),
-        Err(_refused) => RankedStatus::Halted(Halt::NoMemory),
-    }
 }
 
 /// Does the command of the command line.
