@@ -10,21 +10,24 @@ use std::sync::Wait;
 use std::test::Fail;
 use std::thread::Threads;
 
-/// Words, the records before them, and how many calls of the inputs, the sink and the keeper are made.
+/// Words, the records before them, how many calls of the inputs, the sink and the keeper are made, and what the
+/// inputs are asked.
 ///
-/// An input is asked for its size and then read in one piece, that of an item for its size once before. A text is written in one piece: a line of the
-/// history, the lines of the other sheets, the line before the report, the report. The journal is asked for the
-/// number of its records, and then for each.
-const TRIALS: [(&[&str], &[&str], [u64; 3]); 2] = [
+/// An input is asked for its size and then read in one piece, those of items for their sizes once before. A text is
+/// written in one piece: a line of the history, the lines of the other sheets, the line before the report, the
+/// report. The journal is asked for the number of its records, and then for each.
+const TRIALS: [(&[&str], &[&str], [u64; 3], &str); 2] = [
     (
         &["center", "e", MOMENT, DEVICE, "scan:b1:a"],
         &[],
         [5, 5, 4],
+        "size e\nread e 0\nsize a\nsize a\nread a 0\n",
     ),
     (
         &["center", "e", MOMENT, DEVICE, "script:t", "script:t"],
         ONE_SHEET,
         [8, 4, 3],
+        "size e\nread e 0\nsize t\nsize t\nsize t\nread t 0\nsize t\nread t 0\n",
     ),
 ];
 
@@ -48,12 +51,13 @@ fn failing_at<'x>(device: usize, call: &'x [u64], keeps: &'x [(u64, bool)]) -> F
     }
 }
 
-/// A `center` that is tried: its files, the records before it, and its words.
+/// A `center` that is tried: its files, the records before it, its words, and what it asks its inputs.
 #[derive(Clone, Copy)]
 struct Trial<'x> {
     files: &'x [(&'x str, &'x [u8])],
     before: &'x [&'x str],
     words: &'x [&'x str],
+    asked: &'x str,
 }
 
 /// Runs a trial while calls fail.
@@ -66,6 +70,7 @@ fn run_trial<R: Threads + Wait + Sync + AllocGlobal>(
         files,
         before,
         words,
+        ..
     } = trial;
     center(rt, files, before, words, failing, &TrialGate::open())
 }
@@ -121,6 +126,7 @@ fn each_fails<R: Threads + Wait + Sync + AllocGlobal + Abort>(
     calls: u64,
 ) -> Result<(), Fail> {
     let whole = run_trial(rt, trial, Failing::NONE)?;
+    assert_eq!(rt; whole.asked.as_str(), trial.asked, "{:?}", trial.words);
     for call in 1..calls.saturating_add(2) {
         one_fails(rt, trial, &whole, device, call, call <= calls)?;
     }
@@ -131,11 +137,12 @@ fn each_fails<R: Threads + Wait + Sync + AllocGlobal + Abort>(
 fn a_center_ends_with_the_device_s_fault(rt: HostRuntime) -> Result<(), Fail> {
     let scan = make_scan(&rt)?;
     let files = files_of(scan.as_slice(), b"");
-    for (words, before, calls) in TRIALS {
+    for (words, before, calls, asked) in TRIALS {
         let trial = Trial {
             files: &files,
             before,
             words,
+            asked,
         };
         for (device, count) in calls.iter().enumerate() {
             each_fails(&rt, trial, device, *count)?;

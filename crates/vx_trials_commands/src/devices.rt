@@ -5,7 +5,7 @@ use std::thread::Threads;
 use vx_app::run;
 use vx_base::{Bytes, ListOf};
 use vx_io::{MemInputs, MemKeeper, MemSink, NamedBytes, Records, Words};
-use vx_town::words_of;
+use vx_town::{HeardInputs, words_of};
 
 /// What the inputs and the keeper of a command hold: bytes under names, and records.
 #[derive(Clone, Copy)]
@@ -37,15 +37,17 @@ impl Failing<'_> {
 /// The devices of a command.
 #[derive(Drop)]
 pub(crate) struct Devices {
-    pub(crate) inputs: MemInputs,
+    pub(crate) inputs: HeardInputs,
     pub(crate) out: MemSink,
     pub(crate) keeper: MemKeeper,
 }
 
-/// What a command answered, as the program says it, what the sink had taken, and what the keeper held.
+/// What a command answered, as the program says it, what it asked its inputs, what the sink had taken, and what
+/// the keeper held.
 #[derive(Drop)]
 pub(crate) struct Answer {
     pub(crate) status: String,
+    pub(crate) asked: String,
     pub(crate) text: Vec<u8>,
     pub(crate) records: Records,
 }
@@ -73,9 +75,10 @@ fn inputs_of(
     alloc: Global,
     files: &[(&str, &[u8])],
     fails: &[u64],
-) -> Result<MemInputs, AllocError> {
+) -> Result<HeardInputs, AllocError> {
     let fails = ListOf::from_vec(Vec::from_slice(alloc, fails)?);
-    Ok(MemInputs::new(files_of(alloc, files)?, fails))
+    let inputs = MemInputs::new(files_of(alloc, files)?, fails);
+    Ok(HeardInputs::new(alloc, inputs))
 }
 
 /// A sink with so much room, of which the listed calls fail.
@@ -117,6 +120,7 @@ pub(crate) fn answer_of(
 ) -> Result<Answer, AllocError> {
     Ok(Answer {
         status,
+        asked: String::from_str(alloc, devices.inputs.heard())?,
         text: Vec::from_slice(alloc, devices.out.held())?,
         records: copy_of(alloc, devices.keeper.records())?,
     })

@@ -8,6 +8,14 @@ use crate::failing_trials::{COUNTS, Day, JOURNALS, READERS, Trial, make_day, run
 use std::process::Abort;
 use std::test::Fail;
 use std::thread::Threads;
+use vx_town::asked_in_order;
+
+/// The command asked its inputs, one after the other, for their size and their bytes, and nothing else.
+fn assert_asked<R: AllocGlobal + Abort>(rt: &R, trial: &Trial, whole: &Answer) -> Result<(), Fail> {
+    let asked = asked_in_order(rt.alloc(), trial.asks)?;
+    assert_eq!(rt; whole.asked.as_str(), asked.as_str(), "{:?}", trial.words);
+    Ok(())
+}
 
 /// The command, undisturbed, does all its acts and ends as it should.
 fn undisturbed<R: Threads + Sync + AllocGlobal + Abort>(
@@ -18,6 +26,7 @@ fn undisturbed<R: Threads + Sync + AllocGlobal + Abort>(
     let whole = run_trial(rt, day, trial, Failing::NONE)?;
     assert_eq!(rt; whole.status.as_str(), trial.ends, "{:?}", trial.words);
     assert_stand(rt, trial, &whole, &whole, trial.acts.len());
+    assert_asked(rt, trial, &whole)?;
     Ok(whole)
 }
 

@@ -8,15 +8,16 @@ use std::thread::Threads;
 use vx_io::Records;
 use vx_town::{TOWN, records_of};
 
-/// A command, the records before it, behind how many acts it takes each of its inputs, whether it
-/// reads the journal, its acts in order, and how it ends where nothing fails.
+/// A command, the records before it, the inputs that it takes, in order, and behind how many acts it takes each of
+/// them, whether it reads the journal, its acts in order, and how it ends where nothing fails.
 ///
-/// An input is asked for its size and then read in one piece. The journal is asked for the number of
-/// its records, and then for each, before any act. A text is written in one piece.
+/// An input is asked for its size and then read in one piece, and no other is asked for anything. The journal is
+/// asked for the number of its records, and then for each, before any act. A text is written in one piece.
 #[derive(Clone, Copy)]
 pub(crate) struct Trial {
     pub(crate) words: &'static [&'static str],
     pub(crate) before: &'static [&'static str],
+    pub(crate) asks: &'static [&'static str],
     pub(crate) takes: &'static [usize],
     pub(crate) reads_journal: bool,
     pub(crate) acts: &'static [Act],
@@ -39,6 +40,7 @@ pub(crate) const READERS: [Trial; 5] = [
     Trial {
         words: &["print", "e", "0", "precinct"],
         before: &[],
+        asks: &["e"],
         takes: &[0],
         reads_journal: false,
         acts: &[Page, Page],
@@ -47,6 +49,7 @@ pub(crate) const READERS: [Trial; 5] = [
     Trial {
         words: &["read", "e", "s", "t"],
         before: &[],
+        asks: &["e", "s", "t"],
         takes: &[0, 0, 2],
         reads_journal: false,
         acts: &[Lines(5), Lines(3), Lines(1)],
@@ -55,6 +58,7 @@ pub(crate) const READERS: [Trial; 5] = [
     Trial {
         words: &["check", "e", "s", "r"],
         before: &[],
+        asks: &["e", "s", "r"],
         takes: &[0, 0, 0],
         reads_journal: false,
         acts: &[Lines(1), Lines(1)],
@@ -63,6 +67,7 @@ pub(crate) const READERS: [Trial; 5] = [
     Trial {
         words: &["read", "e", "t", "d", "s"],
         before: &[],
+        asks: &["e", "t", "d"],
         takes: &[0, 0, 1],
         reads_journal: false,
         acts: &[Lines(1)],
@@ -71,6 +76,7 @@ pub(crate) const READERS: [Trial; 5] = [
     Trial {
         words: &["check", "e", "s", "f"],
         before: &[],
+        asks: &["e", "s", "f"],
         takes: &[0, 0, 0],
         reads_journal: false,
         acts: &[Lines(1)],
@@ -85,6 +91,7 @@ pub(crate) const COUNTS: [Trial; 3] = [
     Trial {
         words: &["count", "e", "b1", "2", "s", "t", "s", "s"],
         before: &[],
+        asks: &["e", "s", "t", "s", "s"],
         takes: &[0, 1, 3, 3, 4],
         reads_journal: true,
         acts: &[
@@ -102,6 +109,7 @@ pub(crate) const COUNTS: [Trial; 3] = [
     Trial {
         words: &["count", "e", "b1", "1", "s", "s"],
         before: ONE_SHEET,
+        asks: &["e", "s", "s"],
         takes: &[0, 0, 1],
         reads_journal: true,
         acts: &[Lines(1), Append, Lines(2), Lines(1)],
@@ -110,6 +118,7 @@ pub(crate) const COUNTS: [Trial; 3] = [
     Trial {
         words: &["count", "e", "b1", "1", "s", "t", "d", "s"],
         before: &[],
+        asks: &["e", "s", "t", "d"],
         takes: &[0, 1, 3, 3],
         reads_journal: true,
         acts: &[Append, Append, Lines(2)],
@@ -122,6 +131,7 @@ pub(crate) const JOURNALS: [Trial; 6] = [
     Trial {
         words: &["decide", "e", "d"],
         before: ONE_SHEET,
+        asks: &["e", "d"],
         takes: &[0, 0],
         reads_journal: true,
         acts: &[Append, Lines(1), Append, Lines(1), Append, Lines(1)],
@@ -130,6 +140,7 @@ pub(crate) const JOURNALS: [Trial; 6] = [
     Trial {
         words: &["decide", "e", "d"],
         before: &[],
+        asks: &["e", "d"],
         takes: &[0, 1],
         reads_journal: true,
         acts: &[Append],
@@ -138,6 +149,7 @@ pub(crate) const JOURNALS: [Trial; 6] = [
     Trial {
         words: &["queue", "e"],
         before: ONE_SHEET,
+        asks: &["e"],
         takes: &[0],
         reads_journal: true,
         acts: &[Lines(2)],
@@ -146,6 +158,7 @@ pub(crate) const JOURNALS: [Trial; 6] = [
     Trial {
         words: &["queue", "e"],
         before: &[],
+        asks: &["e"],
         takes: &[0],
         reads_journal: true,
         acts: &[Lines(1)],
@@ -154,6 +167,7 @@ pub(crate) const JOURNALS: [Trial; 6] = [
     Trial {
         words: EXPORT,
         before: ONE_SHEET,
+        asks: &["e"],
         takes: &[0],
         reads_journal: true,
         acts: &[Lines(1)],
@@ -162,6 +176,7 @@ pub(crate) const JOURNALS: [Trial; 6] = [
     Trial {
         words: EXPORT,
         before: &[],
+        asks: &["e"],
         takes: &[0],
         reads_journal: true,
         acts: &[Lines(1)],

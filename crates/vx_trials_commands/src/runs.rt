@@ -7,7 +7,7 @@ use std::thread::Threads;
 use vx_app::run;
 use vx_base::Bytes;
 use vx_io::{Calls, KeeperCalls, MemInputs, MemKeeper, MemSink, NamedBytes, Records, Words};
-use vx_town::{BORDER, TOWN, on_legal, words_of};
+use vx_town::{BORDER, HeardInputs, TOWN, on_legal, words_of};
 
 /// How many bytes a printed page has.
 const PAGE: u64 = 468_613;
@@ -94,15 +94,16 @@ fn files_with<R: AllocGlobal>(rt: &R, scan: &[u8]) -> Result<NamedBytes, Fail> {
 /// The devices of a command.
 #[derive(Drop)]
 struct Devices {
-    inputs: MemInputs,
+    inputs: HeardInputs,
     out: MemSink,
     keeper: MemKeeper,
 }
 
 /// Inputs over a scan, of which the listed calls fail.
-fn inputs_with<R: AllocGlobal>(rt: &R, scan: &[u8], fails: &[u64]) -> Result<MemInputs, Fail> {
+fn inputs_with<R: AllocGlobal>(rt: &R, scan: &[u8], fails: &[u64]) -> Result<HeardInputs, Fail> {
     let fails = Calls::from_vec(Vec::from_slice(rt.alloc(), fails)?);
-    Ok(MemInputs::new(files_with(rt, scan)?, fails))
+    let inputs = MemInputs::new(files_with(rt, scan)?, fails);
+    Ok(HeardInputs::new(rt.alloc(), inputs))
 }
 
 /// A sink with so much room, of which the listed calls fail.

@@ -10,11 +10,13 @@ use vx_command_desk::desk;
 use vx_desk::{push_head, push_tail};
 use vx_io::{MemInputs, MemKeeper, MemSink, NamedBytes, Records};
 use vx_json::{Text, Texts};
+use vx_town::HeardInputs;
 
-/// What a `desk` answered, and what the sink had taken.
+/// What a `desk` answered, what it asked its inputs, and what the sink had taken.
 #[derive(Drop)]
 pub struct Answer {
     pub status: String,
+    pub heard: String,
     pub text: Vec<u8>,
 }
 
@@ -104,7 +106,7 @@ fn records_of(alloc: Global, texts: &[&str]) -> Result<Records, AllocError> {
 /// The devices of a `desk`.
 #[derive(Drop)]
 struct Devices {
-    inputs: MemInputs,
+    inputs: HeardInputs,
     out: MemSink,
     keeper: MemKeeper,
 }
@@ -119,17 +121,18 @@ fn devices_of(
     let writes = ListOf::from_vec(Vec::from_slice(alloc, failing.writes)?);
     let keeps = ListOf::from_vec(Vec::from_slice(alloc, failing.keeps)?);
     Ok(Devices {
-        inputs: MemInputs::new(files, reads),
+        inputs: HeardInputs::new(alloc, MemInputs::new(files, reads)),
         out: MemSink::new(alloc, failing.room, writes)?,
         keeper: MemKeeper::new(records, keeps),
     })
 }
 
 /// What a `desk` answered that ended so.
-fn answer_of(alloc: Global, status: &Status, out: &MemSink) -> Result<Answer, AllocError> {
+fn answer_of(alloc: Global, status: &Status, devices: &Devices) -> Result<Answer, AllocError> {
     Ok(Answer {
         status: format!(in alloc; "{status}")?,
-        text: Vec::from_slice(alloc, out.held())?,
+        heard: String::from_str(alloc, devices.inputs.heard())?,
+        text: Vec::from_slice(alloc, devices.out.held())?,
     })
 }
 
@@ -163,7 +166,7 @@ pub fn attempt(
     let names = names_of(alloc, asked.scans)?;
     let mut devices = devices_of(alloc, files, records, failing)?;
     let status = ask(alloc, asked, &names, &mut devices)?;
-    Ok(answer_of(alloc, &status, &devices.out)?)
+    Ok(answer_of(alloc, &status, &devices)?)
 }
 
 /// The page with these data.

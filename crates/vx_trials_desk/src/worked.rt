@@ -5,6 +5,7 @@ use crate::scans::{Sheet, sheet_of};
 use std::alloc::{AllocError, Global};
 use std::test::*;
 use vx_base::Bytes;
+use vx_town::asked_in_order;
 
 /// A definition of one question on one card, whose title has markup.
 const VILLAGE: &str =
@@ -217,6 +218,22 @@ fn a_contest_s_picture_is_the_page_s(rt: HostRuntime) -> Result<(), Fail> {
     for pictured in PICTURED {
         assert!(rt; is_pictured(rt.alloc(), pictured)?, "{}", pictured.0);
     }
+    Ok(())
+}
+
+#[test]
+fn the_election_and_then_the_scans_are_asked(rt: HostRuntime) -> Result<(), Fail> {
+    let alloc = rt.alloc();
+    let sheet = sheet_of(alloc, VILLAGE)?;
+    let asked = Asked {
+        election: VILLAGE,
+        records: &[HEADER, BLANK_1],
+        batch: "b",
+        scans: &["front", "back", "small"],
+    };
+    let answer = attempt(alloc, asked, &sheet, Failing::NONE)?;
+    let names = asked_in_order(alloc, &["e", "front", "back", "small"])?;
+    assert_eq!(rt; answer.heard.as_str(), names.as_str());
     Ok(())
 }
 

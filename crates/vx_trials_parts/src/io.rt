@@ -90,6 +90,9 @@ fn assert_reads<R: Abort + AllocGlobal>(
     assert_refuses(rt, inputs, file, 5, TakeFault::TooLong(6));
     assert_eq!(rt; inputs.read(file, 2, &mut part), Ok(4));
     assert_eq!(rt; part.as_slice(), b"llot--".as_slice());
+    let mut two = [b'-'; 2];
+    assert_eq!(rt; inputs.read(file, 3, &mut two), Ok(2));
+    assert_eq!(rt; two.as_slice(), b"lo".as_slice());
     assert_eq!(rt; inputs.read(file, 6, &mut part), Err(Failed));
 }
 

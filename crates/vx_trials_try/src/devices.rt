@@ -9,6 +9,7 @@ use vx_command_try::try_sheets;
 use vx_grid::Kind;
 use vx_io::{MemInputs, MemSink, NamedBytes};
 use vx_json::{Text, Texts};
+use vx_town::HeardInputs;
 
 /// A definition of one contest on one card.
 const ELECTION: &str =
@@ -17,10 +18,11 @@ const ELECTION: &str =
 /// How many bytes a printed page has.
 const PAGE: usize = 468_613;
 
-/// What a `try` answered, and what the sink had taken.
+/// What a `try` answered, what it asked its inputs, and what the sink had taken.
 #[derive(Drop)]
 pub struct Answer {
     pub status: String,
+    pub heard: String,
     pub text: Vec<u8>,
 }
 
@@ -125,7 +127,7 @@ fn names_of(alloc: Global, scans: &[&str]) -> Result<Texts, AllocError> {
 /// The devices of a `try`.
 #[derive(Drop)]
 struct Devices {
-    inputs: MemInputs,
+    inputs: HeardInputs,
     out: MemSink,
 }
 
@@ -137,16 +139,17 @@ fn devices_of(
     let reads = ListOf::from_vec(Vec::from_slice(alloc, failing.reads)?);
     let writes = ListOf::from_vec(Vec::from_slice(alloc, failing.writes)?);
     Ok(Devices {
-        inputs: MemInputs::new(files, reads),
+        inputs: HeardInputs::new(alloc, MemInputs::new(files, reads)),
         out: MemSink::new(alloc, failing.room, writes)?,
     })
 }
 
 /// What a `try` answered that ended so.
-fn answer_of(alloc: Global, status: &Status, out: &MemSink) -> Result<Answer, AllocError> {
+fn answer_of(alloc: Global, status: &Status, devices: &Devices) -> Result<Answer, AllocError> {
     Ok(Answer {
         status: format!(in alloc; "{status}")?,
-        text: Vec::from_slice(alloc, out.held())?,
+        heard: String::from_str(alloc, devices.inputs.heard())?,
+        text: Vec::from_slice(alloc, devices.out.held())?,
     })
 }
 
@@ -159,7 +162,7 @@ pub fn attempt(
 ) -> Result<Answer, Fail> {
     let mut devices = devices_of(alloc, files, failing)?;
     let status = status_over(alloc, scans, &mut devices)?;
-    Ok(answer_of(alloc, &status, &devices.out)?)
+    Ok(answer_of(alloc, &status, &devices)?)
 }
 
 /// Tries scans over devices.

@@ -4,6 +4,7 @@ use crate::devices::{Answer, Failing, attempt, card_of, files_of, is_answer};
 use std::alloc::Global;
 use std::test::*;
 use vx_grid::Kind;
+use vx_town::asked_in_order;
 
 /// Scans, and the status and the text of their `try`.
 const ROWS: [(&[&str], &str, &str); 14] = [
@@ -87,6 +88,17 @@ fn rows_are_answered(rt: HostRuntime) -> Result<(), Fail> {
         let answer = tried(alloc, cards, scans, Failing::NONE)?;
         assert!(rt; is_answer(&answer, status, text), "{status}");
     }
+    Ok(())
+}
+
+#[test]
+fn the_election_and_then_the_scans_are_asked(rt: HostRuntime) -> Result<(), Fail> {
+    let alloc = rt.alloc();
+    let card = card_of(alloc, Kind::Precinct)?;
+    let cards = [card.as_slice(), card.as_slice()];
+    let answer = tried(alloc, cards, &["front", "back"], Failing::NONE)?;
+    let asked = asked_in_order(alloc, &["e", "front", "back"])?;
+    assert_eq!(rt; answer.heard.as_str(), asked.as_str());
     Ok(())
 }
 
