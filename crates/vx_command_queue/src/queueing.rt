@@ -1,12 +1,10 @@
 ghost use Rattle.std.specs.Prelude.{◌≡◌, Bool, true, false, Ok};
 ghost use Rattle.std.specs.Option.{ForSome};
 ghost use Rattle.vx_base.specs.Refusals.{Gives};
-ghost use Rattle.vx_election_model.specs.Valid.{IsValid};
 ghost use Rattle.vx_command.specs.Acts.{writing};
-ghost use Rattle.vx_command.specs.Devices.{LeavesInputs, LeavesKeeper, LeavesSink, TouchesNothing, TouchesSink, is_read_fault, writes_nothing};
+ghost use Rattle.vx_command.specs.Devices.{LeavesInputs, LeavesKeeper, LeavesSink, TouchesNothing, TouchesSink, writes_nothing};
 ghost use Rattle.vx_command.specs.Done.{IsDone, IsWritten};
 ghost use Rattle.vx_command.specs.Steps.{is_no_memory};
-ghost use Rattle.vx_journal.specs.Steps.{once_read};
 ghost use Rattle.vx_command_queue.specs.Outcome.{queue_outcome};
 ghost use Rattle.vx_command_queue.specs.Queue.{queue_text};
 
@@ -49,29 +47,6 @@ fn write_queue<S: Sink>(
     write_text(out, text.as_slice())
 }
 
-/// Reads the journal and writes what waits.
-fn queue_of<S: Sink, K: Keeper>(
-    alloc: Global,
-    election: &Election,
-    out: &mut S,
-    keeper: &mut K,
-) -> Result<(), Halt>
-    requires { IsValid election.now }
-    ensures done { ForSome (K.held keeper.old) (λ records.
-        IsDone (once_read election.now records
-        (λ journal. writing (queue_text election.now journal.center.events)))
-        (S.taken out.old) (S.taken out.new) (K.held keeper.old) (K.held keeper.new) result) }
-    ensures nothing_written { writes_nothing false result ≡ true → S.taken out.new ≡ S.taken out.old }
-    ensures held { K.held keeper.new ≡ K.held keeper.old }
-    ensures no_read_fault { is_read_fault result ≡ false }
-    ensures sink { LeavesSink (S.faults out.old) (S.faults out.new) result }
-    ensures keeper { LeavesKeeper (K.faults keeper.old) (K.faults keeper.new) result }
-{
-    journals_in_order();
-    let journal = read_journal(alloc, election, keeper)?;
-    write_queue(alloc, election, &journal.center, out)
-}
-
 /// Does the command `queue`: takes the election under its name, which is word 1, reads its journal,
 /// and writes the contests that wait for a decision, in order, and then how many they are.
 pub fn queue<I: Inputs, S: Sink, K: Keeper>(
@@ -92,6 +67,8 @@ pub fn queue<I: Inputs, S: Sink, K: Keeper>(
     ensures keeper { LeavesKeeper (K.faults keeper.old) (K.faults keeper.new) result }
 {
     steps_in_order::<Election>();
+    journals_in_order();
     let given = take_election(alloc, inputs, election)?;
-    queue_of(alloc, &given, out, keeper)
+    let journal = read_journal(alloc, &given, keeper)?;
+    write_queue(alloc, &given, &journal.center, out)
 }
