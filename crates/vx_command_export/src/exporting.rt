@@ -3,10 +3,9 @@ ghost use Rattle.std.specs.Option.{ForSome};
 ghost use Rattle.vx_base.specs.Refusals.{Gives};
 ghost use Rattle.vx_election_model.specs.Valid.{IsValid};
 ghost use Rattle.vx_command.specs.Acts.{writing};
-ghost use Rattle.vx_command.specs.Devices.{LeavesInputs, LeavesKeeper, LeavesSink, TouchesNothing, TouchesSink, is_read_fault, writes_nothing};
+ghost use Rattle.vx_command.specs.Devices.{LeavesInputs, LeavesKeeper, LeavesSink, TouchesNothing, TouchesSink, writes_nothing};
 ghost use Rattle.vx_command.specs.Done.{IsDone, IsWritten};
 ghost use Rattle.vx_command.specs.Steps.{is_no_memory};
-ghost use Rattle.vx_journal.specs.Steps.{once_read};
 ghost use Rattle.vx_cvr.specs.Report.{report_of};
 ghost use Rattle.vx_command_export.specs.Outcome.{export_outcome};
 
@@ -57,31 +56,6 @@ fn write_report<S: Sink>(
     write_text(out, text.as_slice())
 }
 
-/// Reads the journal and writes its report.
-fn export_of<S: Sink, K: Keeper>(
-    alloc: Global,
-    election: &Election,
-    moment: &str,
-    device: &str,
-    out: &mut S,
-    keeper: &mut K,
-) -> Result<(), Halt>
-    requires { IsValid election.now }
-    ensures done { ForSome (K.held keeper.old) (λ records.
-        IsDone (once_read election.now records
-        (λ journal. writing (report_of election.now journal.center.events moment.now device.now)))
-        (S.taken out.old) (S.taken out.new) (K.held keeper.old) (K.held keeper.new) result) }
-    ensures nothing_written { writes_nothing false result ≡ true → S.taken out.new ≡ S.taken out.old }
-    ensures held { K.held keeper.new ≡ K.held keeper.old }
-    ensures no_read_fault { is_read_fault result ≡ false }
-    ensures sink { LeavesSink (S.faults out.old) (S.faults out.new) result }
-    ensures keeper { LeavesKeeper (K.faults keeper.old) (K.faults keeper.new) result }
-{
-    journals_in_order();
-    let journal = read_journal(alloc, election, keeper)?;
-    write_report(alloc, election, &journal.center, moment, device, out)
-}
-
 /// Does the command `export`: takes the election under its name, which is word 1, reads its journal,
 /// and writes the report of its events, with a moment (`YYYY-MM-DDTHH:MM:SSZ`) and the device that
 /// reports (its UUID in lower case with hyphens).
@@ -105,6 +79,8 @@ pub fn export<I: Inputs, S: Sink, K: Keeper>(
     ensures keeper { LeavesKeeper (K.faults keeper.old) (K.faults keeper.new) result }
 {
     steps_in_order::<Election>();
+    journals_in_order();
     let given = take_election(alloc, inputs, election)?;
-    export_of(alloc, &given, moment, device, out, keeper)
+    let journal = read_journal(alloc, &given, keeper)?;
+    write_report(alloc, &given, &journal.center, moment, device, out)
 }
