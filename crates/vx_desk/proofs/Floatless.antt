@@ -1,12 +1,11 @@
 -- The data hold no number with a fraction.
 use Rattle.std.proofs.Common.{◌≡◌, ℕ, Bool, true, false, ◌||◌, ◌==◌, cond, List, [], ◌∷◌, ◌++◌, length, map, refl}
-use Rattle.std.specs.Prelude.{Option, None, Some, Result, Ok, Err, slice_index_or}
+use Rattle.std.specs.Prelude.{Option, None, Some, slice_index_or}
 use Rattle.std.specs.List.{flat_map, range_with_len}
 use Rattle.std.proofs.lemmas.Bool.{true≢false}
 use Rattle.serde_json.specs.Data.{Data}
 use Rattle.serde_json.specs.View.{items_of}
 use Rattle.serde_json.specs.Written.{has_float, items_have_float}
-use Rattle.vx_plane.specs.Plane.{Page}
 use Rattle.vx_election_model.specs.declared.contest.Contest.{Contest}
 use Rattle.vx_election_model.specs.declared.election.Election.{Election}
 use Rattle.vx_election_model.specs.declared.reason.Reason.{Reason}
@@ -14,20 +13,14 @@ use Rattle.vx_election_model.specs.declared.reason.Reason.TheVariants.{Overvote,
 use Rattle.vx_election_model.specs.declared.reason.ReasonSet.{ReasonSet}
 use Rattle.vx_election_model.specs.Reasons.{has_reason}
 use Rattle.vx_rules.specs.declared.marks.ContestMarks.{ContestMarks}
-use Rattle.vx_rules.specs.declared.marks.SheetMarks.{SheetMarks}
-use Rattle.vx_rules.specs.Reasons.{reasons_of, is_blank_sheet, reason_word}
+use Rattle.vx_rules.specs.Reasons.{reasons_of, reason_word}
 use Rattle.vx_events.specs.declared.event.Event.{Event}
 use Rattle.vx_events.specs.declared.key.Key.{Key}
 use Rattle.vx_center.specs.Holders.{holder_of}
-use Rattle.vx_scan_model.specs.declared.fault.PageFault.{PageFault}
-use Rattle.vx_scan_model.specs.declared.reading.PageReading.{PageReading}
-use Rattle.vx_scan_model.specs.Reading.{reading_of}
 use Rattle.vx_desk.specs.declared.region.Region.{Region}
-use Rattle.vx_desk.specs.Json.{text, whole}
-use Rattle.vx_desk.specs.Shown.{Shown, bubble_at, score_at, state_at, image_with, shown_by}
+use Rattle.vx_desk.specs.Json.{described, text, whole}
+use Rattle.vx_desk.specs.Shown.{Shown, bubble_at, score_at, state_at}
 use Rattle.vx_desk.specs.Regions.{region_round}
-use Rattle.vx_desk.specs.Kept.{are_kept}
-use Rattle.vx_desk.specs.Waits.{waiting_contests}
 use Rattle.vx_desk.specs.Contests as spec
 use Rattle.vx_desk.specs.Lines as lines
 
@@ -84,7 +77,7 @@ contest_in contest number set shown =
     (made_each (spec.reason_if set) (Overvote ∷ Undervote ∷ MarginalMark ∷ BlankBallot ∷ WriteIn ∷ []) (reason_if set))
     refl)
 
-contest_data : (election : Election) (blank : Bool) (marks : ContestMarks) (shown : Shown) → has_float (spec.contest_data election blank marks shown) ≡ false
+pub contest_data : (election : Election) (blank : Bool) (marks : ContestMarks) (shown : Shown) → has_float (spec.contest_data election blank marks shown) ≡ false
 unfolding spec.contest_data
 contest_data election blank marks shown =
     let contest : Contest = slice_index_or election.contests marks.contest spec.no_contest in
@@ -94,27 +87,11 @@ holder : (held : Option ℕ) → has_float (lines.holder_data held) ≡ false
 holder None = refl
 holder (Some station) = refl
 
-kept_data : (election : Election) (kept : List Event) (key : Key) (sheet : SheetMarks) (first second : Shown) → has_float (lines.kept_data election kept key sheet first second) ≡ false
-kept_data election kept key sheet first second =
-    both (items_have_float (items_of (map (lines.contest_on election (is_blank_sheet sheet) first second) (waiting_contests election kept key sheet)))) _
-    (made (lines.contest_on election (is_blank_sheet sheet) first second) (waiting_contests election kept key sheet)
-    (λ marks. contest_data election (is_blank_sheet sheet) marks (image_with marks.contest first second)))
-    (both (has_float (lines.holder_data (holder_of kept key))) _ (holder (holder_of kept key)) refl)
+pub behind : (kept : List Event) (key : Key) → has_float (described (lines.behind_contests kept key)) ≡ false
+behind kept key = both (has_float (lines.holder_data (holder_of kept key))) _ (holder (holder_of kept key)) refl
 
-differing : (kept : List Event) (key : Key) → has_float (lines.differing_data kept key) ≡ false
-differing kept key = both (has_float (lines.holder_data (holder_of kept key))) _ (holder (holder_of kept key)) refl
-
-read : (election : Election) (kept : List Event) (key : Key) (sheet : SheetMarks) (first second : Page) (one other : Result PageReading PageFault) → has_float (lines.read_data election kept key sheet first second one other) ≡ false
-read election kept key sheet first second (Ok one) (Ok other) = kept_data election kept key sheet (shown_by election first one) (shown_by election second other)
-read election kept key sheet first second (Ok one) (Err fault) = differing kept key
-read election kept key sheet first second (Err fault) other = differing kept key
-
-pub sheet_data : (election : Election) (kept : List Event) (key : Key) (sheet : SheetMarks) (first second : Page) → has_float (lines.sheet_data election kept key sheet first second) ≡ false
-sheet_data election kept key sheet first second = by (are_kept election sheet key.number first second)
-  where
-    by : (b : Bool) → has_float (cond b (lines.read_data election kept key sheet first second (reading_of election first) (reading_of election second)) (lines.differing_data kept key)) ≡ false
-    by true = read election kept key sheet first second (reading_of election first) (reading_of election second)
-    by false = differing kept key
+pub differing : (kept : List Event) (key : Key) → has_float (lines.differing_data kept key) ≡ false
+differing kept key = behind kept key
 
 -- a sum of what is left over
 pub left_data : (numbers : List ℕ) (waiting : ℕ) → has_float (lines.left_data (map whole numbers) waiting) ≡ false

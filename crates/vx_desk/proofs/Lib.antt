@@ -1,4 +1,5 @@
 mod Steps
+mod Texts
 mod Decided
 mod Found
 mod Turned
@@ -6,6 +7,7 @@ mod Framed
 mod Packing
 mod Wide
 mod Same
+mod Equal
 mod LeftOver
 mod Floatless
 mod Markup

@@ -24,21 +24,6 @@ module _ {X : Type 0} (test : X → Bool) (xs : List X) (i : ℕ) (x : X) (withi
   find_later other =
       sym (ap (find test) (begins xs i x within is) ∙ ap (λ (b : Bool). cond b (Some x) (find test (drop (i + 1) xs))) other)
 
-  chosen : {Y : Type 0} (f : X → Y) (rest : List X) (b : Bool) → cond b (f x ∷ []) [] ++ map f rest ≡ map f (cond b (x ∷ rest) rest)
-  chosen f rest true = refl
-  chosen f rest false = refl
-
-  -- what was made of those that pass so far, and of those left
-  pub kept_more : {Y : Type 0} (f : X → Y) (made now all : List Y) → now ≡ made ++ cond (test x) (f x ∷ []) []
-      → made ++ map f (filter test (drop i xs)) ≡ all → now ++ map f (filter test (drop (i + 1) xs)) ≡ all
-  kept_more {Y} f made now all grows so_far =
-      let left : List Y = map f (filter test (drop (i + 1) xs)) in
-      ap (λ (front : List Y). front ++ left) grows
-      ∙ append_assoc made (cond (test x) (f x ∷ []) []) left
-      ∙ ap (λ (back : List Y). made ++ back) (chosen f (filter test (drop (i + 1) xs)) (test x))
-      ∙ ap (λ (some : List X). made ++ map f (filter test some)) (sym (begins xs i x within is))
-      ∙ so_far
-
 -- where nothing is left nothing passes
 pub any_none : {X : Type 0} (test : X → Bool) (xs : List X) (i : ℕ) → length xs ≤ i → list_any test (drop i xs) ≡ false
 any_none test xs i past = ap (list_any test) (drop_all i xs past)

@@ -1,15 +1,17 @@
 -- What holds of the desk's data.
-use Rattle.std.specs.Prelude.{◌≡◌, ◌<◌, ◌+◌, ℕ, false, not, List, filter, pos}
+use Rattle.std.specs.Prelude.{◌≡◌, ◌↔◌, ◌<◌, ◌+◌, ℕ, true, false, not, List, filter, pos}
 use Rattle.std.specs.List.{list_any}
 use Rattle.vx_plane.specs.Plane.{Page, dark_at}
 use Rattle.vx_bits.specs.Packed.{packed_page, raster_of}
 use Rattle.vx_election_model.specs.declared.election.Election.{Election}
 use Rattle.vx_rules.specs.declared.marks.ContestMarks.{ContestMarks}
+use Rattle.vx_rules.specs.declared.marks.SheetMarks.{SheetMarks}
 use Rattle.vx_events.specs.declared.event.Event.{Event}
 use Rattle.vx_center.specs.Sheets.{Added}
 use Rattle.vx_center.specs.Waiting.{exports}
 use Rattle.vx_desk.specs.declared.region.Region.{Region}
 use Rattle.vx_desk.specs.Escaped.{is_markup}
+use Rattle.vx_desk.specs.Kept.{same_sheet}
 use Rattle.vx_desk.specs.Lines.{first_text, last_text, sheet_text}
 use Rattle.vx_desk.specs.Pictures.{part_of}
 use Rattle.vx_desk.specs.Regions.{height_of, width_of}
@@ -45,3 +47,7 @@ pub record PicturesShowTheScan : Type 0 where
   pub raster :
       (page : Page) (region : Region)
       → packed_page (width_of region) (height_of region) (raster_of (part_of page region)) ≡ part_of page region
+
+-- two sheets are the same in all exactly where they are equal
+abbrev pub SameSheetsAreEqual : Type 0
+SameSheetsAreEqual = (one other : SheetMarks) → (same_sheet one other ≡ true) ↔ (one ≡ other)

@@ -18,7 +18,7 @@ use Rattle.vx_desk.specs.Contests.{contest_data}
 use Rattle.vx_desk.specs.Escaped.{data_line}
 use Rattle.vx_desk.specs.Kept.{are_kept}
 use Rattle.vx_desk.specs.Shown.{Shown, image_with, shown_by}
-use Rattle.vx_desk.specs.Waits.{any_waits, contest_waits, key_of, waiting_contests, waiting_in, waiting_sheets}
+use Rattle.vx_desk.specs.Waits.{any_waits, key_of, waiting_contests, waiting_in, waiting_sheets}
 
 -- the first line: the batch and the election's title
 abbrev pub first_data : Election → List ℕ → Data
@@ -38,29 +38,23 @@ abbrev pub contest_on : Election → Bool → Shown → Shown → ContestMarks �
 contest_on election sheet_blank first second marks =
     contest_data election sheet_blank marks (image_with marks.contest first second)
 
--- the same, if it waits, where the sheet's other contests don't matter
-abbrev pub contest_if : Election → List Event → Key → Bool → Shown → Shown → ContestMarks → List Data
-contest_if election kept key sheet_blank first second marks =
-    if contest_waits election kept key sheet_blank marks
-    then contest_on election sheet_blank first second marks ∷ []
-    else []
-
 -- its contests that wait, in its order
 abbrev pub contests_of : Election → List Event → Key → SheetMarks → Shown → Shown → Data
 contests_of election kept key sheet first second =
     list (map (contest_on election (is_blank_sheet sheet) first second) (waiting_contests election kept key sheet))
 
+-- what stands behind the contests of a sheet, and behind the word that its images are others
+abbrev pub behind_contests : List Event → Key → List (List ℕ × Data)
+behind_contests kept key = (codes "holder", holder_data (holder_of kept key)) ∷ (codes "number", whole key.number) ∷ []
+
 -- a sheet whose images are what was kept: its contests that wait
 abbrev pub kept_data : Election → List Event → Key → SheetMarks → Shown → Shown → Data
-kept_data election kept key sheet first second = described
-    ((codes "contests", contests_of election kept key sheet first second)
-    ∷ (codes "holder", holder_data (holder_of kept key)) ∷ (codes "number", whole key.number) ∷ [])
+kept_data election kept key sheet first second =
+    described ((codes "contests", contests_of election kept key sheet first second) ∷ behind_contests kept key)
 
 -- a sheet whose images are not what was kept
 abbrev pub differing_data : List Event → Key → Data
-differing_data kept key = described
-    ((codes "differs", boolean true) ∷ (codes "holder", holder_data (holder_of kept key))
-    ∷ (codes "number", whole key.number) ∷ [])
+differing_data kept key = described ((codes "differs", boolean true) ∷ behind_contests kept key)
 
 -- a sheet whose two images were read so, where they are what was kept
 abbrev pub read_data : Election → List Event → Key → SheetMarks → Page → Page → Result PageReading PageFault → Result PageReading PageFault → Data

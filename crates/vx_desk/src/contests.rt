@@ -1,14 +1,17 @@
 //! A contest that waits, with all that its decision needs.
 
-ghost use Rattle.std.specs.Prelude.{◌≡◌, ◌<◌, ◌^◌, ◌++◌, All, IfOk, OnOk, map, true, filter};
-ghost use Rattle.serde_json.specs.View.{view};
+ghost use Rattle.std.specs.Prelude.{◌≡◌, ◌<◌, ◌^◌, ◌++◌, All, IfOk, OnOk, map, true, false, filter};
+ghost use Rattle.serde_json.specs.View.{items_of, view};
+ghost use Rattle.serde_json.specs.Written.{comma_if, compact_text, items_text};
 ghost use Rattle.vx_desk.specs.Regions.{HasFewOptions};
 ghost use Rattle.vx_events.specs.Fits.{is_read, is_sheet};
 ghost use Rattle.std.specs.List.{list_all};
 ghost use Rattle.vx_desk.specs.Contests as spec;
+ghost use Rattle.vx_desk.specs.Escaped.{escaped};
 ghost use Rattle.vx_desk.specs.Lines as lines;
 ghost use Rattle.vx_desk.specs.Waits.{contest_waits};
 
+use crate::escape::push_item;
 use crate::image::{Image, image_with};
 use crate::options::{options_of, reasons_of};
 use crate::picture::picture;
@@ -16,7 +19,7 @@ use crate::region::region_round;
 use crate::waiting::contest_waits;
 use serde_json::{Value, json};
 use std::alloc::Global;
-use vx_base::OutOfMemory;
+use vx_base::{Bytes, OutOfMemory};
 use vx_center::Center;
 use vx_election_model::{Contest, Election, ReasonSet};
 use vx_events::Key;
@@ -82,35 +85,33 @@ fn contest_data(
     contest_in(alloc, contest, marks.contest, set, image)
 }
 
-/// Adds a contest of a sheet, if it waits.
+/// Adds a contest of a sheet behind others of a list. Its value goes once its text stands.
 fn push_contest(
     alloc: Global,
-    values: &mut Vec<Value>,
+    text: &mut Bytes,
     election: &Election,
-    center: &Center<'_>,
-    key: &Key,
     sheet_blank: bool,
     marks: &ContestMarks,
+    is_later: bool,
     first: &Image<'_>,
     second: &Image<'_>,
 ) -> Result<(), OutOfMemory>
     requires options { All HasFewOptions election.now.contests }
     requires read { is_read election.now marks.now ≡ true }
-    ensures { OnOk result (map view values.new.items ≡ map view values.old.items
-        ++ lines.contest_if election.now center.now.events key.now sheet_blank first.now second.now marks.now) }
+    ensures { OnOk result (text.new ≡ text.old ++ (comma_if is_later ++ escaped (compact_text
+        (lines.contest_on election.now sheet_blank first.now second.now marks.now)))) }
 {
-    if contest_waits(election, center, key, sheet_blank, marks) {
-        let image = image_with(marks.contest, first, second);
-        values.push(contest_data(alloc, election, sheet_blank, marks, image)?)?;
-    }
-    Ok(())
+    let image = image_with(marks.contest, first, second);
+    let value = contest_data(alloc, election, sheet_blank, marks, image)?;
+    push_item(alloc, text, is_later, &value)
 }
 
-/// Adds those of some contests of a sheet that wait, in order.
-#[tactic(auto, using(crate::proofs::Steps::kept_more))]
-fn push_contests(
+/// Adds those of some contests of a sheet that wait, in order, as the items of a list, and the list's
+/// closing bracket.
+#[tactic(auto, using(crate::proofs::Texts::item_more, crate::proofs::Texts::item_passed, crate::proofs::Texts::items_end))]
+fn push_items(
     alloc: Global,
-    values: &mut Vec<Value>,
+    text: &mut Bytes,
     election: &Election,
     center: &Center<'_>,
     key: &Key,
@@ -121,54 +122,49 @@ fn push_contests(
 ) -> Result<(), OutOfMemory>
     requires options { All HasFewOptions election.now.contests }
     requires read { list_all (is_read election.now) contests.now ≡ true }
-    ensures { OnOk result (map view values.new.items ≡ map view values.old.items
-        ++ map (lines.contest_on election.now sheet_blank first.now second.now)
-        (filter (contest_waits election.now center.now.events key.now sheet_blank) contests.now)) }
+    ensures { OnOk result (text.new ≡ text.old ++ escaped (items_text false (items_of
+        (map (lines.contest_on election.now sheet_blank first.now second.now) (filter
+        (contest_waits election.now center.now.events key.now sheet_blank) contests.now))))) }
 {
+    let mut is_later = false;
     for marks in contests {
-        push_contest(
-            alloc,
-            values,
-            election,
-            center,
-            key,
-            sheet_blank,
-            marks,
-            first,
-            second,
-        )?;
+        if contest_waits(election, center, key, sheet_blank, marks) {
+            push_contest(
+                alloc,
+                text,
+                election,
+                sheet_blank,
+                marks,
+                is_later,
+                first,
+                second,
+            )?;
+            is_later = true;
+        }
     }
-    Ok(())
+    text.push(b']')
 }
 
-/// The contests of a sheet that wait, in the sheet's order.
-pub(crate) fn contests_of(
+/// Adds the contests of a sheet that wait, in the sheet's order.
+pub(crate) fn push_contests(
     alloc: Global,
+    text: &mut Bytes,
     election: &Election,
     center: &Center<'_>,
     key: &Key,
     sheet: &SheetMarks,
     first: &Image<'_>,
     second: &Image<'_>,
-) -> Result<Value, OutOfMemory>
+) -> Result<(), OutOfMemory>
     requires options { All HasFewOptions election.now.contests }
     requires fits { is_sheet election.now sheet.now ≡ true }
-    ensures { IfOk result (λ value. view value ≡ lines.contests_of election.now center.now.events
-        key.now sheet.now first.now second.now) }
+    ensures { OnOk result (text.new ≡ text.old ++ escaped (compact_text (lines.contests_of
+        election.now center.now.events key.now sheet.now first.now second.now))) }
 {
     let blank = is_blank(sheet);
     let contests = sheet.contests.as_slice();
-    let mut values = Vec::new(alloc);
-    push_contests(
-        alloc,
-        &mut values,
-        election,
-        center,
-        key,
-        blank,
-        contests,
-        first,
-        second,
-    )?;
-    Ok(Value::Array(values))
+    text.push(b'[')?;
+    push_items(
+        alloc, text, election, center, key, blank, contests, first, second,
+    )
 }

@@ -1,7 +1,8 @@
 //! The lines of the desk's data.
 
-ghost use Rattle.std.specs.Prelude.{◌≡◌, ◌++◌, ◌-◌, ◌*◌, IfOk, OnOk, All, Some, true};
+ghost use Rattle.std.specs.Prelude.{◌≡◌, ◌++◌, ◌∷◌, [], ◌-◌, ◌*◌, IfOk, OnOk, All, Some, true};
 ghost use Rattle.serde_json.specs.View.{view};
+ghost use Rattle.serde_json.specs.Written.{members_text};
 ghost use Rattle.vx_election_model.specs.Valid.{IsValid};
 ghost use Rattle.vx_layout.specs.Plans.{ArePlansOf};
 ghost use Rattle.vx_center.specs.Holders.{holder_of};
@@ -10,11 +11,13 @@ ghost use Rattle.vx_events.specs.Fits.{is_sheet};
 ghost use Rattle.vx_sheet.specs.Came.{sheet_read};
 ghost use Rattle.vx_sheet.specs.Reads.{IsReadOf};
 ghost use Rattle.vx_sheet.specs.Shows.{IsOfPage};
+ghost use Rattle.vx_desk.specs.Escaped.{data_line, escaped};
+ghost use Rattle.vx_desk.specs.Json.{described, members};
 ghost use Rattle.vx_desk.specs.Kept as kept;
 ghost use Rattle.vx_desk.specs.Lines as lines;
 
-use crate::contests::contests_of;
-use crate::escape::push_line;
+use crate::contests::push_contests;
+use crate::escape::{push_line, push_members};
 use crate::find::find_sheet;
 use crate::image::Image;
 use crate::kept::is_that;
@@ -54,7 +57,8 @@ pub fn push_first(
 
 /// Who holds a sheet, or nobody.
 fn holder(alloc: Global, center: &Center<'_>, key: &Key) -> Result<Value, OutOfMemory>
-    ensures { IfOk result (λ value. view value ≡ lines.holder_data (holder_of center.now.events key.now)) }
+    ensures { IfOk result (λ value.
+        view value ≡ lines.holder_data (holder_of center.now.events key.now)) }
 {
     match center.holder(key) {
         None => Ok(Value::Null),
@@ -62,24 +66,50 @@ fn holder(alloc: Global, center: &Center<'_>, key: &Key) -> Result<Value, OutOfM
     }
 }
 
-/// A sheet whose images are what was kept: its contests that wait.
-fn kept_value(
+/// What stands behind the contests of a sheet.
+fn behind_contests(alloc: Global, center: &Center<'_>, key: &Key) -> Result<Value, OutOfMemory>
+    ensures { IfOk result (λ value.
+        view value ≡ described (lines.behind_contests center.now.events key.now)) }
+{
+    let holder = holder(alloc, center, key)?;
+    json!(in alloc; {"holder": holder, "number": key.number})
+}
+
+/// Adds what stands behind the contests of a sheet, and ends its line.
+fn push_behind(
     alloc: Global,
+    text: &mut Bytes,
+    center: &Center<'_>,
+    key: &Key,
+) -> Result<(), OutOfMemory>
+    ensures { OnOk result (text.new ≡ text.old ++ (escaped (members_text true
+        (members (lines.behind_contests center.now.events key.now))) ++ 10 ∷ [])) }
+{
+    let behind = behind_contests(alloc, center, key)?;
+    push_members(alloc, text, &behind)?;
+    text.push(b'\n')
+}
+
+/// Adds the line of a sheet whose images are what was kept: its contests that wait, one after the other,
+/// so that the value and the picture of no more than one are held.
+fn push_kept(
+    alloc: Global,
+    text: &mut Bytes,
     election: &Election,
     center: &Center<'_>,
     key: &Key,
     sheet: &SheetMarks,
     first: &Image<'_>,
     second: &Image<'_>,
-) -> Result<Value, OutOfMemory>
+) -> Result<(), OutOfMemory>
     requires options { All HasFewOptions election.now.contests }
     requires fits { is_sheet election.now sheet.now ≡ true }
-    ensures { IfOk result (λ value. view value ≡ lines.kept_data election.now center.now.events
-        key.now sheet.now first.now second.now) }
+    ensures { OnOk result (text.new ≡ text.old ++ data_line (lines.kept_data election.now
+        center.now.events key.now sheet.now first.now second.now)) }
 {
-    let contests = contests_of(alloc, election, center, key, sheet, first, second)?;
-    let holder = holder(alloc, center, key)?;
-    json!(in alloc; {"contests": contests, "holder": holder, "number": key.number})
+    text.extend_from_slice(b"{\"contests\":")?;
+    push_contests(alloc, text, election, center, key, sheet, first, second)?;
+    push_behind(alloc, text, center, key)
 }
 
 /// A sheet whose images are not what was kept.
@@ -88,6 +118,20 @@ fn differing_value(alloc: Global, center: &Center<'_>, key: &Key) -> Result<Valu
 {
     let holder = holder(alloc, center, key)?;
     json!(in alloc; {"differs": true, "holder": holder, "number": key.number})
+}
+
+/// Adds its line.
+fn push_differing(
+    alloc: Global,
+    text: &mut Bytes,
+    center: &Center<'_>,
+    key: &Key,
+) -> Result<(), OutOfMemory>
+    ensures { OnOk result (text.new
+        ≡ text.old ++ data_line (lines.differing_data center.now.events key.now)) }
+{
+    let value = differing_value(alloc, center, key)?;
+    push_line(alloc, text, &value)
 }
 
 /// The two images of a sheet, and what they were read as.
@@ -99,31 +143,33 @@ struct Images<'i> {
     second_read: &'i PageRead,
 }
 
-/// A sheet whose two images were read as what was kept.
-fn read_value(
+/// Adds the line of a sheet whose two images were read as what was kept.
+fn push_read(
     alloc: Global,
+    text: &mut Bytes,
     election: &Election,
     plans: &CardPlans,
     center: &Center<'_>,
     key: &Key,
     sheet: &SheetMarks,
     images: Images<'_>,
-) -> Result<Value, OutOfMemory>
+) -> Result<(), OutOfMemory>
     requires valid { IsValid election.now }
     requires plans { ArePlansOf election.now plans.now }
     requires fits { is_sheet election.now sheet.now ≡ true }
     requires first { IsReadOf election.now images.first.now images.first_read.now }
     requires second { IsReadOf election.now images.second.now images.second_read.now }
-    ensures { IfOk result (λ value. view value ≡ lines.read_data election.now center.now.events key.now
-        sheet.now images.entry.first.now images.entry.second.now images.entry.first_read.now images.entry.second_read.now) }
+    ensures { OnOk result (text.new ≡ text.old ++ data_line (lines.read_data election.now
+        center.now.events key.now sheet.now images.entry.first.now images.entry.second.now
+        images.entry.first_read.now images.entry.second_read.now)) }
 {
     match (images.first_read, images.second_read) {
         (Ok(one), Ok(other)) => {
             let first = Image::new(election, plans, images.first, one);
             let second = Image::new(election, plans, images.second, other);
-            kept_value(alloc, election, center, key, sheet, &first, &second)
+            push_kept(alloc, text, election, center, key, sheet, &first, &second)
         }
-        _ => differing_value(alloc, center, key),
+        _ => push_differing(alloc, text, center, key),
     }
 }
 
@@ -150,29 +196,30 @@ fn are_kept(
     Ok(is_that(&read, sheet))
 }
 
-/// A sheet by its two images.
-fn sheet_value(
+/// Adds the line of a sheet by its two images.
+fn push_images(
     alloc: Global,
+    text: &mut Bytes,
     election: &Election,
     plans: &CardPlans,
     center: &Center<'_>,
     key: &Key,
     sheet: &SheetMarks,
     images: Images<'_>,
-) -> Result<Value, OutOfMemory>
+) -> Result<(), OutOfMemory>
     requires valid { IsValid election.now }
     requires plans { ArePlansOf election.now plans.now }
     requires fits { is_sheet election.now sheet.now ≡ true }
     requires first { IsReadOf election.now images.first.now images.first_read.now }
     requires second { IsReadOf election.now images.second.now images.second_read.now }
-    ensures { IfOk result (λ value. view value ≡ lines.sheet_data election.now center.now.events key.now
-        sheet.now images.entry.first.now images.entry.second.now) }
+    ensures { OnOk result (text.new ≡ text.old ++ data_line (lines.sheet_data election.now
+        center.now.events key.now sheet.now images.entry.first.now images.entry.second.now)) }
 {
     let (first, second) = (images.first_read, images.second_read);
     if are_kept(alloc, election, plans, key, sheet, first, second)? {
-        read_value(alloc, election, plans, center, key, sheet, images)
+        push_read(alloc, text, election, plans, center, key, sheet, images)
     } else {
-        differing_value(alloc, center, key)
+        push_differing(alloc, text, center, key)
     }
 }
 
@@ -196,15 +243,15 @@ fn push_found(
     ensures { OnOk result (text.new ≡ text.old ++ lines.line_of election.now center.now.events key.now
         images.entry.first.now images.entry.second.now (Some sheet.now)) }
 {
-    if !any_waits(election, center, key, sheet) {
-        return Ok(());
+    if any_waits(election, center, key, sheet) {
+        push_images(alloc, text, election, plans, center, key, sheet, images)
+    } else {
+        Ok(())
     }
-    let value = sheet_value(alloc, election, plans, center, key, sheet, images)?;
-    push_line(alloc, text, &value)
 }
 
-/// Adds the line of the sheet of a batch with a number, of its first and second image and what they were
-/// read as; nothing where no contest of it waits.
+/// Adds the line of the sheet of a batch with a number, of its first and second image and what they
+/// were read as; nothing where no contest of it waits.
 #[tactic(auto, unfolding(crate::specs::Lines::sheet_text))]
 pub fn push_sheet(
     alloc: Global,

@@ -1,6 +1,7 @@
-ghost use Rattle.std.specs.Prelude.{◌≡◌, ◌++◌, OnOk, false};
+ghost use Rattle.std.specs.Prelude.{◌≡◌, ◌++◌, ℕ, List, OnOk, true, false};
+ghost use Rattle.serde_json.specs.Data.{Data, Members, member, object};
 ghost use Rattle.serde_json.specs.View.{view};
-ghost use Rattle.serde_json.specs.Written.{has_float};
+ghost use Rattle.serde_json.specs.Written.{comma_if, compact_text, has_float, members_text};
 ghost use Rattle.vx_desk.specs.Escaped as spec;
 
 use serde_json::Value;
@@ -32,13 +33,56 @@ fn push_escaped(text: &mut Bytes, json: &[u8]) -> Result<(), OutOfMemory>
     Ok(())
 }
 
+/// Adds the JSON of a value without markup. It stands in memory of its own only so long.
+fn push_value(alloc: Global, text: &mut Bytes, value: &Value) -> Result<(), OutOfMemory>
+    requires { has_float (view value.now) ≡ false }
+    ensures { OnOk result (text.new ≡ text.old ++ spec.escaped (compact_text (view value.now))) }
+{
+    let json = value.to_vec(alloc)?;
+    push_escaped(text, json.as_slice())
+}
+
 /// Adds the line of a value.
 pub(crate) fn push_line(alloc: Global, text: &mut Bytes, value: &Value) -> Result<(), OutOfMemory>
     requires { has_float (view value.now) ≡ false }
     ensures { OnOk result (text.new ≡ text.old ++ spec.data_line (view value.now)) }
 {
+    push_value(alloc, text, value)?;
+    text.push(b'\n')
+}
+
+/// Adds a value behind others of a list, without markup: a comma, where one stands before, and its JSON.
+pub(crate) fn push_item(
+    alloc: Global,
+    text: &mut Bytes,
+    is_later: bool,
+    value: &Value,
+) -> Result<(), OutOfMemory>
+    requires { has_float (view value.now) ≡ false }
+    ensures { OnOk result (text.new
+        ≡ text.old ++ (comma_if is_later ++ spec.escaped (compact_text (view value.now)))) }
+{
+    if is_later {
+        text.push(b',')?;
+    }
+    push_value(alloc, text, value)
+}
+
+/// Adds the members of an object behind others, without markup, and its closing brace.
+pub(crate) fn push_members(
+    alloc: Global,
+    text: &mut Bytes,
+    value: &Value,
+) -> Result<(), OutOfMemory>
+    requires { has_float (view value.now) ≡ false }
+    ensures { OnOk result ((key : List ℕ) (of : Data) (others : Members) →
+        view value.now ≡ object (member key of others) →
+        text.new ≡ text.old ++ spec.escaped (members_text true (member key of others))) }
+{
     let json = value.to_vec(alloc)?;
-    push_escaped(text, json.as_slice())?;
-    text.push(b'\n')?;
-    Ok(())
+    text.push(b',')?;
+    match json.as_slice().split_first() {
+        Some((_brace, members)) => push_escaped(text, members),
+        None => Ok(()),
+    }
 }

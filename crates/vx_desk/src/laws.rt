@@ -1,6 +1,6 @@
 //! Laws of the desk's data. These functions do nothing; their contracts are the laws.
 
-ghost use Rattle.vx_desk.specs.Laws.{DataIsNoMarkup, DeskTellsWhatWaits, PicturesShowTheScan};
+ghost use Rattle.vx_desk.specs.Laws.{DataIsNoMarkup, DeskTellsWhatWaits, PicturesShowTheScan, SameSheetsAreEqual};
 
 use vx_bits::rasters_show_their_pages;
 
@@ -20,3 +20,9 @@ pub fn pictures_show_the_scan()
 {
     rasters_show_their_pages();
 }
+
+/// By the test that the sheet of two images passes to be shown, two sheets are the same in all exactly
+/// where they are equal.
+pub fn same_sheets_are_equal()
+    ensures { SameSheetsAreEqual }
+{}

@@ -25,6 +25,8 @@ mod region;
 mod waiting;
 
 pub use data::{push_first, push_last, push_sheet};
-pub use laws::{data_is_no_markup, desk_tells_what_waits, pictures_show_the_scan};
+pub use laws::{
+    data_is_no_markup, desk_tells_what_waits, pictures_show_the_scan, same_sheets_are_equal,
+};
 pub use page::{push_head, push_tail};
 pub use waiting::waits;

@@ -1,9 +1,0 @@
-use Rattle.std.proofs.Common.{◌∙◌, ap}
-use Rattle.serde_json.specs.Written.{has_float}
-use Rattle.vx_desk.proofs.Floatless.{sheet_data}
-use Rattle.vx_desk.proofs.data.push_found.Goals as goal
-
-pub push_line-requires : goal.push_line-requires
-push_line-requires c =
-    ap has_float c.in_ok-value.ensures
-    ∙ sheet_data c.args.election.now c.args.center.now.events c.args.key.now c.args.sheet.now c.args.images.first.now c.args.images.second.now
