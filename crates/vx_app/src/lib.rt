@@ -20,7 +20,7 @@ mod top;
 pub use arguments::{arguments_status, command_words};
 pub use centering::{is_center, run_center};
 pub use laws::{
-    commands_are_named, ended_runs_keep_their_acts, fitting_sheets_are_in_their_items, runs_add_records,
-    runs_keep_events, runs_leave_journals,
+    commands_are_named, ended_runs_keep_their_acts, fitting_sheets_are_in_their_items,
+    runs_add_records, runs_keep_events, runs_leave_journals,
 };
 pub use top::{run, run_count};
