@@ -20,7 +20,7 @@ fn run_command<R: Threads + Wait + Sync, I: Inputs, S: Sink, K: Keeper>(
     out: &mut S,
     keeper: &mut K,
 ) -> Status
-    ensures usage { (result ≡ Status.Usage) ↔ NoCommand words.now }
+    ensures { (result ≡ Status.Usage) ↔ NoCommand words.now }
 {
     commands_are_named();
     if is_center(words) {
@@ -32,7 +32,7 @@ fn run_command<R: Threads + Wait + Sync, I: Inputs, S: Sink, K: Keeper>(
 
 /// Does a command with a journal in memory, which lasts for this run.
 fn run_in_memory<R: Threads + Wait + Sync>(rt: &HostRuntime, threads: &R, words: &Words) -> Status
-    ensures usage { (result ≡ Status.Usage) ↔ NoCommand words.now }
+    ensures { (result ≡ Status.Usage) ↔ NoCommand words.now }
 {
     let mut inputs = StdInputs::new(rt);
     let mut out = StdSink::new(rt);
