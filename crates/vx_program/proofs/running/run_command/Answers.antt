@@ -1,4 +1,4 @@
-use Rattle.std.proofs.Common.{◌≡◌, ◌∙◌, true, false, refl, sym}
+use Rattle.std.proofs.Common.{◌∙◌, sym}
 use Rattle.std.proofs.lemmas.Bool.{false≢true}
 use Rattle.vx_words.specs.declared.command.Command.TheVariants.{Center}
 use Rattle.vx_program.proofs.running.run_command.Goals as goal
