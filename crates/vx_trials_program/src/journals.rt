@@ -6,7 +6,9 @@ use sqlite::{Connection, File, FileStore, params};
 use std::fs;
 use std::process::Abort;
 use std::rt::HostRuntime;
+use std::sync::Wait;
 use std::test::Fail;
+use std::thread::Threads;
 use vx_program::run_with;
 use vx_town::{TOWN_HEADER, words_of};
 
@@ -18,7 +20,13 @@ const ROWS: [&str; 3] = [
 ];
 
 /// Counts the scan as a batch, with one worker, into the journal of this name, and tells the program's number.
-fn count(rt: &HostRuntime, paths: &Paths, journal: &str, batch: &str) -> Result<u8, Fail> {
+fn count<R: Threads + Wait + Sync>(
+    rt: &HostRuntime,
+    threads: &R,
+    paths: &Paths,
+    journal: &str,
+    batch: &str,
+) -> Result<u8, Fail> {
     let words = [
         "count",
         paths.election.as_str(),
@@ -27,12 +35,12 @@ fn count(rt: &HostRuntime, paths: &Paths, journal: &str, batch: &str) -> Result<
         paths.scan.as_str(),
     ];
     let words = words_of(rt.alloc(), &words)?;
-    Ok(run_with(rt, rt, journal, &words).number())
+    Ok(run_with(rt, threads, journal, &words).number())
 }
 
 /// The row in a place is this one, as SQLite reads the file.
-fn assert_row(
-    rt: &HostRuntime,
+fn assert_row<R: Abort>(
+    rt: &R,
     connection: &mut Connection<FileStore<File>>,
     place: i64,
     expected: &str,
@@ -48,8 +56,8 @@ fn assert_row(
 }
 
 /// The file has exactly the rows.
-fn assert_rows(rt: &HostRuntime, journal: &str) -> Result<(), Fail> {
-    let mut connection = Connection::open(rt, journal).map_err(|_| "the file isn't opened")?;
+fn assert_rows<R: Abort>(host: &HostRuntime, rt: &R, journal: &str) -> Result<(), Fail> {
+    let mut connection = Connection::open(host, journal).map_err(|_| "the file isn't opened")?;
     let mut place = 0;
     for expected in ROWS {
         assert_row(rt, &mut connection, place, expected)?;
@@ -60,20 +68,20 @@ fn assert_rows(rt: &HostRuntime, journal: &str) -> Result<(), Fail> {
     Ok(())
 }
 
-/// What a run counts into a file the next one finds, and SQLite reads it as it was kept. A `queue` of a journal that
-/// isn't there makes no file, and neither does a count with a journal in memory.
+/// What a run counts into a file the next one finds, and SQLite reads it as it was kept. A `queue` of a
+/// journal that isn't there makes no file, and neither does a count with a journal in memory.
 #[test]
 fn counts_stand_in_the_file_that_was_named(rt: HostRuntime) -> Result<(), Fail> {
     let paths = write_files(&rt)?;
     let journal = paths.journal.as_str();
     let queue = words_of(rt.alloc(), &["queue", paths.election.as_str()])?;
     assert_eq!(rt; run_with(&rt, &rt, journal, &queue).number(), 0);
-    assert_eq!(rt; count(&rt, &paths, "-", "b1")?, 0);
+    assert_eq!(rt; count(&rt, &rt, &paths, "-", "b1")?, 0);
     assert_eq!(rt; fs::exists(&rt, journal)?, false);
     assert_eq!(rt; fs::exists(&rt, "-")?, false);
-    assert_eq!(rt; count(&rt, &paths, journal, "b1")?, 0);
-    assert_eq!(rt; count(&rt, &paths, journal, "b2")?, 0);
-    assert_rows(&rt, journal)?;
+    assert_eq!(rt; count(&rt, &rt, &paths, journal, "b1")?, 0);
+    assert_eq!(rt; count(&rt, &rt, &paths, journal, "b2")?, 0);
+    assert_rows(&rt, &rt, journal)?;
     remove_journal(&rt, journal)?;
     remove_files(&rt, &paths)
 }
