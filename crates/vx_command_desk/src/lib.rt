@@ -7,7 +7,6 @@
 
 mod command;
 mod images;
-mod memory;
 mod page;
 mod scans;
 mod setting;

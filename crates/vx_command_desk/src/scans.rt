@@ -7,7 +7,6 @@ ghost use Rattle.vx_command_desk.specs.Setting.{IsSet, closing_of, images_in, te
 ghost use Rattle.vx_command_desk.specs.Steps.{WalksFirst};
 
 use crate::images::walk_scan;
-use crate::memory::SheetMemory;
 use crate::page::close_page;
 use crate::setting::Setting;
 use crate::walked::Walked;
@@ -18,19 +17,19 @@ use vx_command::{Halt, INPUT_LIMIT, acts_in_order, steps_in_order, take_input};
 use vx_io::{Inputs, Sink};
 use vx_json::Text;
 
-/// What is kept over all scans, so that none takes memory anew: that of the last input and those of the last
-/// sheet.
+/// What is kept over all scans, so that none takes memory anew: that of the last input and that of the last
+/// sheet's text.
 #[derive(Drop)]
 struct ScanMemory {
     bytes: Bytes,
-    sheets: SheetMemory,
+    text: Bytes,
 }
 
 impl ScanMemory {
     fn new(alloc: Global) -> ScanMemory {
         ScanMemory {
             bytes: Bytes::new(alloc),
-            sheets: SheetMemory::new(alloc),
+            text: Bytes::new(alloc),
         }
     }
 }
@@ -62,8 +61,8 @@ fn walk_input<I: Inputs, S: Sink>(
     steps_in_order::<Bytes>();
     let last = replace(&mut memory.bytes, Bytes::new(alloc));
     let bytes = take_input(last, inputs, name, word, INPUT_LIMIT)?;
-    let sheets = &mut memory.sheets;
-    let now = walk_scan(alloc, sheets, setting, word, walked, bytes.as_slice(), out);
+    let text = &mut memory.text;
+    let now = walk_scan(alloc, text, setting, word, walked, bytes.as_slice(), out);
     memory.bytes = bytes;
     now
 }

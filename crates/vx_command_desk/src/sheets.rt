@@ -1,41 +1,58 @@
-ghost use Rattle.std.specs.Prelude.{◌≡◌, ◌<◌, ◌^◌, [], OnOk, false};
+ghost use Rattle.std.specs.Prelude.{◌≡◌, ◌<◌, ◌^◌, [], IfOk, OnOk, false};
+ghost use Rattle.vx_sheet.specs.Reads.{IsReadOf};
 ghost use Rattle.vx_command.specs.Acts.{writing};
 ghost use Rattle.vx_command.specs.Devices.{TouchesSink, writes_nothing};
 ghost use Rattle.vx_command.specs.Done.{IsWritten};
 ghost use Rattle.vx_command_desk.specs.Setting.{IsSet, texts_of};
 
-use crate::memory::SheetMemory;
 use crate::setting::Setting;
 use std::alloc::Global;
-use vx_base::OutOfMemory;
+use vx_base::{Bytes, OutOfMemory};
 use vx_bits::BitView;
 use vx_command::{Halt, acts_in_order, write_text};
+use vx_count::CounterMemory;
 use vx_desk::{push_sheet, waits};
 use vx_io::Sink;
-use vx_sheet::read_image;
+use vx_sheet::{PageRead, read_image};
+
+/// What both images of a sheet are read as. The memory that reading takes is let go with it: a sheet's text
+/// takes as much.
+fn read_both(
+    alloc: Global,
+    setting: &Setting<'_>,
+    first: &BitView<'_>,
+    second: &BitView<'_>,
+) -> Result<(PageRead, PageRead), OutOfMemory>
+    requires set { IsSet setting.now }
+    ensures { IfOk result (λ both.
+        IsReadOf setting.now.election first.now both.0 × IsReadOf setting.now.election second.now both.1) }
+{
+    let mut counter = CounterMemory::new(alloc);
+    let (election, plans) = (setting.election, setting.plans);
+    let first_read = read_image(alloc, &mut counter, election, plans, first)?;
+    let second_read = read_image(alloc, &mut counter, election, plans, second)?;
+    Ok((first_read, second_read))
+}
 
 /// Reads both images of the sheet with a number, and makes its text in the memory of the last one's.
 fn read_sheet(
     alloc: Global,
-    memory: &mut SheetMemory,
+    text: &mut Bytes,
     setting: &Setting<'_>,
     number: u64,
     first: &BitView<'_>,
     second: &BitView<'_>,
 ) -> Result<(), OutOfMemory>
     requires set { IsSet setting.now }
-    requires empty { memory.old.text ≡ [] }
-    ensures { OnOk result (memory.new.text ≡ texts_of setting.now number first.now second.now) }
+    requires empty { text.old ≡ [] }
+    ensures { OnOk result (text.new ≡ texts_of setting.now number first.now second.now) }
 {
-    let (election, plans) = (setting.election, setting.plans);
-    let counter = &mut memory.counter;
-    let first_read = read_image(alloc, counter, election, plans, first)?;
-    let second_read = read_image(alloc, counter, election, plans, second)?;
+    let (first_read, second_read) = read_both(alloc, setting, first, second)?;
     push_sheet(
         alloc,
-        &mut memory.text,
-        election,
-        plans,
+        text,
+        setting.election,
+        setting.plans,
         setting.center,
         setting.batch,
         number,
@@ -50,18 +67,18 @@ fn read_sheet(
 /// read.
 fn make_text(
     alloc: Global,
-    memory: &mut SheetMemory,
+    text: &mut Bytes,
     setting: &Setting<'_>,
     number: u64,
     first: &BitView<'_>,
     second: &BitView<'_>,
 ) -> Result<(), OutOfMemory>
     requires set { IsSet setting.now }
-    ensures { OnOk result (memory.new.text ≡ texts_of setting.now number first.now second.now) }
+    ensures { OnOk result (text.new ≡ texts_of setting.now number first.now second.now) }
 {
-    memory.text.clear();
+    text.clear();
     if waits(setting.election, setting.center, setting.batch, number) {
-        read_sheet(alloc, memory, setting, number, first, second)?;
+        read_sheet(alloc, text, setting, number, first, second)?;
     }
     Ok(())
 }
@@ -69,7 +86,7 @@ fn make_text(
 /// Writes the text of the sheet with a number, of its two images.
 pub(crate) fn write_sheet<S: Sink>(
     alloc: Global,
-    memory: &mut SheetMemory,
+    text: &mut Bytes,
     setting: &Setting<'_>,
     number: u64,
     first: &BitView<'_>,
@@ -83,6 +100,6 @@ pub(crate) fn write_sheet<S: Sink>(
     ensures late { writes_nothing false result ≡ false }
 {
     acts_in_order();
-    make_text(alloc, memory, setting, number, first, second)?;
-    write_text(out, memory.text.as_slice())
+    make_text(alloc, text, setting, number, first, second)?;
+    write_text(out, text.as_slice())
 }
