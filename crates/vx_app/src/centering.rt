@@ -2,7 +2,7 @@
 
 ghost use Rattle.std.specs.Prelude.{◌≡◌, ◌↔◌, true, IsTrue, List, ℕ, Ok, Some};
 ghost use Rattle.vx_io.specs.Outside.{Files};
-ghost use Rattle.vx_command.specs.Devices.{LeavesInputs, LeavesKeeper, LeavesSink};
+ghost use Rattle.vx_command.specs.Devices.{LeavesDevices};
 ghost use Rattle.vx_command.specs.Status.{answer_of};
 ghost use Rattle.vx_command_center.specs.Laws.{ReportedWhatIsKept};
 ghost use Rattle.vx_command_center.specs.Runs.{Centers, is_refusal};
@@ -60,10 +60,8 @@ fn center_words<R: Threads + Wait + Sync, I: Inputs, S: Sink, K: Keeper, G: Gate
         K.held keeper.new ≡ K.held keeper.old }
     ensures usage_writes_nothing { result ≡ Status.Usage → S.taken out.new ≡ S.taken out.old }
     ensures usage_keeps_all { result ≡ Status.Usage → K.held keeper.new ≡ K.held keeper.old }
-    ensures inputs { LeavesInputs (I.held inputs.old) (I.held inputs.new)
-        (I.faults inputs.old) (I.faults inputs.new) (answer_of result) }
-    ensures sink { LeavesSink (S.faults out.old) (S.faults out.new) (answer_of result) }
-    ensures keeper { LeavesKeeper (K.faults keeper.old) (K.faults keeper.new) (answer_of result) }
+    ensures devices { LeavesDevices I.Inputs S.Sink K.Keeper inputs.old inputs.new out.old out.new
+        keeper.old keeper.new (answer_of result) }
 {
     acts_in_order();
     words_spell_one_command();
@@ -135,10 +133,8 @@ pub fn run_center<R: Threads + Wait + Sync, I: Inputs, S: Sink, K: Keeper, G: Ga
         K.held keeper.new ≡ K.held keeper.old }
     ensures usage_writes_nothing { result ≡ Status.Usage → S.taken out.new ≡ S.taken out.old }
     ensures usage_keeps_all { result ≡ Status.Usage → K.held keeper.new ≡ K.held keeper.old }
-    ensures inputs { LeavesInputs (I.held inputs.old) (I.held inputs.new)
-        (I.faults inputs.old) (I.faults inputs.new) (answer_of result) }
-    ensures sink { LeavesSink (S.faults out.old) (S.faults out.new) (answer_of result) }
-    ensures keeper { LeavesKeeper (K.faults keeper.old) (K.faults keeper.new) (answer_of result) }
+    ensures devices { LeavesDevices I.Inputs S.Sink K.Keeper inputs.old inputs.new out.old out.new
+        keeper.old keeper.new (answer_of result) }
     // Whatever the status, a journal of the election stays one, which keeps the events that it kept, and
     // perhaps more behind them.
     ensures journal_kept { (files : Files) → I.held inputs.old ≡ Some files →

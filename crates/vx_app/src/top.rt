@@ -1,6 +1,6 @@
 ghost use Rattle.std.specs.Prelude.{◌≡◌, ◌≢◌, ◌↔◌, true, false, List, ℕ, Ok, Some};
 ghost use Rattle.vx_io.specs.Outside.{Files};
-ghost use Rattle.vx_command.specs.Devices.{LeavesInputs, LeavesKeeper, LeavesSink, writes_nothing};
+ghost use Rattle.vx_command.specs.Devices.{LeavesDevices, writes_nothing};
 ghost use Rattle.vx_command.specs.Done.{IsDone};
 ghost use Rattle.vx_command.specs.Status.{answer_of};
 ghost use Rattle.vx_command_check.specs.Margin.{CheckSaysWhatFits};
@@ -60,10 +60,8 @@ fn obey<R: Threads + Sync, I: Inputs, S: Sink, K: Keeper, G: Gate>(
         (S.taken out.old) (S.taken out.new) (K.held keeper.old) (K.held keeper.new) result }
     ensures nothing_written { writes_nothing (takes_first command) result ≡ true →
         S.taken out.new ≡ S.taken out.old }
-    ensures inputs { LeavesInputs (I.held inputs.old) (I.held inputs.new)
-        (I.faults inputs.old) (I.faults inputs.new) result }
-    ensures sink { LeavesSink (S.faults out.old) (S.faults out.new) result }
-    ensures keeper { LeavesKeeper (K.faults keeper.old) (K.faults keeper.new) result }
+    ensures devices { LeavesDevices I.Inputs S.Sink K.Keeper inputs.old inputs.new out.old out.new
+        keeper.old keeper.new result }
     ensures keeper_held { appends command ≡ false → K.held keeper.new ≡ K.held keeper.old }
 {
     match command {
@@ -191,10 +189,8 @@ fn run_words<R: Threads + Sync, I: Inputs, S: Sink, K: Keeper, G: Gate>(
         S.taken out.new ≡ S.taken out.old }
     ensures usage_writes_nothing { result ≡ Status.Usage → S.taken out.new ≡ S.taken out.old }
     ensures usage_keeps_all { result ≡ Status.Usage → K.held keeper.new ≡ K.held keeper.old }
-    ensures inputs { LeavesInputs (I.held inputs.old) (I.held inputs.new)
-        (I.faults inputs.old) (I.faults inputs.new) (answer_of result) }
-    ensures sink { LeavesSink (S.faults out.old) (S.faults out.new) (answer_of result) }
-    ensures keeper { LeavesKeeper (K.faults keeper.old) (K.faults keeper.new) (answer_of result) }
+    ensures devices { LeavesDevices I.Inputs S.Sink K.Keeper inputs.old inputs.new out.old out.new
+        keeper.old keeper.new (answer_of result) }
     ensures keeper_held { (command : CommandOf) → SpellsRun words.now command →
         appends command ≡ false → K.held keeper.new ≡ K.held keeper.old }
 {
@@ -242,10 +238,8 @@ pub fn run<R: Threads + Sync, I: Inputs, S: Sink, K: Keeper>(
         S.taken out.new ≡ S.taken out.old }
     ensures usage_writes_nothing { result ≡ Status.Usage → S.taken out.new ≡ S.taken out.old }
     ensures usage_keeps_all { result ≡ Status.Usage → K.held keeper.new ≡ K.held keeper.old }
-    ensures inputs { LeavesInputs (I.held inputs.old) (I.held inputs.new)
-        (I.faults inputs.old) (I.faults inputs.new) (answer_of result) }
-    ensures sink { LeavesSink (S.faults out.old) (S.faults out.new) (answer_of result) }
-    ensures keeper { LeavesKeeper (K.faults keeper.old) (K.faults keeper.new) (answer_of result) }
+    ensures devices { LeavesDevices I.Inputs S.Sink K.Keeper inputs.old inputs.new out.old out.new
+        keeper.old keeper.new (answer_of result) }
     // A command that appends nothing leaves what the keeper holds.
     ensures keeper_held { (command : CommandOf) → SpellsRun words.now command →
         appends command ≡ false → K.held keeper.new ≡ K.held keeper.old }
@@ -326,10 +320,8 @@ pub fn run_count<R: Threads + Sync, I: Inputs, S: Sink, K: Keeper, G: Gate>(
     // What halts the command before its first text comes before anything is written.
     ensures nothing_written { writes_nothing false (answer_of result) ≡ true →
         S.taken out.new ≡ S.taken out.old }
-    ensures inputs { LeavesInputs (I.held inputs.old) (I.held inputs.new)
-        (I.faults inputs.old) (I.faults inputs.new) (answer_of result) }
-    ensures sink { LeavesSink (S.faults out.old) (S.faults out.new) (answer_of result) }
-    ensures keeper { LeavesKeeper (K.faults keeper.old) (K.faults keeper.new) (answer_of result) }
+    ensures devices { LeavesDevices I.Inputs S.Sink K.Keeper inputs.old inputs.new out.old out.new
+        keeper.old keeper.new (answer_of result) }
 {
     run_words(rt, alloc, words, inputs, out, keeper, gate)
 }

@@ -31,8 +31,7 @@ pub fn take_input<I: Inputs>(
     // The same of inputs that don't tell what they hold.
     ensures within { IfOk result (λ bytes. length bytes ≤ limit) }
     ensures halts { IfErr result (IsTakingHalt word) }
-    ensures inputs { TouchesInputs (I.held inputs.old) (I.held inputs.new)
-        (I.faults inputs.old) (I.faults inputs.new) result }
+    ensures inputs { TouchesInputs I.Inputs inputs.old inputs.new result }
 {
     match take_reusing(old, inputs, name, limit) {
         Ok(bytes) => Ok(bytes),
@@ -57,8 +56,7 @@ pub fn take_election<I: Inputs>(alloc: Global, inputs: &mut I, name: &str) -> Re
     ensures told { ForSome (I.held inputs.old) (λ files.
         GivesTaking 1 result (election_in (files name.now))) }
     ensures valid { IfOk result IsValid }
-    ensures inputs { TouchesInputs (I.held inputs.old) (I.held inputs.new)
-        (I.faults inputs.old) (I.faults inputs.new) result }
+    ensures inputs { TouchesInputs I.Inputs inputs.old inputs.new result }
 {
     let bytes = take_input(Bytes::new(alloc), inputs, name, 1, INPUT_LIMIT)?;
     read_bytes(alloc, bytes.as_slice())

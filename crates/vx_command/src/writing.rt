@@ -9,7 +9,7 @@ use vx_io::{Sink, give};
 /// Writes a text whole. Where the sink fails a front of it may be taken.
 pub fn write_text<S: Sink>(out: &mut S, text: &[u8]) -> Result<(), Halt>
     ensures done { IsWritten (writing text.now) (S.taken out.old) (S.taken out.new) result }
-    ensures sink { TouchesSink (S.faults out.old) (S.faults out.new) result }
+    ensures sink { TouchesSink S.Sink out.old out.new result }
     // It is no answer of a command that has written nothing.
     ensures late { (first : Bool) → writes_nothing first result ≡ false }
 {

@@ -2,7 +2,7 @@
 use Rattle.std.specs.Prelude.{◌≡◌, ◌≢◌, ℕ, false, IfErr, List, Option, Result, Ok, Err}
 use Rattle.vx_tally.specs.declared.report.Report.{Report}
 use Rattle.vx_audit.specs.declared.hand.HandLine.{HandLine}
-use Rattle.vx_io.specs.Outside.{Files}
+use Rattle.vx_io.specs.declared.outside.Inputs.{Ghosts as InputsOf}
 use Rattle.vx_command.specs.Acts.{Answer}
 use Rattle.vx_command.specs.Devices.{LeavesInputs, is_write_fault}
 use Rattle.vx_command.specs.Done.{Taken, IsWritten, WritesTo}
@@ -40,8 +40,7 @@ step_answer (Ok given) = Ok tt
 step_answer (Err status) = answer_of status
 
 -- a step that takes and reads an input touches the inputs alone, and never answers that the words are no command
-pub record LeavesReading {A : Type 0} (held held_now : Option Files) (faults faults_now : ℕ) (result : Result A AuditStatus)
-    : Type 0 where
-  pub inputs : LeavesInputs held held_now faults faults_now (step_answer result)
+pub record LeavesReading {I A : Type 0} (i : InputsOf I) (before now : I) (result : Result A AuditStatus) : Type 0 where
+  pub inputs : LeavesInputs i before now (step_answer result)
   pub no_write_fault : is_write_fault (step_answer result) ≡ false
   pub no_usage : IfErr result (λ status. status ≢ Usage)

@@ -20,8 +20,7 @@ pub(crate) fn take_report<I: Inputs>(
 ) -> Result<Report, AuditStatus>
     ensures done { ForSome (I.held inputs.old) (λ files.
         (taken : Taken) → TakesReport (files name.now) taken result) }
-    ensures inputs { LeavesReading (I.held inputs.old) (I.held inputs.new)
-        (I.faults inputs.old) (I.faults inputs.new) result }
+    ensures inputs { LeavesReading I.Inputs inputs.old inputs.new result }
     ensures sized { IfOk result IsSized }
 {
     acts_in_order();
@@ -46,8 +45,7 @@ pub(crate) fn take_hand<I: Inputs>(
     requires { IsSized report.now }
     ensures done { ForSome (I.held inputs.old) (λ files.
         (taken : Taken) → TakesHand report.now (files name.now) taken result) }
-    ensures inputs { LeavesReading (I.held inputs.old) (I.held inputs.new)
-        (I.faults inputs.old) (I.faults inputs.new) result }
+    ensures inputs { LeavesReading I.Inputs inputs.old inputs.new result }
 {
     acts_in_order();
     steps_in_order::<Bytes>();

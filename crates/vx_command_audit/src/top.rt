@@ -1,7 +1,7 @@
 ghost use Rattle.std.specs.Prelude.{◌≡◌, ◌≢◌, ◌↔◌, false, Some};
 ghost use Rattle.std.specs.Option.{ForSome};
 ghost use Rattle.vx_io.specs.Outside.{Files};
-ghost use Rattle.vx_command.specs.Devices.{LeavesInputs, LeavesSink};
+ghost use Rattle.vx_command.specs.Devices.{TouchesInputsAndSink};
 ghost use Rattle.vx_command_audit.specs.Done.{IsAuditDone};
 ghost use Rattle.vx_command_audit.specs.Outcome.{asked_outcome};
 ghost use Rattle.vx_command_audit.specs.Status.{answer_of, may_have_written};
@@ -20,9 +20,7 @@ fn totals<I: Inputs, S: Sink>(alloc: Global, name: &str, inputs: &mut I, out: &m
     ensures done { ForSome (I.held inputs.old) (λ files.
         IsAuditDone (asked_outcome (Totals name.now) files) (S.taken out.old) (S.taken out.new) result) }
     ensures nothing_written { may_have_written result ≡ false → S.taken out.new ≡ S.taken out.old }
-    ensures inputs { LeavesInputs (I.held inputs.old) (I.held inputs.new)
-        (I.faults inputs.old) (I.faults inputs.new) (answer_of result) }
-    ensures sink { LeavesSink (S.faults out.old) (S.faults out.new) (answer_of result) }
+    ensures devices { TouchesInputsAndSink I.Inputs S.Sink inputs.old inputs.new out.old out.new (answer_of result) }
     ensures no_usage { result ≢ AuditStatus.Usage }
 {
     match take_report(alloc, name, inputs) {
@@ -45,9 +43,7 @@ fn audit<I: Inputs, S: Sink>(
         IsAuditDone (asked_outcome (Audit name.now seed size hand.now) files)
         (S.taken out.old) (S.taken out.new) result) }
     ensures nothing_written { may_have_written result ≡ false → S.taken out.new ≡ S.taken out.old }
-    ensures inputs { LeavesInputs (I.held inputs.old) (I.held inputs.new)
-        (I.faults inputs.old) (I.faults inputs.new) (answer_of result) }
-    ensures sink { LeavesSink (S.faults out.old) (S.faults out.new) (answer_of result) }
+    ensures devices { TouchesInputsAndSink I.Inputs S.Sink inputs.old inputs.new out.old out.new (answer_of result) }
     ensures no_usage { result ≢ AuditStatus.Usage }
 {
     let report = match take_report(alloc, name, inputs) {
@@ -80,9 +76,7 @@ pub fn run_audit<I: Inputs, S: Sink>(
         IsAuditDone (asked_outcome asked files) (S.taken out.old) (S.taken out.new) result }
     // Of inputs that don't tell, too.
     ensures nothing_written { may_have_written result ≡ false → S.taken out.new ≡ S.taken out.old }
-    ensures inputs { LeavesInputs (I.held inputs.old) (I.held inputs.new)
-        (I.faults inputs.old) (I.faults inputs.new) (answer_of result) }
-    ensures sink { LeavesSink (S.faults out.old) (S.faults out.new) (answer_of result) }
+    ensures devices { TouchesInputsAndSink I.Inputs S.Sink inputs.old inputs.new out.old out.new (answer_of result) }
 {
     if let Some(report) = totals_in(words) {
         return totals(alloc, report, inputs, out);

@@ -1,9 +1,9 @@
-ghost use Rattle.std.specs.Prelude.{◌≡◌, ◌≢◌, false, true, IfOk, length, string_bytes};
+ghost use Rattle.std.specs.Prelude.{◌≡◌, ◌≢◌, true, IfOk, length, string_bytes};
 ghost use Rattle.vx_audit.specs.Audit as lines;
 ghost use Rattle.vx_audit.specs.Sample.{sample_of};
 ghost use Rattle.vx_audit.specs.Sized.{IsSized};
 ghost use Rattle.vx_audit.specs.Totals as texts;
-ghost use Rattle.vx_command.specs.Devices.{LeavesSink, is_read_fault};
+ghost use Rattle.vx_command.specs.Devices.{TouchesSink};
 ghost use Rattle.vx_command_audit.specs.Done.{IsAuditDone};
 ghost use Rattle.vx_command_audit.specs.Outcome.{audited, writes};
 ghost use Rattle.vx_command_audit.specs.Status.{answer_of, may_have_written};
@@ -19,8 +19,7 @@ use vx_tally::Report;
 /// Writes a text whole.
 fn write_whole<S: Sink>(text: &str, out: &mut S) -> AuditStatus
     ensures done { IsAuditDone (writes text.now) (S.taken out.old) (S.taken out.new) result }
-    ensures sink { LeavesSink (S.faults out.old) (S.faults out.new) (answer_of result) }
-    ensures no_read_fault { is_read_fault (answer_of result) ≡ false }
+    ensures sink { TouchesSink S.Sink out.old out.new (answer_of result) }
     ensures late { may_have_written result ≡ true }
     ensures no_usage { result ≢ AuditStatus.Usage }
 {
@@ -34,8 +33,7 @@ fn write_whole<S: Sink>(text: &str, out: &mut S) -> AuditStatus
 pub(crate) fn write_totals<S: Sink>(alloc: Global, report: &Report, out: &mut S) -> AuditStatus
     requires { IsSized report.now }
     ensures done { IsAuditDone (writes (texts.totals_text report.now)) (S.taken out.old) (S.taken out.new) result }
-    ensures sink { LeavesSink (S.faults out.old) (S.faults out.new) (answer_of result) }
-    ensures no_read_fault { is_read_fault (answer_of result) ≡ false }
+    ensures sink { TouchesSink S.Sink out.old out.new (answer_of result) }
     ensures late { may_have_written result ≡ true }
     ensures no_usage { result ≢ AuditStatus.Usage }
 {
@@ -75,8 +73,7 @@ pub(crate) fn write_audit<S: Sink>(
     requires { IsSized report.now }
     ensures done { IsAuditDone (audited seed size report.now hand.now)
         (S.taken out.old) (S.taken out.new) result }
-    ensures sink { LeavesSink (S.faults out.old) (S.faults out.new) (answer_of result) }
-    ensures no_read_fault { is_read_fault (answer_of result) ≡ false }
+    ensures sink { TouchesSink S.Sink out.old out.new (answer_of result) }
     ensures late { may_have_written result ≡ true }
     ensures no_usage { result ≢ AuditStatus.Usage }
 {

@@ -3,7 +3,7 @@ ghost use Rattle.std.specs.Option.{ForSome};
 ghost use Rattle.vx_base.specs.Refusals.{Gives};
 ghost use Rattle.vx_election_model.specs.Valid.{IsValid};
 ghost use Rattle.vx_command.specs.Acts.{writing};
-ghost use Rattle.vx_command.specs.Devices.{LeavesInputs, LeavesSink, TouchesNothing, TouchesSink, is_keeper_fault, writes_nothing};
+ghost use Rattle.vx_command.specs.Devices.{TouchesInputsAndSink, TouchesNothing, TouchesSink, writes_nothing};
 ghost use Rattle.vx_command.specs.Done.{IsWritten};
 ghost use Rattle.vx_command.specs.Steps.{is_no_memory};
 ghost use Rattle.vx_command_cards.specs.declared.flaw.Flaw.TheVariants as flaw;
@@ -97,7 +97,7 @@ fn write_cards<S: Sink>(alloc: Global, election: &Election, out: &mut S) -> Resu
     requires { IsValid election.now }
     ensures done { IsWritten (writing (cards_text election.now))
         (S.taken out.old) (S.taken out.new) result }
-    ensures sink { TouchesSink (S.faults out.old) (S.faults out.new) result }
+    ensures sink { TouchesSink S.Sink out.old out.new result }
     ensures late { (first : Bool) → writes_nothing first result ≡ false }
 {
     acts_in_order();
@@ -120,10 +120,7 @@ pub fn cards<I: Inputs, S: Sink>(
         IsWritten (cards_outcome election.now files)
         (S.taken out.old) (S.taken out.new) result) }
     ensures nothing_written { writes_nothing true result ≡ true → S.taken out.new ≡ S.taken out.old }
-    ensures inputs { LeavesInputs (I.held inputs.old) (I.held inputs.new)
-        (I.faults inputs.old) (I.faults inputs.new) result }
-    ensures sink { LeavesSink (S.faults out.old) (S.faults out.new) result }
-    ensures no_keeper_fault { is_keeper_fault result ≡ false }
+    ensures devices { TouchesInputsAndSink I.Inputs S.Sink inputs.old inputs.new out.old out.new result }
 {
     steps_in_order::<Election>();
     let given = take_election(alloc, inputs, election)?;

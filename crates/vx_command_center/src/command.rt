@@ -3,7 +3,7 @@ ghost use Rattle.std.specs.Option.{ForSome};
 ghost use Rattle.vx_election_model.specs.Valid.{IsValid};
 ghost use Rattle.vx_layout.specs.Plans.{ArePlansOf};
 ghost use Rattle.vx_words.specs.Items.{AreItemWords};
-ghost use Rattle.vx_command.specs.Devices.{LeavesInputs, LeavesKeeper, LeavesSink, is_read_fault};
+ghost use Rattle.vx_command.specs.Devices.{LeavesDevices, TouchesSinkAndKeeper};
 ghost use Rattle.vx_command_center.specs.Items.{FitsItem, possible_in_all};
 ghost use Rattle.vx_command_center.specs.Runs.{Centers, CentersItems, CentersJournal, CentersPlanned, CentersSet, is_refusal};
 
@@ -52,9 +52,7 @@ fn do_items<'e, R: Threads + Wait + Sync, S: Sink, K: Keeper, G: Gate>(
     ensures done { CentersItems election.now journal.entry moment.now device.now items
         (S.taken out.old) (S.taken out.new) (K.held keeper.old) (K.held keeper.new) result }
     ensures late { is_refusal result ≡ false }
-    ensures no_read_fault { is_read_fault result ≡ false }
-    ensures sink { LeavesSink (S.faults out.old) (S.faults out.new) result }
-    ensures keeper { LeavesKeeper (K.faults keeper.old) (K.faults keeper.new) result }
+    ensures devices { TouchesSinkAndKeeper S.Sink K.Keeper out.old out.new keeper.old keeper.new result }
 {
     acts_in_order();
     lists_have_histories();
@@ -88,10 +86,8 @@ fn center_read<'e, R: Threads + Wait + Sync, I: Inputs, S: Sink, K: Keeper, G: G
         (S.taken out.old) (S.taken out.new) (K.held keeper.old) (K.held keeper.new) result) }
     ensures nothing_written { is_refusal result ≡ true → S.taken out.new ≡ S.taken out.old }
     ensures nothing_kept { is_refusal result ≡ true → K.held keeper.new ≡ K.held keeper.old }
-    ensures inputs { LeavesInputs (I.held inputs.old) (I.held inputs.new)
-        (I.faults inputs.old) (I.faults inputs.new) result }
-    ensures sink { LeavesSink (S.faults out.old) (S.faults out.new) result }
-    ensures keeper { LeavesKeeper (K.faults keeper.old) (K.faults keeper.new) result }
+    ensures devices { LeavesDevices I.Inputs S.Sink K.Keeper inputs.old inputs.new out.old out.new
+        keeper.old keeper.new result }
 {
     lists_have_histories();
     let taken = take_items(rt, alloc, election, items, inputs)?;
@@ -122,10 +118,8 @@ fn center_set<R: Threads + Wait + Sync, I: Inputs, S: Sink, K: Keeper, G: Gate>(
         (S.taken out.old) (S.taken out.new) (K.held keeper.old) (K.held keeper.new) result)) }
     ensures nothing_written { is_refusal result ≡ true → S.taken out.new ≡ S.taken out.old }
     ensures nothing_kept { is_refusal result ≡ true → K.held keeper.new ≡ K.held keeper.old }
-    ensures inputs { LeavesInputs (I.held inputs.old) (I.held inputs.new)
-        (I.faults inputs.old) (I.faults inputs.new) result }
-    ensures sink { LeavesSink (S.faults out.old) (S.faults out.new) result }
-    ensures keeper { LeavesKeeper (K.faults keeper.old) (K.faults keeper.new) result }
+    ensures devices { LeavesDevices I.Inputs S.Sink K.Keeper inputs.old inputs.new out.old out.new
+        keeper.old keeper.new result }
 {
     journals_in_order();
     lists_have_histories();
@@ -155,10 +149,8 @@ fn center_planned<R: Threads + Wait + Sync, I: Inputs, S: Sink, K: Keeper, G: Ga
         (S.taken out.old) (S.taken out.new) (K.held keeper.old) (K.held keeper.new) result)) }
     ensures nothing_written { is_refusal result ≡ true → S.taken out.new ≡ S.taken out.old }
     ensures nothing_kept { is_refusal result ≡ true → K.held keeper.new ≡ K.held keeper.old }
-    ensures inputs { LeavesInputs (I.held inputs.old) (I.held inputs.new)
-        (I.faults inputs.old) (I.faults inputs.new) result }
-    ensures sink { LeavesSink (S.faults out.old) (S.faults out.new) result }
-    ensures keeper { LeavesKeeper (K.faults keeper.old) (K.faults keeper.new) result }
+    ensures devices { LeavesDevices I.Inputs S.Sink K.Keeper inputs.old inputs.new out.old out.new
+        keeper.old keeper.new result }
 {
     steps_in_order::<CardPlans>();
     lists_have_histories();
@@ -193,10 +185,8 @@ pub fn center<R: Threads + Wait + Sync, I: Inputs, S: Sink, K: Keeper, G: Gate>(
         (S.taken out.old) (S.taken out.new) (K.held keeper.old) (K.held keeper.new) result)) }
     ensures nothing_written { is_refusal result ≡ true → S.taken out.new ≡ S.taken out.old }
     ensures nothing_kept { is_refusal result ≡ true → K.held keeper.new ≡ K.held keeper.old }
-    ensures inputs { LeavesInputs (I.held inputs.old) (I.held inputs.new)
-        (I.faults inputs.old) (I.faults inputs.new) result }
-    ensures sink { LeavesSink (S.faults out.old) (S.faults out.new) result }
-    ensures keeper { LeavesKeeper (K.faults keeper.old) (K.faults keeper.new) result }
+    ensures devices { LeavesDevices I.Inputs S.Sink K.Keeper inputs.old inputs.new out.old out.new
+        keeper.old keeper.new result }
 {
     steps_in_order::<Election>();
     lists_have_histories();

@@ -1,12 +1,12 @@
 //! What is done when all items have ended: the accepted events are appended, and the history, the lines of the
 //! sheets without an event and the report are written.
-ghost use Rattle.std.specs.Prelude.{◌≡◌, ◌<◌, ◌++◌, ◌∷◌, ◌^◌, [], ℕ, List, false, IfOk, OnOk, length, string_bytes};
+ghost use Rattle.std.specs.Prelude.{◌≡◌, ◌<◌, ◌++◌, ◌∷◌, ◌^◌, [], ℕ, List, IfOk, OnOk, length, string_bytes};
 ghost use Rattle.vx_election_model.specs.Valid.{IsValid};
-ghost use Rattle.vx_command.specs.Acts.{Write, work, writing};
-ghost use Rattle.vx_command.specs.Devices.{LeavesKeeper, LeavesSink, TouchesSink, is_read_fault};
+ghost use Rattle.vx_command.specs.Acts.{Write, work};
+ghost use Rattle.vx_command.specs.Devices.{TouchesKeeper, TouchesSink, TouchesSinkAndKeeper};
 ghost use Rattle.vx_command.specs.Done.{IsDone, IsWritten};
 ghost use Rattle.vx_journal.specs.Keeping.{begin_acts};
-ghost use Rattle.vx_journal.specs.Steps.{IsRecorded, TouchesKeeper};
+ghost use Rattle.vx_journal.specs.Steps.{IsRecorded};
 ghost use Rattle.vx_shared.specs.Legal.{done_events, done_of};
 ghost use Rattle.vx_command_center.specs.Outcome.{append_acts, event_head, event_line, history_acts, kept_acts, report_line, written_acts};
 
@@ -26,7 +26,7 @@ use vx_shared::Entry;
 /// Appends the record of a call's event, where it was answered with Done.
 fn append_call<K: Keeper>(alloc: Global, call: &Entry, keeper: &mut K) -> Result<(), Halt>
     ensures done { IsRecorded (append_acts (done_of call.now)) (K.held keeper.old) (K.held keeper.new) result }
-    ensures keeper { TouchesKeeper (K.faults keeper.old) (K.faults keeper.new) result }
+    ensures keeper { TouchesKeeper K.Keeper keeper.old keeper.new result }
 {
     acts_in_order();
     match call.reply {
@@ -42,7 +42,7 @@ pub(crate) fn append_history<K: Keeper>(
     keeper: &mut K,
 ) -> Result<(), Halt>
     ensures done { IsRecorded (append_acts (done_events history.now)) (K.held keeper.old) (K.held keeper.new) result }
-    ensures keeper { TouchesKeeper (K.faults keeper.old) (K.faults keeper.new) result }
+    ensures keeper { TouchesKeeper K.Keeper keeper.old keeper.new result }
 {
     acts_in_order();
     for call in history {
@@ -79,7 +79,7 @@ pub(crate) fn write_history<S: Sink>(
 ) -> Result<(), Halt>
     requires { length history.now < 2 ^ 62 }
     ensures done { IsWritten (work (history_acts 0 history.now)) (S.taken out.old) (S.taken out.new) result }
-    ensures sink { TouchesSink (S.faults out.old) (S.faults out.new) result }
+    ensures sink { TouchesSink S.Sink out.old out.new result }
 {
     acts_in_order();
     let mut place = 0;
@@ -103,9 +103,7 @@ fn keep_history<S: Sink, K: Keeper>(
     requires few { length history.now < 2 ^ 62 }
     ensures done { IsDone (work (kept_acts history.now text.now))
         (S.taken out.old) (S.taken out.new) (K.held keeper.old) (K.held keeper.new) result }
-    ensures no_read_fault { is_read_fault result ≡ false }
-    ensures sink { LeavesSink (S.faults out.old) (S.faults out.new) result }
-    ensures keeper { LeavesKeeper (K.faults keeper.old) (K.faults keeper.new) result }
+    ensures devices { TouchesSinkAndKeeper S.Sink K.Keeper out.old out.new keeper.old keeper.new result }
 {
     acts_in_order();
     append_history(alloc, history, keeper)?;
@@ -128,9 +126,7 @@ fn keep_beside<R: Threads, T: Reporter, S: Sink, K: Keeper>(
     ensures told { IfOk result.0 (λ told. told ≡ T.line reporter.now) }
     ensures done { IsDone (work (kept_acts history.now text.now))
         (S.taken out.old) (S.taken out.new) (K.held keeper.old) (K.held keeper.new) result.1 }
-    ensures no_read_fault { is_read_fault result.1 ≡ false }
-    ensures sink { LeavesSink (S.faults out.old) (S.faults out.new) result.1 }
-    ensures keeper { LeavesKeeper (K.faults keeper.old) (K.faults keeper.new) result.1 }
+    ensures devices { TouchesSinkAndKeeper S.Sink K.Keeper out.old out.new keeper.old keeper.new result.1 }
 {
     join_mut(
         rt,
@@ -148,7 +144,7 @@ fn keep_beside<R: Threads, T: Reporter, S: Sink, K: Keeper>(
 fn write_report<S: Sink>(told: Result<Bytes, OutOfMemory>, out: &mut S) -> Result<(), Halt>
     ensures done { (line : List ℕ) → IfOk told (λ text. text ≡ line) → IsWritten (work (Write report_line
         ∷ Write line ∷ [])) (S.taken out.old) (S.taken out.new) result }
-    ensures sink { TouchesSink (S.faults out.old) (S.faults out.new) result }
+    ensures sink { TouchesSink S.Sink out.old out.new result }
 {
     acts_in_order();
     write_text(out, b"report\n")?;
@@ -175,9 +171,7 @@ pub(crate) fn end_center<R: Threads, S: Sink, K: Keeper>(
         ++ written_acts election.now ended.now.journal.center.events ended.now.history ended.now.text
         moment.now device.now)))
         (S.taken out.old) (S.taken out.new) (K.held keeper.old) (K.held keeper.new) result }
-    ensures no_read_fault { is_read_fault result ≡ false }
-    ensures sink { LeavesSink (S.faults out.old) (S.faults out.new) result }
-    ensures keeper { LeavesKeeper (K.faults keeper.old) (K.faults keeper.new) result }
+    ensures devices { TouchesSinkAndKeeper S.Sink K.Keeper out.old out.new keeper.old keeper.new result }
 {
     acts_in_order();
     begin_journal(alloc, election, &ended.journal, keeper)?;

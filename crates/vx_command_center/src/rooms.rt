@@ -18,8 +18,7 @@ pub(crate) type Room = Option<JoinHandle<Result<Bytes, OutOfMemory>>>;
 /// How many bytes the input of an item has; 0 where there is none, or more than it may have.
 fn length_for<I: Inputs>(item: &ItemWord, inputs: &mut I) -> Result<usize, Halt>
     ensures broke { IfErr result BreaksBefore }
-    ensures inputs { TouchesInputs (I.held inputs.old) (I.held inputs.new)
-        (I.faults inputs.old) (I.faults inputs.new) result }
+    ensures inputs { TouchesInputs I.Inputs inputs.old inputs.new result }
 {
     let (name, limit) = input_for(item);
     match inputs.size(name) {
@@ -37,8 +36,7 @@ fn lengths_for<I: Inputs>(
 ) -> Result<ListOf<usize>, Halt>
     ensures as_many { IfOk result (λ lengths. length lengths ≡ length words.now) }
     ensures broke { IfErr result BreaksBefore }
-    ensures inputs { TouchesInputs (I.held inputs.old) (I.held inputs.new)
-        (I.faults inputs.old) (I.faults inputs.new) result }
+    ensures inputs { TouchesInputs I.Inputs inputs.old inputs.new result }
 {
     let mut lengths = ListOf::new(alloc);
     for item in words {
@@ -87,8 +85,7 @@ pub(crate) fn rooms_for<R: Threads, I: Inputs>(
     inputs: &mut I,
 ) -> Result<Vec<Room>, Halt>
     ensures broke { IfErr result BreaksBefore }
-    ensures inputs { TouchesInputs (I.held inputs.old) (I.held inputs.new)
-        (I.faults inputs.old) (I.faults inputs.new) result }
+    ensures inputs { TouchesInputs I.Inputs inputs.old inputs.new result }
 {
     let lengths = lengths_for(alloc, words, inputs)?;
     let rooms = begin_rooms(rt, alloc, lengths.as_slice())?;

@@ -80,8 +80,7 @@ fn take_item<I: Inputs>(
         (taken_item election.now word before item.now (files (name_in item.now)))) }
     ensures fits { IfOk result (FitsItem election.now) }
     ensures within { IfOk result (λ taken. before + possible_of taken ≤ 1000000) }
-    ensures inputs { TouchesInputs (I.held inputs.old) (I.held inputs.new)
-        (I.faults inputs.old) (I.faults inputs.new) result }
+    ensures inputs { TouchesInputs I.Inputs inputs.old inputs.new result }
 {
     let (name, limit) = input_for(item);
     let bytes = take_input(room, inputs, name, word, limit)?;
@@ -104,8 +103,7 @@ fn take_into<R: Threads, I: Inputs>(
     ensures fits { IfOk result (All (FitsItem election.now)) }
     ensures as_many { IfOk result (λ items. length items ≡ length words.now) }
     ensures within { IfOk result (λ items. possible_in_all items ≤ 1000000) }
-    ensures inputs { TouchesInputs (I.held inputs.old) (I.held inputs.new)
-        (I.faults inputs.old) (I.faults inputs.new) result }
+    ensures inputs { TouchesInputs I.Inputs inputs.old inputs.new result }
 {
     acts_in_order();
     steps_in_order::<Item>();
@@ -136,8 +134,7 @@ pub(crate) fn take_items<R: Threads, I: Inputs>(
     ensures fits { IfOk result (All (FitsItem election.now)) }
     ensures as_many { IfOk result (λ items. length items ≡ length words.now) }
     ensures within { IfOk result (λ items. possible_in_all items ≤ 1000000) }
-    ensures inputs { TouchesInputs (I.held inputs.old) (I.held inputs.new)
-        (I.faults inputs.old) (I.faults inputs.new) result }
+    ensures inputs { TouchesInputs I.Inputs inputs.old inputs.new result }
 {
     steps_in_order::<Item>();
     let mut rooms = rooms_for(rt, alloc, words, inputs)?;

@@ -14,6 +14,7 @@ use Rattle.vx_readings.specs.Readings as said
 use Rattle.vx_readings.specs.Readings.{Unread, Readings, readings_left, readings_of}
 use Rattle.vx_command.specs.declared.halt.Halt.{Halt}
 use Rattle.vx_command.specs.declared.halt.Halt.TheVariants.{NoMemory, NotCertified}
+use Rattle.vx_io.specs.declared.outside.Sink.{Ghosts as SinkOf}
 use Rattle.vx_command.specs.Devices.{TouchesSink, writes_nothing}
 use Rattle.vx_refusals.specs.declared.readings.CertFault.TheVariants as cert
 use Rattle.vx_check.specs.Tests.{Tested, tested}
@@ -161,10 +162,10 @@ gives-verdict election number image page NoMemory gives = tt
 gives-verdict election number image page cause gives = page-verdict election number image page cause gives
 
 -- such a halt is no device's
-pub verdict-sink : (cause : Halt) (faults : ℕ) → IsVerdict cause → TouchesSink {A = Unit {0}} faults faults (Err cause)
-verdict-sink NoMemory faults is = search rules
-verdict-sink (NotCertified fault) faults is = search rules
-verdict-sink cause faults is = absurd is
+pub verdict-sink : {S : Type 0} (s : SinkOf S) (cause : Halt) (out : S) → IsVerdict cause → TouchesSink {A = Unit {0}} s out out (Err cause)
+verdict-sink s NoMemory out is = search rules
+verdict-sink s (NotCertified fault) out is = search rules
+verdict-sink s cause out is = absurd is
 
 pub verdict-late : (cause : Halt) → IsVerdict cause → writes_nothing {A = Unit {0}} true (Err cause) ≡ false
 verdict-late NoMemory is = refl

@@ -1,10 +1,9 @@
-ghost use Rattle.std.specs.Prelude.{◌≡◌, ◌≤◌, true, false, None, length};
+ghost use Rattle.std.specs.Prelude.{◌≡◌, ◌≤◌, true, None, length};
 ghost use Rattle.std.specs.Option.{ForSome};
 ghost use Rattle.vx_election_model.specs.Valid.{IsValid};
 ghost use Rattle.vx_layout.specs.Plans.{ArePlansOf};
 ghost use Rattle.vx_pbm.specs.Images.{images_of};
-ghost use Rattle.vx_command.specs.Acts.{once_taken, input_limit};
-ghost use Rattle.vx_command.specs.Devices.{is_keeper_fault, LeavesInputs, LeavesSink, writes_nothing};
+ghost use Rattle.vx_command.specs.Devices.{TouchesInputsAndSink, writes_nothing};
 ghost use Rattle.vx_command.specs.Done.{IsWritten};
 ghost use Rattle.vx_command.specs.Elections.{once_planned};
 ghost use Rattle.vx_command_check.specs.Outcome.{text_outcome, bytes_outcome, scans_outcome, check_outcome};
@@ -37,10 +36,7 @@ fn check_readings<I: Inputs, S: Sink>(
         IsWritten (text_outcome election.now scans.now (files readings.now))
         (S.taken out.old) (S.taken out.new) result) }
     ensures nothing_written { writes_nothing true result ≡ true → S.taken out.new ≡ S.taken out.old }
-    ensures inputs { LeavesInputs (I.held inputs.old) (I.held inputs.new)
-        (I.faults inputs.old) (I.faults inputs.new) result }
-    ensures sink { LeavesSink (S.faults out.old) (S.faults out.new) result }
-    ensures no_keeper_fault { is_keeper_fault result ≡ false }
+    ensures devices { TouchesInputsAndSink I.Inputs S.Sink inputs.old inputs.new out.old out.new result }
 {
     steps_in_order::<Bytes>();
     let text = take_input(Bytes::new(alloc), inputs, readings, 3, INPUT_LIMIT)?;
@@ -64,10 +60,7 @@ fn check_bytes<I: Inputs, S: Sink>(
         IsWritten (bytes_outcome election.now scans.now (files readings.now))
         (S.taken out.old) (S.taken out.new) result) }
     ensures nothing_written { writes_nothing true result ≡ true → S.taken out.new ≡ S.taken out.old }
-    ensures inputs { LeavesInputs (I.held inputs.old) (I.held inputs.new)
-        (I.faults inputs.old) (I.faults inputs.new) result }
-    ensures sink { LeavesSink (S.faults out.old) (S.faults out.new) result }
-    ensures no_keeper_fault { is_keeper_fault result ≡ false }
+    ensures devices { TouchesInputsAndSink I.Inputs S.Sink inputs.old inputs.new out.old out.new result }
 {
     steps_in_order::<u32>();
     let held = count_images(alloc, scans)?;
@@ -90,10 +83,7 @@ fn check_scans<I: Inputs, S: Sink>(
         IsWritten (scans_outcome election.now scans.now readings.now files)
         (S.taken out.old) (S.taken out.new) result) }
     ensures nothing_written { writes_nothing true result ≡ true → S.taken out.new ≡ S.taken out.old }
-    ensures inputs { LeavesInputs (I.held inputs.old) (I.held inputs.new)
-        (I.faults inputs.old) (I.faults inputs.new) result }
-    ensures sink { LeavesSink (S.faults out.old) (S.faults out.new) result }
-    ensures no_keeper_fault { is_keeper_fault result ≡ false }
+    ensures devices { TouchesInputsAndSink I.Inputs S.Sink inputs.old inputs.new out.old out.new result }
 {
     steps_in_order::<Bytes>();
     let bytes = take_input(Bytes::new(alloc), inputs, scans, 2, INPUT_LIMIT)?;
@@ -122,10 +112,7 @@ fn check_planned<I: Inputs, S: Sink>(
         IsWritten (once_planned election.now (scans_outcome election.now scans.now readings.now files))
         (S.taken out.old) (S.taken out.new) result) }
     ensures nothing_written { writes_nothing true result ≡ true → S.taken out.new ≡ S.taken out.old }
-    ensures inputs { LeavesInputs (I.held inputs.old) (I.held inputs.new)
-        (I.faults inputs.old) (I.faults inputs.new) result }
-    ensures sink { LeavesSink (S.faults out.old) (S.faults out.new) result }
-    ensures no_keeper_fault { is_keeper_fault result ≡ false }
+    ensures devices { TouchesInputsAndSink I.Inputs S.Sink inputs.old inputs.new out.old out.new result }
 {
     steps_in_order::<CardPlans>();
     let plans = plan_all(alloc, election)?;
@@ -149,10 +136,7 @@ pub fn check<I: Inputs, S: Sink>(
         IsWritten (check_outcome election.now scans.now readings.now files)
         (S.taken out.old) (S.taken out.new) result) }
     ensures nothing_written { writes_nothing true result ≡ true → S.taken out.new ≡ S.taken out.old }
-    ensures inputs { LeavesInputs (I.held inputs.old) (I.held inputs.new)
-        (I.faults inputs.old) (I.faults inputs.new) result }
-    ensures sink { LeavesSink (S.faults out.old) (S.faults out.new) result }
-    ensures no_keeper_fault { is_keeper_fault result ≡ false }
+    ensures devices { TouchesInputsAndSink I.Inputs S.Sink inputs.old inputs.new out.old out.new result }
 {
     steps_in_order::<Election>();
     let given = take_election(alloc, inputs, election)?;

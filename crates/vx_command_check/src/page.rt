@@ -105,7 +105,7 @@ pub(crate) fn check_page<S: Sink>(
     requires lines { LinesFit said }
     ensures checks { ChecksPage election.now number image.entry said
         (S.taken out.old) (S.taken out.new) result }
-    ensures sink { TouchesSink (S.faults out.old) (S.faults out.new) result }
+    ensures sink { TouchesSink S.Sink out.old out.new result }
     ensures late { writes_nothing true result ≡ false }
 {
     acts_in_order();

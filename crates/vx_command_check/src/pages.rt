@@ -59,7 +59,7 @@ pub(crate) fn check_pages<S: Sink>(
     ensures done { IsWritten
         (readings_outcome election.now 0 (images_of scans.now).pages (readings_for election.now text.now))
         (S.taken out.old) (S.taken out.new) result }
-    ensures sink { TouchesSink (S.faults out.old) (S.faults out.new) result }
+    ensures sink { TouchesSink S.Sink out.old out.new result }
     ensures late { writes_nothing true result ≡ false }
 {
     acts_in_order();

@@ -4,7 +4,6 @@ pub mod Sheets
 pub mod Outcome
 pub mod Gathering
 pub mod Steps
-pub mod Devices
 pub mod Laws
 pub mod Margin
 pub mod Added

@@ -1,9 +1,9 @@
-ghost use Rattle.std.specs.Prelude.{◌≡◌, ◌≤◌, ◌<◌, true, false, [], length};
+ghost use Rattle.std.specs.Prelude.{◌≡◌, ◌≤◌, ◌<◌, true, false, length};
 ghost use Rattle.std.specs.Option.{ForSome};
 ghost use Rattle.vx_election_model.specs.Valid.{IsValid};
 ghost use Rattle.vx_events.specs.Fits.{is_batch};
 ghost use Rattle.vx_layout.specs.Plans.{ArePlansOf};
-ghost use Rattle.vx_command.specs.Devices.{LeavesInputs, LeavesKeeper, LeavesSink, writes_nothing};
+ghost use Rattle.vx_command.specs.Devices.{LeavesDevices, writes_nothing};
 ghost use Rattle.vx_command.specs.Done.{IsDone};
 ghost use Rattle.vx_command.specs.Elections.{once_planned};
 ghost use Rattle.vx_journal.specs.Steps.{once_read};
@@ -42,10 +42,8 @@ fn count_into<R: Threads + Sync, I: Inputs, S: Sink, K: Keeper, G: Gate>(
     ensures done { ForSome (I.held inputs.old) (λ files. IsDone
         (journal_outcome setting.now.election.now setting.now.batch.now scans.now files journal.entry)
         (S.taken out.old) (S.taken out.new) (K.held keeper.old) (K.held keeper.new) result) }
-    ensures inputs { LeavesInputs (I.held inputs.old) (I.held inputs.new)
-        (I.faults inputs.old) (I.faults inputs.new) result }
-    ensures sink { LeavesSink (S.faults out.old) (S.faults out.new) result }
-    ensures keeper { LeavesKeeper (K.faults keeper.old) (K.faults keeper.new) result }
+    ensures devices { LeavesDevices I.Inputs S.Sink K.Keeper inputs.old inputs.new out.old out.new
+        keeper.old keeper.new result }
     ensures late { writes_nothing false result ≡ false }
 {
     acts_in_order();
@@ -86,10 +84,8 @@ fn count_set<R: Threads + Sync, I: Inputs, S: Sink, K: Keeper, G: Gate>(
         (S.taken out.old) (S.taken out.new) (K.held keeper.old) (K.held keeper.new) result)) }
     ensures nothing_written { writes_nothing false result ≡ true → S.taken out.new ≡ S.taken out.old }
     ensures nothing_kept { writes_nothing false result ≡ true → K.held keeper.new ≡ K.held keeper.old }
-    ensures inputs { LeavesInputs (I.held inputs.old) (I.held inputs.new)
-        (I.faults inputs.old) (I.faults inputs.new) result }
-    ensures sink { LeavesSink (S.faults out.old) (S.faults out.new) result }
-    ensures keeper { LeavesKeeper (K.faults keeper.old) (K.faults keeper.new) result }
+    ensures devices { LeavesDevices I.Inputs S.Sink K.Keeper inputs.old inputs.new out.old out.new
+        keeper.old keeper.new result }
 {
     journals_in_order();
     let journal = read_journal(alloc, setting.election, keeper)?;
@@ -147,10 +143,8 @@ fn count_planned<R: Threads + Sync, I: Inputs, S: Sink, K: Keeper, G: Gate>(
         (S.taken out.old) (S.taken out.new) (K.held keeper.old) (K.held keeper.new) result)) }
     ensures nothing_written { writes_nothing false result ≡ true → S.taken out.new ≡ S.taken out.old }
     ensures nothing_kept { writes_nothing false result ≡ true → K.held keeper.new ≡ K.held keeper.old }
-    ensures inputs { LeavesInputs (I.held inputs.old) (I.held inputs.new)
-        (I.faults inputs.old) (I.faults inputs.new) result }
-    ensures sink { LeavesSink (S.faults out.old) (S.faults out.new) result }
-    ensures keeper { LeavesKeeper (K.faults keeper.old) (K.faults keeper.new) result }
+    ensures devices { LeavesDevices I.Inputs S.Sink K.Keeper inputs.old inputs.new out.old out.new
+        keeper.old keeper.new result }
 {
     steps_in_order::<CardPlans>();
     let plans = plan_all(alloc, election)?;
@@ -183,10 +177,8 @@ pub fn count<R: Threads + Sync, I: Inputs, S: Sink, K: Keeper, G: Gate>(
         (S.taken out.old) (S.taken out.new) (K.held keeper.old) (K.held keeper.new) result)) }
     ensures nothing_written { writes_nothing false result ≡ true → S.taken out.new ≡ S.taken out.old }
     ensures nothing_kept { writes_nothing false result ≡ true → K.held keeper.new ≡ K.held keeper.old }
-    ensures inputs { LeavesInputs (I.held inputs.old) (I.held inputs.new)
-        (I.faults inputs.old) (I.faults inputs.new) result }
-    ensures sink { LeavesSink (S.faults out.old) (S.faults out.new) result }
-    ensures keeper { LeavesKeeper (K.faults keeper.old) (K.faults keeper.new) result }
+    ensures devices { LeavesDevices I.Inputs S.Sink K.Keeper inputs.old inputs.new out.old out.new
+        keeper.old keeper.new result }
 {
     steps_in_order::<Election>();
     let given = take_election(alloc, inputs, election)?;

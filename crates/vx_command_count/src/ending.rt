@@ -27,7 +27,7 @@ fn tell_last<S: Sink>(
     ensures done { IsWritten (work (last_acts setting.now.election.now setting.now.batch.now tally waiting.now))
         (S.taken out.old) (S.taken out.new) (answer_of result) }
     ensures tally { IfOk result (λ last. last ≡ last_tally tally waiting.now) }
-    ensures sink { TouchesSink (S.faults out.old) (S.faults out.new) result }
+    ensures sink { TouchesSink S.Sink out.old out.new result }
     ensures late { writes_nothing false result ≡ false }
 {
     acts_in_order();
@@ -43,7 +43,7 @@ fn tell_last<S: Sink>(
 /// Writes the last line of a count.
 fn tell_counted<S: Sink>(alloc: Global, tally: Tally, out: &mut S) -> Result<(), Halt>
     ensures done { IsWritten (writing (counted_text tally)) (S.taken out.old) (S.taken out.new) result }
-    ensures sink { TouchesSink (S.faults out.old) (S.faults out.new) result }
+    ensures sink { TouchesSink S.Sink out.old out.new result }
     ensures late { writes_nothing false result ≡ false }
 {
     acts_in_order();
@@ -64,7 +64,7 @@ pub(crate) fn end_count<S: Sink>(
     requires { sheets_in tally < 2 ^ 62 }
     ensures done { IsWritten (end_outcome setting.now.election.now setting.now.batch.now tally waiting.now)
         (S.taken out.old) (S.taken out.new) result }
-    ensures sink { TouchesSink (S.faults out.old) (S.faults out.new) result }
+    ensures sink { TouchesSink S.Sink out.old out.new result }
     ensures late { writes_nothing false result ≡ false }
 {
     acts_in_order();

@@ -1,7 +1,7 @@
 ghost use Rattle.std.specs.Prelude.{◌≡◌, ◌<◌, ◌+◌, ◌*◌, ◌%◌, ◌^◌, ◌++◌, List, OnOk, Some, length, slice_get};
 ghost use Rattle.std.specs.List.{AllZip};
+ghost use Rattle.vx_command.specs.Devices.{TouchesSinkAndKeeper, writes_nothing};
 ghost use Rattle.vx_plane.specs.Plane.{Page};
-ghost use Rattle.vx_command_count.specs.Devices.{TouchesBoth};
 ghost use Rattle.vx_sheet.specs.Reads.{IsReadOf};
 ghost use Rattle.vx_command_count.specs.Setting.{IsSet};
 ghost use Rattle.vx_command_count.specs.Steps.{CountsTo};
@@ -47,8 +47,8 @@ fn count_pairs<S: Sink, K: Keeper>(
     ensures election { OnOk result (counting.new.journal.center.election ≡ setting.now.election.now) }
     ensures more { OnOk result
         (2 * sheets_in counting.new.tally ≡ 2 * sheets_in counting.old.tally + length _images.now) }
-    ensures devices { TouchesBoth (S.faults out.old) (S.faults out.new)
-        (K.faults keeper.old) (K.faults keeper.new) result }
+    ensures devices { TouchesSinkAndKeeper S.Sink K.Keeper out.old out.new keeper.old keeper.new result }
+    ensures late { writes_nothing false result ≡ false }
 {
     acts_in_order();
     for pair in 0..reads.len() / 2 {
@@ -81,8 +81,8 @@ pub(crate) fn count_images<R: Threads + Sync, S: Sink, K: Keeper, G: Gate>(
     ensures election { OnOk result (counting.new.journal.center.election ≡ setting.now.election.now) }
     ensures more { OnOk result
         (2 * sheets_in counting.new.tally ≡ 2 * sheets_in counting.old.tally + length images.now) }
-    ensures devices { TouchesBoth (S.faults out.old) (S.faults out.new)
-        (K.faults keeper.old) (K.faults keeper.new) result }
+    ensures devices { TouchesSinkAndKeeper S.Sink K.Keeper out.old out.new keeper.old keeper.new result }
+    ensures late { writes_nothing false result ≡ false }
 {
     acts_in_order();
     let reads = read_images(rt, alloc, setting, images, gate)?;

@@ -1,5 +1,5 @@
 ghost use Rattle.std.specs.Prelude.{◌≡◌, ◌<◌, ◌≤◌, ◌+◌, ◌*◌, ◌%◌, ◌^◌, ◌++◌, IfOk, OnOk, length};
-ghost use Rattle.vx_command_count.specs.Devices.{TouchesBoth};
+ghost use Rattle.vx_command.specs.Devices.{TouchesSinkAndKeeper, writes_nothing};
 ghost use Rattle.vx_command_count.specs.Gathering.{LeavesPiece, waits};
 ghost use Rattle.vx_command_count.specs.Setting.{IsSet};
 ghost use Rattle.vx_command_count.specs.Steps.{CountsPiece};
@@ -71,8 +71,8 @@ pub(crate) fn count_piece<'b, R: Threads + Sync, S: Sink, K: Keeper, G: Gate>(
     ensures room { IfOk result (λ piece.
         2 * sheets_in counting.new.tally + length (waits piece.last) + length reader.new.text
         ≤ 2 * sheets_in counting.old.tally + length (waits first.entry) + length reader.old.text) }
-    ensures devices { TouchesBoth (S.faults out.old) (S.faults out.new)
-        (K.faults keeper.old) (K.faults keeper.new) result }
+    ensures devices { TouchesSinkAndKeeper S.Sink K.Keeper out.old out.new keeper.old keeper.new result }
+    ensures late { writes_nothing false result ≡ false }
 {
     acts_in_order();
     let mut images = list_of(alloc, first)?;

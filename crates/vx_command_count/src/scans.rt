@@ -1,9 +1,8 @@
 ghost use Rattle.std.specs.Prelude.{◌≡◌, ◌≤◌, ◌<◌, ◌+◌, ◌*◌, ◌^◌, [], false, length, IfOk, OnOk};
 ghost use Rattle.std.specs.Option.{ForSome};
 ghost use Rattle.vx_pbm.specs.Images.{images_of};
-ghost use Rattle.vx_command.specs.Devices.{LeavesInputs, LeavesKeeper, LeavesSink, writes_nothing};
+ghost use Rattle.vx_command.specs.Devices.{LeavesDevices, TouchesSinkAndKeeper, writes_nothing};
 ghost use Rattle.vx_command.specs.Done.{IsDone};
-ghost use Rattle.vx_command_count.specs.Devices.{TouchesBoth};
 ghost use Rattle.vx_command_count.specs.Outcome.{scans_outcome};
 ghost use Rattle.vx_command_count.specs.Setting.{IsSet};
 ghost use Rattle.vx_command_count.specs.Steps.{CountsFirst, CountsScan};
@@ -47,8 +46,8 @@ fn count_scan<'b, R: Threads + Sync, S: Sink, K: Keeper, G: Gate>(
     ensures election { OnOk result (counting.new.journal.center.election ≡ setting.now.election.now) }
     ensures room { IfOk result (λ left. 2 * sheets_in counting.new.tally + length left
         ≤ 2 * sheets_in counting.old.tally + length waiting.now + length bytes.now) }
-    ensures devices { TouchesBoth (S.faults out.old) (S.faults out.new)
-        (K.faults keeper.old) (K.faults keeper.new) result }
+    ensures devices { TouchesSinkAndKeeper S.Sink K.Keeper out.old out.new keeper.old keeper.new result }
+    ensures late { writes_nothing false result ≡ false }
 {
     acts_in_order();
     images_are_whole();
@@ -101,10 +100,8 @@ fn count_input<R: Threads + Sync, I: Inputs, S: Sink, K: Keeper, G: Gate>(
     ensures election { OnOk result (counting.new.journal.center.election ≡ setting.now.election.now) }
     ensures room { IfOk result (λ left. 2 * sheets_in counting.new.tally + length left
         ≤ 2 * sheets_in counting.old.tally + length waiting.now + 67108864) }
-    ensures inputs { LeavesInputs (I.held inputs.old) (I.held inputs.new)
-        (I.faults inputs.old) (I.faults inputs.new) result }
-    ensures sink { LeavesSink (S.faults out.old) (S.faults out.new) result }
-    ensures keeper { LeavesKeeper (K.faults keeper.old) (K.faults keeper.new) result }
+    ensures devices { LeavesDevices I.Inputs S.Sink K.Keeper inputs.old inputs.new out.old out.new
+        keeper.old keeper.new result }
     ensures late { writes_nothing false result ≡ false }
 {
     steps_in_order::<Bytes>();
@@ -138,10 +135,8 @@ pub(crate) fn count_scans<R: Threads + Sync, I: Inputs, S: Sink, K: Keeper, G: G
     ensures done { ForSome (I.held inputs.old) (λ files. IsDone
         (scans_outcome setting.now.election.now setting.now.batch.now files 4 counting.old [] scans.now)
         (S.taken out.old) (S.taken out.new) (K.held keeper.old) (K.held keeper.new) result) }
-    ensures inputs { LeavesInputs (I.held inputs.old) (I.held inputs.new)
-        (I.faults inputs.old) (I.faults inputs.new) result }
-    ensures sink { LeavesSink (S.faults out.old) (S.faults out.new) result }
-    ensures keeper { LeavesKeeper (K.faults keeper.old) (K.faults keeper.new) result }
+    ensures devices { LeavesDevices I.Inputs S.Sink K.Keeper inputs.old inputs.new out.old out.new
+        keeper.old keeper.new result }
     ensures late { writes_nothing false result ≡ false }
 {
     acts_in_order();

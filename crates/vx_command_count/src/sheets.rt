@@ -2,13 +2,12 @@ ghost use Rattle.std.specs.Prelude.{◌≡◌, ◌<◌, ◌+◌, ◌^◌, IfErr,
 ghost use Rattle.vx_events.specs.Fits.{Fits};
 ghost use Rattle.vx_journal.specs.Keeping.{keep_acts, reply_in, journal_with};
 ghost use Rattle.vx_command.specs.Acts.{work, writing};
-ghost use Rattle.vx_command.specs.Devices.{TouchesSink, writes_nothing};
+ghost use Rattle.vx_command.specs.Devices.{TouchesKeeper, TouchesSink, TouchesSinkAndKeeper, writes_nothing};
 ghost use Rattle.vx_command.specs.Done.{IsDone, IsWritten};
-ghost use Rattle.vx_journal.specs.Steps.{IsRecorded, TouchesKeeper, answer_of};
+ghost use Rattle.vx_journal.specs.Steps.{IsRecorded, answer_of};
 ghost use Rattle.vx_sheet.specs.Lines.{lines_of};
 ghost use Rattle.vx_sheet.specs.Came.{sheet_read};
 ghost use Rattle.vx_sheet.specs.Shows.{IsOfPage, IsReadAll};
-ghost use Rattle.vx_command_count.specs.Devices.{TouchesBoth};
 ghost use Rattle.vx_command_count.specs.Setting.{IsSet};
 ghost use Rattle.vx_command_count.specs.Sheets as spec;
 ghost use Rattle.vx_command_count.specs.Tally.{next_image, sheets_in};
@@ -56,7 +55,7 @@ fn keep_sheet<K: Keeper>(
     ensures next { OnOk result (journal.new ≡ journal_with journal.old event) }
     ensures done { IsRecorded (keep_acts journal.old event)
         (K.held keeper.old) (K.held keeper.new) (answer_of result) }
-    ensures keeper { TouchesKeeper (K.faults keeper.old) (K.faults keeper.new) result }
+    ensures keeper { TouchesKeeper K.Keeper keeper.old keeper.new result }
 {
     let reply = keep_event(alloc, journal, keeper, &event)?;
     Ok(came_by(event, reply))
@@ -75,7 +74,7 @@ fn settle<K: Keeper>(
     ensures next { OnOk result (journal.new ≡ spec.journal_if journal.old made) }
     ensures done { IsRecorded (spec.keep_if journal.old made)
         (K.held keeper.old) (K.held keeper.new) (answer_of result) }
-    ensures keeper { TouchesKeeper (K.faults keeper.old) (K.faults keeper.new) result }
+    ensures keeper { TouchesKeeper K.Keeper keeper.old keeper.new result }
 {
     acts_in_order();
     match made {
@@ -95,7 +94,7 @@ pub(crate) fn tell<S: Sink>(
     requires { IsReadAll setting.now.election.now came.now }
     ensures done { IsWritten (writing (lines_of setting.now.election.now setting.now.batch.now number came.now))
         (S.taken out.old) (S.taken out.new) result }
-    ensures sink { TouchesSink (S.faults out.old) (S.faults out.new) result }
+    ensures sink { TouchesSink S.Sink out.old out.new result }
     ensures late { writes_nothing false result ≡ false }
 {
     acts_in_order();
@@ -123,8 +122,8 @@ fn count_sheet<S: Sink, K: Keeper>(
     ensures next { OnOk result (counting.new ≡ spec.counted_so counting.old made) }
     ensures election { OnOk result (counting.new.journal.center.election ≡ setting.now.election.now) }
     ensures more { OnOk result (sheets_in counting.new.tally ≡ sheets_in counting.old.tally + 1) }
-    ensures devices { TouchesBoth (S.faults out.old) (S.faults out.new)
-        (K.faults keeper.old) (K.faults keeper.new) result }
+    ensures devices { TouchesSinkAndKeeper S.Sink K.Keeper out.old out.new keeper.old keeper.new result }
+    ensures late { writes_nothing false result ≡ false }
 {
     acts_in_order();
     let tally = counting.tally;
@@ -158,8 +157,8 @@ pub(crate) fn count_pair<S: Sink, K: Keeper>(
         (sheet_read setting.now.election.now (next_image counting.old.tally) first.now second.now)) }
     ensures election { OnOk result (counting.new.journal.center.election ≡ setting.now.election.now) }
     ensures more { OnOk result (sheets_in counting.new.tally ≡ sheets_in counting.old.tally + 1) }
-    ensures devices { TouchesBoth (S.faults out.old) (S.faults out.new)
-        (K.faults keeper.old) (K.faults keeper.new) result }
+    ensures devices { TouchesSinkAndKeeper S.Sink K.Keeper out.old out.new keeper.old keeper.new result }
+    ensures late { writes_nothing false result ≡ false }
 {
     acts_in_order();
     let number = next_number(counting.tally);

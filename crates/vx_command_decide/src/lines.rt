@@ -2,7 +2,7 @@ ghost use Rattle.std.specs.Prelude.{◌≡◌, ◌++◌, ◌≤◌, Bool, false,
 ghost use Rattle.vx_election_model.specs.Valid.{IsValid};
 ghost use Rattle.vx_events.specs.Fits.{Fits};
 ghost use Rattle.vx_command.specs.Acts.{writing};
-ghost use Rattle.vx_command.specs.Devices.{LeavesKeeper, LeavesSink, TouchesSink, is_read_fault, writes_nothing};
+ghost use Rattle.vx_command.specs.Devices.{TouchesSink, TouchesSinkAndKeeper, writes_nothing};
 ghost use Rattle.vx_command.specs.Done.{IsDone, IsWritten};
 ghost use Rattle.vx_command_decide.specs.Lines.{Accepts, Decides, TakesLine};
 ghost use Rattle.vx_command_decide.specs.Outcome as outcome;
@@ -30,7 +30,7 @@ fn push_done(text: &mut String, number: u32) -> Result<(), OutOfMemory>
 /// Writes that a line is done.
 fn write_done<S: Sink>(alloc: Global, out: &mut S, number: u32) -> Result<(), Halt>
     ensures done { IsWritten (writing (outcome.done_line number)) (S.taken out.old) (S.taken out.new) result }
-    ensures sink { TouchesSink (S.faults out.old) (S.faults out.new) result }
+    ensures sink { TouchesSink S.Sink out.old out.new result }
     ensures late { (first : Bool) → writes_nothing first result ≡ false }
 {
     acts_in_order();
@@ -53,9 +53,7 @@ fn accept<S: Sink, K: Keeper>(
         journal.old.center.events journal.new.center.events number event.now
         (S.taken out.old) (S.taken out.new) (K.held keeper.old) (K.held keeper.new) result }
     ensures election { OnOk result (journal.new.center.election ≡ journal.old.center.election) }
-    ensures no_read_fault { is_read_fault result ≡ false }
-    ensures sink { LeavesSink (S.faults out.old) (S.faults out.new) result }
-    ensures keeper { LeavesKeeper (K.faults keeper.old) (K.faults keeper.new) result }
+    ensures devices { TouchesSinkAndKeeper S.Sink K.Keeper out.old out.new keeper.old keeper.new result }
     ensures late { writes_nothing false result ≡ false }
 {
     acts_in_order();
@@ -81,9 +79,7 @@ fn decide_line<S: Sink, K: Keeper>(
     ensures done { Decides election.now journal.old.center.events journal.new.center.events number line.now
         (S.taken out.old) (S.taken out.new) (K.held keeper.old) (K.held keeper.new) result }
     ensures same { OnOk result (journal.new.center.election ≡ election.now) }
-    ensures no_read_fault { is_read_fault result ≡ false }
-    ensures sink { LeavesSink (S.faults out.old) (S.faults out.new) result }
-    ensures keeper { LeavesKeeper (K.faults keeper.old) (K.faults keeper.new) result }
+    ensures devices { TouchesSinkAndKeeper S.Sink K.Keeper out.old out.new keeper.old keeper.new result }
     ensures late { writes_nothing false result ≡ false }
 {
     acts_in_order();
@@ -108,9 +104,7 @@ fn take_line<S: Sink, K: Keeper>(
     ensures done { TakesLine election.now journal.old.center.events journal.new.center.events number line.now
         (S.taken out.old) (S.taken out.new) (K.held keeper.old) (K.held keeper.new) result }
     ensures same { OnOk result (journal.new.center.election ≡ election.now) }
-    ensures no_read_fault { is_read_fault result ≡ false }
-    ensures sink { LeavesSink (S.faults out.old) (S.faults out.new) result }
-    ensures keeper { LeavesKeeper (K.faults keeper.old) (K.faults keeper.new) result }
+    ensures devices { TouchesSinkAndKeeper S.Sink K.Keeper out.old out.new keeper.old keeper.new result }
     ensures late { writes_nothing false result ≡ false }
 {
     if line.is_empty() {
@@ -133,9 +127,7 @@ pub(crate) fn decide_lines<S: Sink, K: Keeper>(
     requires few { length script.now ≤ 1048576 }
     ensures done { IsDone (lines_outcome election.now journal.old.center.events 1 (lines_of script.now))
         (S.taken out.old) (S.taken out.new) (K.held keeper.old) (K.held keeper.new) result }
-    ensures no_read_fault { is_read_fault result ≡ false }
-    ensures sink { LeavesSink (S.faults out.old) (S.faults out.new) result }
-    ensures keeper { LeavesKeeper (K.faults keeper.old) (K.faults keeper.new) result }
+    ensures devices { TouchesSinkAndKeeper S.Sink K.Keeper out.old out.new keeper.old keeper.new result }
     ensures late { writes_nothing false result ≡ false }
 {
     acts_in_order();

@@ -58,7 +58,7 @@ fn write_summary<R: Threads + Sync, S: Sink>(
     requires sheets { sheets ≤ 1000 }
     ensures done { IsWritten (writing (summary_of_sheets election.now plans.now seed sheets))
         (S.taken out.old) (S.taken out.new) result }
-    ensures sink { TouchesSink (S.faults out.old) (S.faults out.new) result }
+    ensures sink { TouchesSink S.Sink out.old out.new result }
     ensures late { (first : Bool) → writes_nothing first result ≡ false }
 {
     steps_in_order::<Bytes>();
@@ -81,7 +81,7 @@ fn demo_of<R: Threads + Sync, S: Sink>(
         (S.taken out.old) (S.taken out.new) result }
     ensures nothing_written { (first : Bool) → writes_nothing first result ≡ true →
         S.taken out.new ≡ S.taken out.old }
-    ensures sink { TouchesSink (S.faults out.old) (S.faults out.new) result }
+    ensures sink { TouchesSink S.Sink out.old out.new result }
 {
     steps_in_order::<CardPlans>();
     let plans = plan_all(alloc, election)?;
@@ -101,7 +101,7 @@ pub fn demo<R: Threads + Sync, S: Sink>(
     ensures done { IsWritten (spec.demo_outcome seed sheets) (S.taken out.old) (S.taken out.new) result }
     ensures nothing_written { (first : Bool) → writes_nothing first result ≡ true →
         S.taken out.new ≡ S.taken out.old }
-    ensures sink { TouchesSink (S.faults out.old) (S.faults out.new) result }
+    ensures sink { TouchesSink S.Sink out.old out.new result }
 {
     steps_in_order::<Election>();
     let election = read_demo(alloc)?;

@@ -2,7 +2,7 @@ ghost use Rattle.std.specs.Prelude.{◌≡◌, ◌≤◌, true, false, length};
 ghost use Rattle.std.specs.Option.{ForSome};
 ghost use Rattle.vx_election_model.specs.Valid.{IsValid};
 ghost use Rattle.vx_layout.specs.Plans.{ArePlansOf};
-ghost use Rattle.vx_command.specs.Devices.{is_keeper_fault, LeavesInputs, LeavesKeeper, LeavesSink, writes_nothing};
+ghost use Rattle.vx_command.specs.Devices.{LeavesDevices, TouchesInputsAndSink, writes_nothing};
 ghost use Rattle.vx_command.specs.Done.{IsDone, IsWritten};
 ghost use Rattle.vx_command.specs.Elections.{once_planned};
 ghost use Rattle.vx_journal.specs.Steps.{once_read};
@@ -57,10 +57,7 @@ fn write_page<I: Inputs, S: Sink>(
     ensures done { ForSome (I.held inputs.old) (λ files.
         IsWritten (page_outcome setting.now.election.now setting.now.batch.now scans.now files
         setting.now.center.now.events) (S.taken out.old) (S.taken out.new) result) }
-    ensures inputs { LeavesInputs (I.held inputs.old) (I.held inputs.new)
-        (I.faults inputs.old) (I.faults inputs.new) result }
-    ensures sink { LeavesSink (S.faults out.old) (S.faults out.new) result }
-    ensures no_keeper_fault { is_keeper_fault result ≡ false }
+    ensures devices { TouchesInputsAndSink I.Inputs S.Sink inputs.old inputs.new out.old out.new result }
     ensures late { writes_nothing false result ≡ false }
 {
     acts_in_order();
@@ -88,10 +85,8 @@ fn desk_read<I: Inputs, S: Sink, K: Keeper>(
         (S.taken out.old) (S.taken out.new) (K.held keeper.old) (K.held keeper.new) result)) }
     ensures nothing_written { writes_nothing false result ≡ true → S.taken out.new ≡ S.taken out.old }
     ensures held { K.held keeper.new ≡ K.held keeper.old }
-    ensures inputs { LeavesInputs (I.held inputs.old) (I.held inputs.new)
-        (I.faults inputs.old) (I.faults inputs.new) result }
-    ensures sink { LeavesSink (S.faults out.old) (S.faults out.new) result }
-    ensures keeper { LeavesKeeper (K.faults keeper.old) (K.faults keeper.new) result }
+    ensures devices { LeavesDevices I.Inputs S.Sink K.Keeper inputs.old inputs.new out.old out.new
+        keeper.old keeper.new result }
 {
     journals_in_order();
     let journal = read_journal(alloc, election, keeper)?;
@@ -117,10 +112,8 @@ fn desk_planned<I: Inputs, S: Sink, K: Keeper>(
         (S.taken out.old) (S.taken out.new) (K.held keeper.old) (K.held keeper.new) result)) }
     ensures nothing_written { writes_nothing false result ≡ true → S.taken out.new ≡ S.taken out.old }
     ensures held { K.held keeper.new ≡ K.held keeper.old }
-    ensures inputs { LeavesInputs (I.held inputs.old) (I.held inputs.new)
-        (I.faults inputs.old) (I.faults inputs.new) result }
-    ensures sink { LeavesSink (S.faults out.old) (S.faults out.new) result }
-    ensures keeper { LeavesKeeper (K.faults keeper.old) (K.faults keeper.new) result }
+    ensures devices { LeavesDevices I.Inputs S.Sink K.Keeper inputs.old inputs.new out.old out.new
+        keeper.old keeper.new result }
 {
     steps_in_order::<CardPlans>();
     let plans = plan_all(alloc, election)?;
@@ -147,10 +140,8 @@ pub fn desk<I: Inputs, S: Sink, K: Keeper>(
         (S.taken out.old) (S.taken out.new) (K.held keeper.old) (K.held keeper.new) result)) }
     ensures nothing_written { writes_nothing false result ≡ true → S.taken out.new ≡ S.taken out.old }
     ensures held { K.held keeper.new ≡ K.held keeper.old }
-    ensures inputs { LeavesInputs (I.held inputs.old) (I.held inputs.new)
-        (I.faults inputs.old) (I.faults inputs.new) result }
-    ensures sink { LeavesSink (S.faults out.old) (S.faults out.new) result }
-    ensures keeper { LeavesKeeper (K.faults keeper.old) (K.faults keeper.new) result }
+    ensures devices { LeavesDevices I.Inputs S.Sink K.Keeper inputs.old inputs.new out.old out.new
+        keeper.old keeper.new result }
 {
     steps_in_order::<Election>();
     let given = take_election(alloc, inputs, election)?;

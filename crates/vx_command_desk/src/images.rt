@@ -40,7 +40,7 @@ fn walk_image<S: Sink>(
     ensures done { WalksImage (texts_of setting.now) walked image.now
         (S.taken out.old) (S.taken out.new) result }
     ensures one_more { IfOk result (λ now. images_in now ≡ images_in walked + 1) }
-    ensures sink { TouchesSink (S.faults out.old) (S.faults out.new) result }
+    ensures sink { TouchesSink S.Sink out.old out.new result }
     ensures late { writes_nothing false result ≡ false }
 {
     acts_in_order();
@@ -76,7 +76,7 @@ fn take_image<S: Sink>(
     ensures done { WalksImage (texts_of setting.now) walked image.entry
         (S.taken out.old) (S.taken out.new) result }
     ensures one_more { IfOk result (λ now. images_in now ≡ images_in walked + 1) }
-    ensures sink { TouchesSink (S.faults out.old) (S.faults out.new) result }
+    ensures sink { TouchesSink S.Sink out.old out.new result }
     ensures late { writes_nothing false result ≡ false }
 {
     walk_image(alloc, text, setting, walked, &image.view(), out)
@@ -98,7 +98,7 @@ pub(crate) fn walk_scan<S: Sink>(
         (S.taken out.old) (S.taken out.new) result }
     // An image takes a byte at least.
     ensures bound { IfOk result (λ now. images_in now ≤ images_in walked + length bytes.now) }
-    ensures sink { TouchesSink (S.faults out.old) (S.faults out.new) result }
+    ensures sink { TouchesSink S.Sink out.old out.new result }
     ensures late { writes_nothing false result ≡ false }
 {
     acts_in_order();

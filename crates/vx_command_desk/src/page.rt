@@ -1,4 +1,4 @@
-ghost use Rattle.std.specs.Prelude.{◌≡◌, ◌++◌, false, IfOk};
+ghost use Rattle.std.specs.Prelude.{◌≡◌, false, IfOk};
 ghost use Rattle.vx_command.specs.Acts.{writing};
 ghost use Rattle.vx_command.specs.Devices.{TouchesSink, writes_nothing};
 ghost use Rattle.vx_command.specs.Done.{IsWritten};
@@ -44,7 +44,7 @@ pub(crate) fn open_page<S: Sink>(
 ) -> Result<(), Halt>
     ensures done { IsWritten (writing (opening_text setting.now.election.now setting.now.batch.now))
         (S.taken out.old) (S.taken out.new) result }
-    ensures sink { TouchesSink (S.faults out.old) (S.faults out.new) result }
+    ensures sink { TouchesSink S.Sink out.old out.new result }
     ensures late { writes_nothing false result ≡ false }
 {
     acts_in_order();
@@ -62,7 +62,7 @@ pub(crate) fn close_page<S: Sink>(
     requires { IsSet setting.now }
     ensures done { IsWritten (writing (closing_of setting.now sheets))
         (S.taken out.old) (S.taken out.new) result }
-    ensures sink { TouchesSink (S.faults out.old) (S.faults out.new) result }
+    ensures sink { TouchesSink S.Sink out.old out.new result }
     ensures late { writes_nothing false result ≡ false }
 {
     acts_in_order();

@@ -1,6 +1,6 @@
 ghost use Rattle.std.specs.Prelude.{◌≡◌, ◌≤◌, ◌<◌, ◌+◌, ◌^◌, [], false, length, IfOk};
 ghost use Rattle.std.specs.Option.{ForSome};
-ghost use Rattle.vx_command.specs.Devices.{is_keeper_fault, LeavesInputs, LeavesSink, writes_nothing};
+ghost use Rattle.vx_command.specs.Devices.{TouchesInputsAndSink, writes_nothing};
 ghost use Rattle.vx_command.specs.Done.{IsWritten};
 ghost use Rattle.vx_command_desk.specs.Outcome.{scans_outcome};
 ghost use Rattle.vx_command_desk.specs.Setting.{IsSet, closing_of, images_in, texts_of};
@@ -52,10 +52,7 @@ fn walk_input<I: Inputs, S: Sink>(
         WalksFirst (texts_of setting.now) (closing_of setting.now) files word walked name.now
         (S.taken out.old) (S.taken out.new) result) }
     ensures bound { IfOk result (λ now. images_in now ≤ images_in walked + 67108864) }
-    ensures inputs { LeavesInputs (I.held inputs.old) (I.held inputs.new)
-        (I.faults inputs.old) (I.faults inputs.new) result }
-    ensures sink { LeavesSink (S.faults out.old) (S.faults out.new) result }
-    ensures no_keeper_fault { is_keeper_fault result ≡ false }
+    ensures devices { TouchesInputsAndSink I.Inputs S.Sink inputs.old inputs.new out.old out.new result }
     ensures late { writes_nothing false result ≡ false }
 {
     steps_in_order::<Bytes>();
@@ -81,10 +78,7 @@ pub(crate) fn walk_scans<I: Inputs, S: Sink>(
     ensures done { ForSome (I.held inputs.old) (λ files.
         IsWritten (scans_outcome (texts_of setting.now) (closing_of setting.now) files 3 0 [] scans.now)
         (S.taken out.old) (S.taken out.new) result) }
-    ensures inputs { LeavesInputs (I.held inputs.old) (I.held inputs.new)
-        (I.faults inputs.old) (I.faults inputs.new) result }
-    ensures sink { LeavesSink (S.faults out.old) (S.faults out.new) result }
-    ensures no_keeper_fault { is_keeper_fault result ≡ false }
+    ensures devices { TouchesInputsAndSink I.Inputs S.Sink inputs.old inputs.new out.old out.new result }
     ensures late { writes_nothing false result ≡ false }
 {
     acts_in_order();

@@ -1,6 +1,6 @@
-ghost use Rattle.std.specs.Prelude.{◌≡◌, ◌≢◌, ◌≤◌, ◌+◌, false, drop, length, IfErr};
+ghost use Rattle.std.specs.Prelude.{◌≢◌, drop, IfErr};
 ghost use Rattle.std.specs.Option.{ForSome};
-ghost use Rattle.vx_command.specs.Devices.{is_keeper_fault, LeavesInputs, LeavesSink};
+ghost use Rattle.vx_command.specs.Devices.{TouchesInputsAndSink};
 ghost use Rattle.vx_command_gray.specs.Done.{IsGrayDone, WritesFirst};
 ghost use Rattle.vx_command_gray.specs.Outcome.{gray_outcome};
 ghost use Rattle.vx_command_gray.specs.Status.{answer_of, IsStop};
@@ -26,9 +26,7 @@ fn write_input<I: Inputs, S: Sink>(
 ) -> Result<Option<PgmFault>, Halt>
     ensures done { ForSome (I.held inputs.old) (λ files.
         WritesFirst files word name.now (S.taken out.old) (S.taken out.new) result) }
-    ensures inputs { LeavesInputs (I.held inputs.old) (I.held inputs.new)
-        (I.faults inputs.old) (I.faults inputs.new) result }
-    ensures sink { LeavesSink (S.faults out.old) (S.faults out.new) result }
+    ensures devices { TouchesInputsAndSink I.Inputs S.Sink inputs.old inputs.new out.old out.new result }
     ensures stops { IfErr result IsStop }
 {
     steps_in_order::<Bytes>();
@@ -48,9 +46,7 @@ pub(crate) fn write_scans<I: Inputs, S: Sink>(
 ) -> GrayStatus
     ensures done { ForSome (I.held inputs.old) (λ files.
         IsGrayDone (gray_outcome (drop 1 words.now) files) (S.taken out.old) (S.taken out.new) result) }
-    ensures inputs { LeavesInputs (I.held inputs.old) (I.held inputs.new)
-        (I.faults inputs.old) (I.faults inputs.new) (answer_of result) }
-    ensures sink { LeavesSink (S.faults out.old) (S.faults out.new) (answer_of result) }
+    ensures devices { TouchesInputsAndSink I.Inputs S.Sink inputs.old inputs.new out.old out.new (answer_of result) }
     ensures no_usage { result ≢ GrayStatus.Usage }
 {
     acts_in_order();

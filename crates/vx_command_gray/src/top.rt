@@ -1,6 +1,6 @@
 ghost use Rattle.std.specs.Prelude.{◌≡◌, ◌↔◌, ℕ, List, Some};
 ghost use Rattle.vx_io.specs.Outside.{Files};
-ghost use Rattle.vx_command.specs.Devices.{LeavesInputs, LeavesSink};
+ghost use Rattle.vx_command.specs.Devices.{TouchesInputsAndSink};
 ghost use Rattle.vx_command_gray.specs.Bitmaps.{WritesBitmaps};
 ghost use Rattle.vx_command_gray.specs.Done.{IsGrayDone};
 ghost use Rattle.vx_command_gray.specs.Outcome.{gray_outcome};
@@ -26,9 +26,7 @@ fn gray_words<I: Inputs, S: Sink>(
         (scans : List (List ℕ)) → SpellsGray words.now scans →
         IsGrayDone (gray_outcome scans files) (S.taken out.old) (S.taken out.new) result }
     ensures usage_writes_nothing { result ≡ GrayStatus.Usage → S.taken out.new ≡ S.taken out.old }
-    ensures inputs { LeavesInputs (I.held inputs.old) (I.held inputs.new)
-        (I.faults inputs.old) (I.faults inputs.new) (answer_of result) }
-    ensures sink { LeavesSink (S.faults out.old) (S.faults out.new) (answer_of result) }
+    ensures devices { TouchesInputsAndSink I.Inputs S.Sink inputs.old inputs.new out.old out.new (answer_of result) }
 {
     if !is_gray(words) {
         return GrayStatus::Usage;
@@ -55,9 +53,7 @@ pub fn run_gray<I: Inputs, S: Sink>(
         (scans : List (List ℕ)) → SpellsGray words.now scans →
         IsGrayDone (gray_outcome scans files) (S.taken out.old) (S.taken out.new) result }
     ensures usage_writes_nothing { result ≡ GrayStatus.Usage → S.taken out.new ≡ S.taken out.old }
-    ensures inputs { LeavesInputs (I.held inputs.old) (I.held inputs.new)
-        (I.faults inputs.old) (I.faults inputs.new) (answer_of result) }
-    ensures sink { LeavesSink (S.faults out.old) (S.faults out.new) (answer_of result) }
+    ensures devices { TouchesInputsAndSink I.Inputs S.Sink inputs.old inputs.new out.old out.new (answer_of result) }
     // Each image that fits a printed page with some marks is written as a bitmap that fits it with those marks.
     ensures margin { (files : Files) → I.held inputs.old ≡ Some files →
         (scans : List (List ℕ)) → SpellsGray words.now scans →

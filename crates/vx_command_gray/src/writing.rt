@@ -1,4 +1,4 @@
-ghost use Rattle.std.specs.Prelude.{◌≡◌, Ok, IfErr};
+ghost use Rattle.std.specs.Prelude.{Ok, IfErr};
 ghost use Rattle.vx_base.specs.Refusals.{Gives};
 ghost use Rattle.vx_pbm.specs.Raw.{p4_of};
 ghost use Rattle.vx_gray.specs.Gray.{bits_of};
@@ -35,7 +35,7 @@ fn page_text(alloc: Global, page: &GrayView<'_>) -> Result<Bytes, Halt>
 fn write_page<S: Sink>(alloc: Global, page: &GrayView<'_>, out: &mut S) -> Result<(), Halt>
     ensures done { IsWritten (writing (p4_of (bits_of page.now)))
         (S.taken out.old) (S.taken out.new) result }
-    ensures sink { TouchesSink (S.faults out.old) (S.faults out.new) result }
+    ensures sink { TouchesSink S.Sink out.old out.new result }
 {
     steps_in_order::<Bytes>();
     let text = page_text(alloc, page)?;
@@ -51,7 +51,7 @@ pub(crate) fn write_scan<S: Sink>(
     out: &mut S,
 ) -> Result<Option<PgmFault>, Halt>
     ensures written { WritesScan word (images_of bytes.now) (S.taken out.old) (S.taken out.new) result }
-    ensures sink { TouchesSink (S.faults out.old) (S.faults out.new) result }
+    ensures sink { TouchesSink S.Sink out.old out.new result }
     ensures stops { IfErr result IsStop }
 {
     acts_in_order();

@@ -7,7 +7,7 @@ ghost use Rattle.vx_command.specs.Acts.{writing};
 ghost use Rattle.vx_command.specs.Devices.{TouchesSink, writes_nothing};
 ghost use Rattle.vx_command.specs.Done.{IsWritten};
 ghost use Rattle.vx_command.specs.Steps.{is_no_memory};
-ghost use Rattle.vx_command_print.specs.Outcome.{printed_page, page_text as page_text_of, pages_outcome};
+ghost use Rattle.vx_command_print.specs.Outcome.{page_text as page_text_of, pages_outcome};
 
 use crate::ballot::Ballot;
 use std::alloc::Global;
@@ -77,7 +77,7 @@ fn print_page<S: Sink>(
     requires page { plan.now.page < 64 }
     ensures done { IsWritten (writing (page_text_of election.now ballot plan.now))
         (S.taken out.old) (S.taken out.new) result }
-    ensures sink { TouchesSink (S.faults out.old) (S.faults out.new) result }
+    ensures sink { TouchesSink S.Sink out.old out.new result }
     ensures late { (first : Bool) → writes_nothing first result ≡ false }
 {
     steps_in_order::<Bytes>();
@@ -98,7 +98,7 @@ pub fn print_pages<S: Sink>(
     requires pages { All (λ plan. plan.page < 64) plans.now }
     ensures done { IsWritten (pages_outcome election.now ballot plans.now)
         (S.taken out.old) (S.taken out.new) result }
-    ensures sink { TouchesSink (S.faults out.old) (S.faults out.new) result }
+    ensures sink { TouchesSink S.Sink out.old out.new result }
     ensures late { (first : Bool) → writes_nothing first result ≡ false }
 {
     acts_in_order();

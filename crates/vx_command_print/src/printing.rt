@@ -1,10 +1,10 @@
-ghost use Rattle.std.specs.Prelude.{◌≡◌, true, false, IfOk};
+ghost use Rattle.std.specs.Prelude.{◌≡◌, true, IfOk};
 ghost use Rattle.std.specs.Option.{ForSome};
 ghost use Rattle.vx_base.specs.Refusals.{Gives};
 ghost use Rattle.vx_election_model.specs.Valid.{IsValid};
 ghost use Rattle.vx_layout.specs.Pages.{IsNumbered};
 ghost use Rattle.vx_layout.specs.Plan.{plan_of};
-ghost use Rattle.vx_command.specs.Devices.{is_keeper_fault, LeavesInputs, LeavesSink, TouchesNothing, TouchesSink, writes_nothing};
+ghost use Rattle.vx_command.specs.Devices.{TouchesInputsAndSink, TouchesNothing, TouchesSink, writes_nothing};
 ghost use Rattle.vx_command.specs.Done.{IsWritten};
 ghost use Rattle.vx_command.specs.Steps.{is_no_memory};
 ghost use Rattle.vx_command_print.specs.Outcome.{card_made, card_outcome, print_outcome};
@@ -41,7 +41,7 @@ fn print_card<S: Sink>(
     ensures done { IsWritten (card_outcome election.now ballot)
         (S.taken out.old) (S.taken out.new) result }
     ensures nothing_written { writes_nothing true result ≡ true → S.taken out.new ≡ S.taken out.old }
-    ensures sink { TouchesSink (S.faults out.old) (S.faults out.new) result }
+    ensures sink { TouchesSink S.Sink out.old out.new result }
 {
     steps_in_order::<CardPlan>();
     let plan = plan_for(alloc, election, ballot.card)?;
@@ -61,10 +61,7 @@ pub fn print<I: Inputs, S: Sink>(
         IsWritten (print_outcome election.now ballot files)
         (S.taken out.old) (S.taken out.new) result) }
     ensures nothing_written { writes_nothing true result ≡ true → S.taken out.new ≡ S.taken out.old }
-    ensures inputs { LeavesInputs (I.held inputs.old) (I.held inputs.new)
-        (I.faults inputs.old) (I.faults inputs.new) result }
-    ensures sink { LeavesSink (S.faults out.old) (S.faults out.new) result }
-    ensures no_keeper_fault { is_keeper_fault result ≡ false }
+    ensures devices { TouchesInputsAndSink I.Inputs S.Sink inputs.old inputs.new out.old out.new result }
 {
     steps_in_order::<Election>();
     let given = take_election(alloc, inputs, election)?;

@@ -2,7 +2,7 @@ ghost use Rattle.std.specs.Prelude.{◌≡◌, false};
 ghost use Rattle.std.specs.Option.{ForSome};
 ghost use Rattle.vx_election_model.specs.Valid.{IsValid};
 ghost use Rattle.vx_layout.specs.Plans.{ArePlansOf};
-ghost use Rattle.vx_command.specs.Devices.{LeavesInputs, LeavesKeeper, LeavesSink, is_keeper_fault};
+ghost use Rattle.vx_command.specs.Devices.{LeavesDevices, TouchesInputsAndSink};
 ghost use Rattle.vx_command_ranked.specs.Done.{IsRankedDone, IsRankedWritten};
 ghost use Rattle.vx_command_ranked.specs.Outcome.{file_outcome, journal_outcome, ranked_outcome};
 ghost use Rattle.vx_command_ranked.specs.Status.{may_have_written, status_of};
@@ -35,10 +35,7 @@ fn rank_file<I: Inputs, S: Sink>(
         IsRankedWritten (file_outcome election.now plans.now center.now.events (files ranked.now))
         (S.taken out.old) (S.taken out.new) (status_of result)) }
     ensures nothing_written { may_have_written (status_of result) ≡ false → S.taken out.new ≡ S.taken out.old }
-    ensures no_keeper_fault { is_keeper_fault result ≡ false }
-    ensures inputs { LeavesInputs (I.held inputs.old) (I.held inputs.new)
-        (I.faults inputs.old) (I.faults inputs.new) result }
-    ensures sink { LeavesSink (S.faults out.old) (S.faults out.new) result }
+    ensures devices { TouchesInputsAndSink I.Inputs S.Sink inputs.old inputs.new out.old out.new result }
 {
     steps_in_order::<Bytes>();
     let bytes = take_input(Bytes::new(alloc), inputs, ranked, 2, INPUT_LIMIT)?;
@@ -62,10 +59,8 @@ fn rank_journal<I: Inputs, S: Sink, K: Keeper>(
         (S.taken out.old) (S.taken out.new) (K.held keeper.old) (K.held keeper.new) (status_of result))) }
     ensures nothing_written { may_have_written (status_of result) ≡ false → S.taken out.new ≡ S.taken out.old }
     ensures held { K.held keeper.new ≡ K.held keeper.old }
-    ensures inputs { LeavesInputs (I.held inputs.old) (I.held inputs.new)
-        (I.faults inputs.old) (I.faults inputs.new) result }
-    ensures sink { LeavesSink (S.faults out.old) (S.faults out.new) result }
-    ensures keeper { LeavesKeeper (K.faults keeper.old) (K.faults keeper.new) result }
+    ensures devices { LeavesDevices I.Inputs S.Sink K.Keeper inputs.old inputs.new out.old out.new
+        keeper.old keeper.new result }
 {
     journals_in_order();
     let journal = read_journal(alloc, election, keeper)?;
@@ -87,10 +82,8 @@ pub(crate) fn rank<I: Inputs, S: Sink, K: Keeper>(
         (S.taken out.old) (S.taken out.new) (K.held keeper.old) (K.held keeper.new) (status_of result))) }
     ensures nothing_written { may_have_written (status_of result) ≡ false → S.taken out.new ≡ S.taken out.old }
     ensures held { K.held keeper.new ≡ K.held keeper.old }
-    ensures inputs { LeavesInputs (I.held inputs.old) (I.held inputs.new)
-        (I.faults inputs.old) (I.faults inputs.new) result }
-    ensures sink { LeavesSink (S.faults out.old) (S.faults out.new) result }
-    ensures keeper { LeavesKeeper (K.faults keeper.old) (K.faults keeper.new) result }
+    ensures devices { LeavesDevices I.Inputs S.Sink K.Keeper inputs.old inputs.new out.old out.new
+        keeper.old keeper.new result }
 {
     steps_in_order::<Election>();
     steps_in_order::<CardPlans>();

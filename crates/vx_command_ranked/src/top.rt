@@ -1,6 +1,6 @@
 ghost use Rattle.std.specs.Prelude.{◌≡◌, ◌↔◌, ℕ, List, false, Some};
 ghost use Rattle.vx_io.specs.Outside.{Files};
-ghost use Rattle.vx_command.specs.Devices.{LeavesInputs, LeavesKeeper, LeavesSink};
+ghost use Rattle.vx_command.specs.Devices.{LeavesDevices};
 ghost use Rattle.vx_command_ranked.specs.Done.{IsRankedDone};
 ghost use Rattle.vx_command_ranked.specs.Outcome.{ranked_outcome};
 ghost use Rattle.vx_command_ranked.specs.Status.{answer_of, may_have_written};
@@ -37,10 +37,8 @@ pub fn run_ranked<I: Inputs, S: Sink, K: Keeper>(
     // Of inputs and keepers that don't tell, too.
     ensures nothing_written { may_have_written result ≡ false → S.taken out.new ≡ S.taken out.old }
     ensures nothing_appended { K.held keeper.new ≡ K.held keeper.old }
-    ensures inputs { LeavesInputs (I.held inputs.old) (I.held inputs.new)
-        (I.faults inputs.old) (I.faults inputs.new) (answer_of result) }
-    ensures sink { LeavesSink (S.faults out.old) (S.faults out.new) (answer_of result) }
-    ensures keeper { LeavesKeeper (K.faults keeper.old) (K.faults keeper.new) (answer_of result) }
+    ensures devices { LeavesDevices I.Inputs S.Sink K.Keeper inputs.old inputs.new out.old out.new
+        keeper.old keeper.new (answer_of result) }
 {
     match ranked_words(words) {
         None => RankedStatus::Usage,

@@ -52,7 +52,7 @@ fn write_groups<S: Sink>(
     requires groups { All (IsGroup election.now) groups.now }
     ensures done { IsWritten (writing (ranked_text election.now center.now.events groups.now))
         (S.taken out.old) (S.taken out.new) result }
-    ensures sink { TouchesSink (S.faults out.old) (S.faults out.new) result }
+    ensures sink { TouchesSink S.Sink out.old out.new result }
 {
     acts_in_order();
     let text = text_of(alloc, election, center, groups)?;
@@ -75,7 +75,7 @@ pub(crate) fn write_rounds<S: Sink>(
     ensures done { IsRankedWritten (groups_outcome election.now plans.now center.now.events bytes.now)
         (S.taken out.old) (S.taken out.new) (status_of result) }
     ensures nothing_written { may_have_written (status_of result) ≡ false → S.taken out.new ≡ S.taken out.old }
-    ensures sink { TouchesSink (S.faults out.old) (S.faults out.new) result }
+    ensures sink { TouchesSink S.Sink out.old out.new result }
 {
     acts_in_order();
     read_groups_are_groups();

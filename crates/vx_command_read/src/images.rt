@@ -32,7 +32,7 @@ fn read_image<S: Sink>(
     requires plans { ArePlansOf election.now plans.now }
     ensures done { IsWritten (writing (image_text_of election.now number image.entry))
         (S.taken out.old) (S.taken out.new) result }
-    ensures sink { TouchesSink (S.faults out.old) (S.faults out.new) result }
+    ensures sink { TouchesSink S.Sink out.old out.new result }
     ensures late { (first : Bool) → writes_nothing first result ≡ false }
 {
     steps_in_order::<Bytes>();
@@ -60,7 +60,7 @@ pub fn read_scan<S: Sink>(
         (S.taken out.old) (S.taken out.new) result }
     // An image takes a byte at least.
     ensures bound { IfOk result (λ next. next ≤ first + length bytes.now) }
-    ensures sink { TouchesSink (S.faults out.old) (S.faults out.new) result }
+    ensures sink { TouchesSink S.Sink out.old out.new result }
     ensures late { (first : Bool) → writes_nothing first result ≡ false }
 {
     acts_in_order();

@@ -1,8 +1,8 @@
-ghost use Rattle.std.specs.Prelude.{◌≡◌, ◌≤◌, ◌<◌, ◌+◌, ◌^◌, false, length, map, IfOk};
+ghost use Rattle.std.specs.Prelude.{◌≡◌, ◌≤◌, ◌<◌, ◌+◌, ◌^◌, false, length, IfOk};
 ghost use Rattle.std.specs.Option.{ForSome};
 ghost use Rattle.vx_election_model.specs.Valid.{IsValid};
 ghost use Rattle.vx_layout.specs.Plans.{ArePlansOf};
-ghost use Rattle.vx_command.specs.Devices.{is_keeper_fault, LeavesInputs, LeavesSink, writes_nothing};
+ghost use Rattle.vx_command.specs.Devices.{TouchesInputsAndSink, writes_nothing};
 ghost use Rattle.vx_command.specs.Done.{IsWritten};
 ghost use Rattle.vx_command_read.specs.Outcome.{scans_outcome};
 ghost use Rattle.vx_command_read.specs.Scans.{ReadsFirst};
@@ -56,10 +56,7 @@ fn read_input<I: Inputs, S: Sink>(
         ReadsFirst election.now files word number name.now
         (S.taken out.old) (S.taken out.new) result) }
     ensures bound { IfOk result (λ next. next ≤ number + 67108864) }
-    ensures inputs { LeavesInputs (I.held inputs.old) (I.held inputs.new)
-        (I.faults inputs.old) (I.faults inputs.new) result }
-    ensures sink { LeavesSink (S.faults out.old) (S.faults out.new) result }
-    ensures no_keeper_fault { is_keeper_fault result ≡ false }
+    ensures devices { TouchesInputsAndSink I.Inputs S.Sink inputs.old inputs.new out.old out.new result }
     ensures late { writes_nothing false result ≡ false }
 {
     steps_in_order::<Bytes>();
@@ -89,10 +86,7 @@ pub fn read_scans<I: Inputs, S: Sink>(
     ensures done { ForSome (I.held inputs.old) (λ files.
         IsWritten (scans_outcome election.now files 2 1 scans.now)
         (S.taken out.old) (S.taken out.new) result) }
-    ensures inputs { LeavesInputs (I.held inputs.old) (I.held inputs.new)
-        (I.faults inputs.old) (I.faults inputs.new) result }
-    ensures sink { LeavesSink (S.faults out.old) (S.faults out.new) result }
-    ensures no_keeper_fault { is_keeper_fault result ≡ false }
+    ensures devices { TouchesInputsAndSink I.Inputs S.Sink inputs.old inputs.new out.old out.new result }
     ensures late { writes_nothing false result ≡ false }
 {
     acts_in_order();

@@ -51,7 +51,7 @@ pub(crate) fn compare_bytes<S: Sink>(
     requires few { length bytes.now ≤ 67108864 }
     ensures done { IsWritten (handed_outcome seed size report.now bytes.now)
         (S.taken out.old) (S.taken out.new) result }
-    ensures sink { TouchesSink (S.faults out.old) (S.faults out.new) result }
+    ensures sink { TouchesSink S.Sink out.old out.new result }
     ensures late { (first : Bool) → writes_nothing first result ≡ false }
 {
     steps_in_order::<Hand>();

@@ -2,7 +2,7 @@ ghost use Rattle.std.specs.Prelude.{◌≡◌, true, false};
 ghost use Rattle.std.specs.Option.{ForSome};
 ghost use Rattle.vx_election_model.specs.Valid.{IsValid};
 ghost use Rattle.vx_audit.specs.Sized.{IsSized};
-ghost use Rattle.vx_command.specs.Devices.{LeavesInputs, LeavesKeeper, LeavesSink, is_keeper_fault, writes_nothing};
+ghost use Rattle.vx_command.specs.Devices.{LeavesDevices, TouchesInputsAndSink, writes_nothing};
 ghost use Rattle.vx_command.specs.Done.{IsDone, IsWritten};
 ghost use Rattle.vx_journal.specs.Steps.{once_read};
 ghost use Rattle.vx_results.specs.Report.{report_of_events};
@@ -35,10 +35,7 @@ fn take_hand<I: Inputs, S: Sink>(
     ensures done { ForSome (I.held inputs.old) (λ files.
         IsWritten (hand_outcome seed size report.now (files hand.now)) (S.taken out.old) (S.taken out.new) result) }
     ensures late { writes_nothing false result ≡ false }
-    ensures no_keeper_fault { is_keeper_fault result ≡ false }
-    ensures inputs { LeavesInputs (I.held inputs.old) (I.held inputs.new)
-        (I.faults inputs.old) (I.faults inputs.new) result }
-    ensures sink { LeavesSink (S.faults out.old) (S.faults out.new) result }
+    ensures devices { TouchesInputsAndSink I.Inputs S.Sink inputs.old inputs.new out.old out.new result }
 {
     steps_in_order::<Bytes>();
     let bytes = take_input(Bytes::new(alloc), inputs, hand, 4, INPUT_LIMIT)?;
@@ -62,10 +59,7 @@ fn sample_events<I: Inputs, S: Sink>(
         IsWritten (hand_outcome seed size (report_of_events election.now center.now.events) (files hand.now))
         (S.taken out.old) (S.taken out.new) result) }
     ensures late { writes_nothing false result ≡ false }
-    ensures no_keeper_fault { is_keeper_fault result ≡ false }
-    ensures inputs { LeavesInputs (I.held inputs.old) (I.held inputs.new)
-        (I.faults inputs.old) (I.faults inputs.new) result }
-    ensures sink { LeavesSink (S.faults out.old) (S.faults out.new) result }
+    ensures devices { TouchesInputsAndSink I.Inputs S.Sink inputs.old inputs.new out.old out.new result }
 {
     acts_in_order();
     let report = journal_report(alloc, election, center)?;
@@ -89,10 +83,8 @@ fn sample_journal<I: Inputs, S: Sink, K: Keeper>(
         (S.taken out.old) (S.taken out.new) (K.held keeper.old) (K.held keeper.new) result)) }
     ensures nothing_written { writes_nothing false result ≡ true → S.taken out.new ≡ S.taken out.old }
     ensures held { K.held keeper.new ≡ K.held keeper.old }
-    ensures inputs { LeavesInputs (I.held inputs.old) (I.held inputs.new)
-        (I.faults inputs.old) (I.faults inputs.new) result }
-    ensures sink { LeavesSink (S.faults out.old) (S.faults out.new) result }
-    ensures keeper { LeavesKeeper (K.faults keeper.old) (K.faults keeper.new) result }
+    ensures devices { LeavesDevices I.Inputs S.Sink K.Keeper inputs.old inputs.new out.old out.new
+        keeper.old keeper.new result }
 {
     journals_in_order();
     let journal = read_journal(alloc, election, keeper)?;
@@ -139,10 +131,8 @@ pub fn sample<I: Inputs, S: Sink, K: Keeper>(
         (S.taken out.old) (S.taken out.new) (K.held keeper.old) (K.held keeper.new) result)) }
     ensures nothing_written { writes_nothing false result ≡ true → S.taken out.new ≡ S.taken out.old }
     ensures held { K.held keeper.new ≡ K.held keeper.old }
-    ensures inputs { LeavesInputs (I.held inputs.old) (I.held inputs.new)
-        (I.faults inputs.old) (I.faults inputs.new) result }
-    ensures sink { LeavesSink (S.faults out.old) (S.faults out.new) result }
-    ensures keeper { LeavesKeeper (K.faults keeper.old) (K.faults keeper.new) result }
+    ensures devices { LeavesDevices I.Inputs S.Sink K.Keeper inputs.old inputs.new out.old out.new
+        keeper.old keeper.new result }
 {
     steps_in_order::<Election>();
     let bytes = bytes_of(seed);

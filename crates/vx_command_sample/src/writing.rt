@@ -61,7 +61,7 @@ pub(crate) fn write_sample<S: Sink>(
     requires { IsSized report.now }
     ensures done { IsWritten (writing (sample_text seed size report.now hand.now))
         (S.taken out.old) (S.taken out.new) result }
-    ensures sink { TouchesSink (S.faults out.old) (S.faults out.new) result }
+    ensures sink { TouchesSink S.Sink out.old out.new result }
     ensures late { (first : Bool) → writes_nothing first result ≡ false }
 {
     acts_in_order();

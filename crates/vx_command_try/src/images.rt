@@ -31,7 +31,7 @@ fn try_read<S: Sink>(
     ensures done { TriesImage setting.now.election.now tried read (S.taken out.old) (S.taken out.new) result }
     ensures waits { IfOk result (WaitsSo setting.now.election.now) }
     ensures one_more { IfOk result (λ now. images_read now ≡ images_read tried + 1) }
-    ensures sink { TouchesSink (S.faults out.old) (S.faults out.new) result }
+    ensures sink { TouchesSink S.Sink out.old out.new result }
     ensures late { writes_nothing false result ≡ false }
 {
     let Tried { sheets, waiting } = tried;
@@ -66,7 +66,7 @@ fn try_image<S: Sink>(
         (S.taken out.old) (S.taken out.new) result }
     ensures waits { IfOk result (WaitsSo setting.now.election.now) }
     ensures one_more { IfOk result (λ now. images_read now ≡ images_read tried + 1) }
-    ensures sink { TouchesSink (S.faults out.old) (S.faults out.new) result }
+    ensures sink { TouchesSink S.Sink out.old out.new result }
     ensures late { writes_nothing false result ≡ false }
 {
     acts_in_order();
@@ -94,7 +94,7 @@ pub(crate) fn try_scan<S: Sink>(
     ensures waits { IfOk result (WaitsSo setting.now.election.now) }
     // An image takes a byte at least.
     ensures bound { IfOk result (λ now. images_read now ≤ images_read tried + length bytes.now) }
-    ensures sink { TouchesSink (S.faults out.old) (S.faults out.new) result }
+    ensures sink { TouchesSink S.Sink out.old out.new result }
     ensures late { writes_nothing false result ≡ false }
 {
     acts_in_order();

@@ -1,6 +1,6 @@
 ghost use Rattle.std.specs.Prelude.{◌≡◌, ◌≤◌, ◌<◌, ◌+◌, ◌^◌, [], false, length, IfOk};
 ghost use Rattle.std.specs.Option.{ForSome};
-ghost use Rattle.vx_command.specs.Devices.{is_keeper_fault, LeavesInputs, LeavesSink, writes_nothing};
+ghost use Rattle.vx_command.specs.Devices.{TouchesInputsAndSink, writes_nothing};
 ghost use Rattle.vx_command.specs.Done.{IsWritten};
 ghost use Rattle.vx_command_try.specs.Outcome.{scans_outcome};
 ghost use Rattle.vx_command_try.specs.Setting.{IsSet, WaitsSo, images_read};
@@ -55,10 +55,7 @@ fn try_input<I: Inputs, S: Sink>(
         (S.taken out.old) (S.taken out.new) result) }
     ensures waits { IfOk result (WaitsSo setting.now.election.now) }
     ensures bound { IfOk result (λ now. images_read now ≤ images_read tried + 67108864) }
-    ensures inputs { LeavesInputs (I.held inputs.old) (I.held inputs.new)
-        (I.faults inputs.old) (I.faults inputs.new) result }
-    ensures sink { LeavesSink (S.faults out.old) (S.faults out.new) result }
-    ensures no_keeper_fault { is_keeper_fault result ≡ false }
+    ensures devices { TouchesInputsAndSink I.Inputs S.Sink inputs.old inputs.new out.old out.new result }
     ensures late { writes_nothing false result ≡ false }
 {
     steps_in_order::<Bytes>();
@@ -84,10 +81,7 @@ pub(crate) fn try_scans<I: Inputs, S: Sink>(
     ensures done { ForSome (I.held inputs.old) (λ files.
         IsWritten (scans_outcome setting.now.election.now files 2 0 [] scans.now)
         (S.taken out.old) (S.taken out.new) result) }
-    ensures inputs { LeavesInputs (I.held inputs.old) (I.held inputs.new)
-        (I.faults inputs.old) (I.faults inputs.new) result }
-    ensures sink { LeavesSink (S.faults out.old) (S.faults out.new) result }
-    ensures no_keeper_fault { is_keeper_fault result ≡ false }
+    ensures devices { TouchesInputsAndSink I.Inputs S.Sink inputs.old inputs.new out.old out.new result }
     ensures late { writes_nothing false result ≡ false }
 {
     acts_in_order();

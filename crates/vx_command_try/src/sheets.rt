@@ -26,7 +26,7 @@ fn tell_sheet<S: Sink>(
     out: &mut S,
 ) -> Result<(), Halt>
     ensures done { IsWritten (writing (lines.sheet_line number sheet.now)) (S.taken out.old) (S.taken out.new) result }
-    ensures sink { TouchesSink (S.faults out.old) (S.faults out.new) result }
+    ensures sink { TouchesSink S.Sink out.old out.new result }
     ensures late { writes_nothing false result ≡ false }
 {
     acts_in_order();
@@ -38,7 +38,7 @@ fn tell_sheet<S: Sink>(
 /// Writes why the images of the sheet with a number are none.
 fn tell_no_sheet<S: Sink>(alloc: Global, number: u64, came: &Came, out: &mut S) -> Result<(), Halt>
     ensures done { IsWritten (writing (lines.no_sheet_line number came.now)) (S.taken out.old) (S.taken out.new) result }
-    ensures sink { TouchesSink (S.faults out.old) (S.faults out.new) result }
+    ensures sink { TouchesSink S.Sink out.old out.new result }
     ensures late { writes_nothing false result ≡ false }
 {
     acts_in_order();
@@ -50,7 +50,7 @@ fn tell_no_sheet<S: Sink>(alloc: Global, number: u64, came: &Came, out: &mut S) 
 /// Writes why the images of the sheet with a number are none, and halts so.
 fn refuse<S: Sink>(alloc: Global, number: u64, came: &Came, out: &mut S) -> Result<(), Halt>
     ensures done { IsWritten (no_sheet number came.now) (S.taken out.old) (S.taken out.new) result }
-    ensures sink { TouchesSink (S.faults out.old) (S.faults out.new) result }
+    ensures sink { TouchesSink S.Sink out.old out.new result }
     ensures late { writes_nothing false result ≡ false }
 {
     acts_in_order();
@@ -66,7 +66,7 @@ fn tell<S: Sink>(
     out: &mut S,
 ) -> Result<(), Halt>
     ensures done { TriesSheet number read.now (S.taken out.old) (S.taken out.new) result }
-    ensures sink { TouchesSink (S.faults out.old) (S.faults out.new) result }
+    ensures sink { TouchesSink S.Sink out.old out.new result }
     ensures late { writes_nothing false result ≡ false }
 {
     acts_in_order();
@@ -91,7 +91,7 @@ pub(crate) fn try_pair<S: Sink>(
     requires second { IfOk second.now (IsOfPage setting.now.election.now) }
     ensures done { TriesSheet (sheets + 1) (sheet_read setting.now.election.now (2 * sheets + 1) first.now second.now)
         (S.taken out.old) (S.taken out.new) result }
-    ensures sink { TouchesSink (S.faults out.old) (S.faults out.new) result }
+    ensures sink { TouchesSink S.Sink out.old out.new result }
     ensures late { writes_nothing false result ≡ false }
 {
     acts_in_order();
@@ -105,7 +105,7 @@ pub(crate) fn try_pair<S: Sink>(
 fn tell_tried<S: Sink>(alloc: Global, sheets: u64, out: &mut S) -> Result<(), Halt>
     requires { sheets < 2 ^ 62 }
     ensures done { IsWritten (writing (lines.tried_line sheets)) (S.taken out.old) (S.taken out.new) result }
-    ensures sink { TouchesSink (S.faults out.old) (S.faults out.new) result }
+    ensures sink { TouchesSink S.Sink out.old out.new result }
     ensures late { writes_nothing false result ≡ false }
 {
     acts_in_order();
@@ -119,7 +119,7 @@ pub(crate) fn end_try<S: Sink>(alloc: Global, tried: &Tried, out: &mut S) -> Res
     requires { tried.now.sheets < 2 ^ 62 }
     ensures done { IsWritten (end_outcome tried.now.sheets (waits tried.now.waiting))
         (S.taken out.old) (S.taken out.new) result }
-    ensures sink { TouchesSink (S.faults out.old) (S.faults out.new) result }
+    ensures sink { TouchesSink S.Sink out.old out.new result }
     ensures late { writes_nothing false result ≡ false }
 {
     match tried.waiting {

@@ -1,18 +1,11 @@
--- Steps of a command that read its journal or append to it: what they may answer, and what they leave of the keeper.
-use Rattle.std.specs.Prelude.{◌≡◌, ◌⊎◌, ℕ, Bool, true, false, List, [], ◌∷◌, Option, Result, Ok, Err}
+-- Steps of a command that read its journal or append to it: what they may answer.
+use Rattle.std.specs.Prelude.{◌≡◌, ◌⊎◌, ℕ, List, [], ◌∷◌, Result, Ok, Err}
 use Rattle.vx_election_model.specs.declared.election.Election.{Election}
 use Rattle.vx_command.specs.declared.halt.Halt.{Halt}
 use Rattle.vx_command.specs.Acts.{Act, ReadJournal, Answer, Outcome, after, goes_on, work}
-use Rattle.vx_command.specs.Devices.{LeavesKeeper, is_read_fault, is_write_fault}
 use Rattle.vx_command.specs.Done.{Taken, Held, BreaksAt, IsDone}
 use Rattle.vx_journal.specs.declared.journal.Journal.{Journal}
 use Rattle.vx_journal.specs.Keeping.{journal_in}
-
--- a step that touches the keeper alone: its answer is no fault of another device
-pub record TouchesKeeper {A : Type 0} (faults faults_now : ℕ) (answer : Result A Halt) : Type 0 where
-  pub keeper : LeavesKeeper faults faults_now answer
-  pub no_read_fault : is_read_fault answer ≡ false
-  pub no_write_fault : is_write_fault answer ≡ false
 
 -- a step that reads the journal: it answers what its definition says, or it broke off at the reading
 abbrev pub GivesReading : {A : Type 0} → Result A Halt → Result A Halt → Type 0

@@ -1,9 +1,10 @@
 ghost use Rattle.std.specs.Prelude.{◌≡◌, ◌∷◌, [], IfOk, OnErr, OnOk};
+ghost use Rattle.vx_command.specs.Devices.{TouchesKeeper};
 ghost use Rattle.vx_events.specs.Fits.{Fits};
 ghost use Rattle.vx_records.specs.Records.{record_of};
 ghost use Rattle.vx_command.specs.Acts.{Append};
 ghost use Rattle.vx_journal.specs.Keeping.{begin_acts, journal_with, keep_acts, reply_in};
-ghost use Rattle.vx_journal.specs.Steps.{IsRecorded, TouchesKeeper, answer_of};
+ghost use Rattle.vx_journal.specs.Steps.{IsRecorded, answer_of};
 
 use crate::journal::Journal;
 use std::alloc::Global;
@@ -18,7 +19,7 @@ use vx_refusals::Reply;
 /// Appends a record.
 fn append<K: Keeper>(keeper: &mut K, body: &[u8]) -> Result<(), Halt>
     ensures done { IsRecorded (Append body.now ∷ []) (K.held keeper.old) (K.held keeper.new) result }
-    ensures keeper { TouchesKeeper (K.faults keeper.old) (K.faults keeper.new) result }
+    ensures keeper { TouchesKeeper K.Keeper keeper.old keeper.new result }
 {
     match keeper.append(body) {
         Ok(()) => Ok(()),
@@ -36,7 +37,7 @@ pub fn begin_journal<K: Keeper>(
 ) -> Result<(), Halt>
     requires { journal.now.center.election ≡ election.now }
     ensures done { IsRecorded (begin_acts journal.now) (K.held keeper.old) (K.held keeper.new) result }
-    ensures keeper { TouchesKeeper (K.faults keeper.old) (K.faults keeper.new) result }
+    ensures keeper { TouchesKeeper K.Keeper keeper.old keeper.new result }
 {
     if journal.is_new {
         let body = header(alloc, election)?;
@@ -49,7 +50,7 @@ pub fn begin_journal<K: Keeper>(
 /// Appends the record of an event.
 pub fn append_event<K: Keeper>(alloc: Global, keeper: &mut K, event: &Event) -> Result<(), Halt>
     ensures done { IsRecorded (Append (record_of event.now) ∷ []) (K.held keeper.old) (K.held keeper.new) result }
-    ensures keeper { TouchesKeeper (K.faults keeper.old) (K.faults keeper.new) result }
+    ensures keeper { TouchesKeeper K.Keeper keeper.old keeper.new result }
 {
     let body = encode(alloc, event)?;
     append(keeper, body.as_slice())
@@ -70,7 +71,7 @@ pub fn keep_event<K: Keeper>(
     ensures no_refusal { OnErr result (reply_in journal.old event.now ≡ Reply.Done) }
     ensures done { IsRecorded (keep_acts journal.old event.now)
         (K.held keeper.old) (K.held keeper.new) (answer_of result) }
-    ensures keeper { TouchesKeeper (K.faults keeper.old) (K.faults keeper.new) result }
+    ensures keeper { TouchesKeeper K.Keeper keeper.old keeper.new result }
 {
     replies_are_done_or_refuse();
     match journal.center.apply(alloc, event)? {

@@ -1,9 +1,10 @@
 ghost use Rattle.std.specs.Prelude.{◌≡◌, IfOk};
 ghost use Rattle.std.specs.Option.{ForSome};
+ghost use Rattle.vx_command.specs.Devices.{TouchesKeeper};
 ghost use Rattle.vx_election_model.specs.Valid.{IsValid};
 ghost use Rattle.vx_journal.specs.Keeping.{journal_in};
 ghost use Rattle.vx_journal.specs.Replaying.{replay_halt};
-ghost use Rattle.vx_journal.specs.Steps.{GivesReading, TouchesKeeper};
+ghost use Rattle.vx_journal.specs.Steps.{GivesReading};
 
 use crate::fault::ReplayFault;
 use crate::journal::Journal;
@@ -35,7 +36,7 @@ pub fn read_journal<'e, K: Keeper>(
         GivesReading result (journal_in election.now records)) }
     ensures election { IfOk result (λ journal. journal.center.election ≡ election.now) }
     ensures held { K.held keeper.new ≡ K.held keeper.old }
-    ensures keeper { TouchesKeeper (K.faults keeper.old) (K.faults keeper.new) result }
+    ensures keeper { TouchesKeeper K.Keeper keeper.old keeper.new result }
 {
     let count = match keeper.count() {
         Ok(count) => count,

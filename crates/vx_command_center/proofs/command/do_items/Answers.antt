@@ -22,4 +22,4 @@ pub returns-clause-late : goal.returns-clause-late
 returns-clause-late g c =
     late_of (acts_by c.args.election.now c.args.moment.now c.args.device.now c.in_ok-ended.ended.history c.in_ok-ended.ended.journal c.in_ok-ended.ended.text)
     (g.S.Sink.taken c.args.out.now) (g.S.Sink.taken c.end_center-answer.new.out) (g.K.Keeper.held c.args.keeper.now) (g.K.Keeper.held c.end_center-answer.new.keeper) c.end_center-answer.result
-    c.end_center-answer.ensures.no_read_fault c.end_center-answer.ensures.done
+    c.end_center-answer.ensures.devices.no_read_fault c.end_center-answer.ensures.done

@@ -16,8 +16,8 @@ returns-in_err-line-clause-sink g c =
     let gives = subst (λ (page : Bitmap). Gives {A = List ℕ} is_no_memory (Err c.in_err-line.field-0.0) (page_answer c.args.election.now c.args.number page c.args.said)) c.view.ensures c.in_err-line.ensures in
     let err = err_from_is_err_and c.from_residual.result c.from_residual.ensures.1 in
     let verdict = gives-verdict c.args.election.now c.args.number c.args.image c.args.said c.in_err-line.field-0.0 gives in
-    subst (λ (answer : Answer). TouchesSink (g.S.Sink.faults c.args.out.now) (g.S.Sink.faults c.args.out.now) answer) (sym (err.1 ∙ ap Err err.2))
-    (verdict-sink c.in_err-line.field-0.0 (g.S.Sink.faults c.args.out.now) verdict)
+    subst (λ (answer : Answer). TouchesSink g.S.Sink c.args.out.now c.args.out.now answer) (sym (err.1 ∙ ap Err err.2))
+    (verdict-sink g.S.Sink c.in_err-line.field-0.0 c.args.out.now verdict)
 
 pub returns-in_err-line-clause-late : goal.returns-in_err-line-clause-late
 returns-in_err-line-clause-late g c =

@@ -43,10 +43,15 @@ returns-in_err-came-clause-devices g c =
       sink = still-counts (is_write_fault {A = Unit {0}} (Err cause)) (g.S.Sink.faults c.args.out.now) touches.no_write_fault;
       keeper = touches.keeper;
       no_read_fault = touches.no_read_fault;
-      late =
-          late-of (keep_if c.args.counting.now.journal c.args.made) (g.S.Sink.taken c.args.out.now) (g.S.Sink.taken c.args.out.now)
-          (g.K.Keeper.held c.args.keeper.now) (g.K.Keeper.held c.settle.new.keeper) cause (c.in_err-came.ensures.done (g.S.Sink.taken c.args.out.now));
     })
+
+pub returns-in_err-came-clause-late : goal.returns-in_err-came-clause-late
+returns-in_err-came-clause-late g c =
+    let err = err_from_is_err_and c.from_residual.result c.from_residual.ensures.1 in
+    let cause = c.in_err-came.field-0.0 in
+    rw (err.1 ∙ ap Err err.2)
+    (late-of (keep_if c.args.counting.now.journal c.args.made) (g.S.Sink.taken c.args.out.now) (g.S.Sink.taken c.args.out.now)
+    (g.K.Keeper.held c.args.keeper.now) (g.K.Keeper.held c.settle.new.keeper) cause (c.in_err-came.ensures.done (g.S.Sink.taken c.args.out.now)))
 
 pub returns-in_err-tell-clause-done : goal.returns-in_err-tell-clause-done
 returns-in_err-tell-clause-done g c =

@@ -28,8 +28,10 @@ returns-in_default g c =
     record {
       done = λ next. rw c.in_ok-refusal.ensures.reply (is_refused c.acts_in_order.ensures c.args.journal.now c.args.number c.args.event.now _ _ _ refused c.in_ok-refusal.ensures.done next);
       election = tt;
-      no_read_fault = refl;
-      sink = search rules;
-      keeper = c.in_ok-refusal.ensures.keeper.keeper;
+      devices = record {
+        sink = search rules;
+        keeper = c.in_ok-refusal.ensures.keeper.keeper;
+        no_read_fault = refl;
+      };
       late = refl;
     }

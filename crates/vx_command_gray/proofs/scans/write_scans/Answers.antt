@@ -29,7 +29,7 @@ loop-word-preserved g c =
           scan_written files c.args.words.now c.loop-word.word c.word.result.now (gray_outcome (drop 1 c.args.words.now) files) _ _ _ c.word.ensures
           (c.loop-word.invariant.comes files told)
           (subst (Written files) c.in-Ok-None.field-0-is (c.in-Ok-None.ensures.done files (c.loop-word.invariant.same ∙ told)));
-      same = c.in-Ok-None.ensures.inputs.same ∙ c.loop-word.invariant.same;
-      no_read_fault = c.in-Ok-None.ensures.inputs.counts.still refl ∙ c.loop-word.invariant.no_read_fault;
-      no_write_fault = c.in-Ok-None.ensures.sink.still refl ∙ c.loop-word.invariant.no_write_fault;
+      same = c.in-Ok-None.ensures.devices.inputs.same ∙ c.loop-word.invariant.same;
+      no_read_fault = c.in-Ok-None.ensures.devices.inputs.counts.still refl ∙ c.loop-word.invariant.no_read_fault;
+      no_write_fault = c.in-Ok-None.ensures.devices.sink.still refl ∙ c.loop-word.invariant.no_write_fault;
     }
