@@ -1,4 +1,4 @@
-ghost use Rattle.std.specs.Prelude.{◌≡◌, ◌<◌, ◌+◌, ◌*◌, ◌%◌, ◌^◌, ◌++◌, List, OnOk, Some, length, slice_get};
+ghost use Rattle.std.specs.Prelude.{◌≡◌, ◌<◌, ◌+◌, ◌*◌, ◌%◌, ◌^◌, ◌++◌, List, OnOk, Some, false, length, slice_get};
 ghost use Rattle.std.specs.List.{AllZip};
 ghost use Rattle.vx_command.specs.Devices.{TouchesSinkAndKeeper, writes_nothing};
 ghost use Rattle.vx_plane.specs.Plane.{Page};

@@ -1,4 +1,4 @@
-ghost use Rattle.std.specs.Prelude.{◌≡◌, ◌<◌, ◌≤◌, ◌+◌, ◌*◌, ◌%◌, ◌^◌, ◌++◌, IfOk, OnOk, length};
+ghost use Rattle.std.specs.Prelude.{◌≡◌, ◌<◌, ◌≤◌, ◌+◌, ◌*◌, ◌%◌, ◌^◌, ◌++◌, IfOk, OnOk, false, length};
 ghost use Rattle.vx_command.specs.Devices.{TouchesSinkAndKeeper, writes_nothing};
 ghost use Rattle.vx_command_count.specs.Gathering.{LeavesPiece, waits};
 ghost use Rattle.vx_command_count.specs.Setting.{IsSet};
