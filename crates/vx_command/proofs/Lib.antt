@@ -2,3 +2,4 @@ pub mod Acts
 pub mod Written
 mod Read
 mod Kept
+mod Asking

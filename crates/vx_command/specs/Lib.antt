@@ -5,6 +5,7 @@ pub mod Elections
 pub mod Images
 pub mod Done
 pub mod Devices
+pub mod Asking
 pub mod Steps
 pub mod Status
 pub mod Laws

@@ -1,12 +1,14 @@
 //! Laws for the proofs of commands. These functions do nothing; their contracts are the laws. A body
 //! that calls one has its laws among the facts of that call, and hands them to its lemmas.
 
+ghost use Rattle.vx_command.specs.Asking.{AskLaws};
 ghost use Rattle.vx_command.specs.Images.{ScannedImagesAreWhole};
 ghost use Rattle.vx_command.specs.Kept.{RecordsInOrder};
 ghost use Rattle.vx_command.specs.Laws.{ActLaws, StepLaws, TakenElectionsAreValid};
 ghost use Rattle.vx_command.specs.Texts.{TextsInOrder};
 
 use vx_election::defined_elections_are_valid;
+use vx_io::{Inputs, questions_asked};
 use vx_pbm::images_are_whole;
 
 /// Acts that are done, or broken off, and then the rest of a command.
@@ -18,6 +20,13 @@ pub fn acts_in_order()
 pub fn steps_in_order<T>()
     ensures { StepLaws T }
 {}
+
+/// Inputs that are asked for one after the other.
+pub fn asks_in_order<I: Inputs>()
+    ensures { AskLaws I.Inputs }
+{
+    questions_asked();
+}
 
 /// However far a command has come, it wrote the texts of its acts in order.
 pub fn texts_in_order()

@@ -19,7 +19,7 @@ mod writing;
 pub use causes::SheetCause;
 pub use halt::{Halt, halt_of_bitmap, halt_of_card};
 pub use laws::{
-    acts_in_order, records_in_order, scanned_images_are_whole, steps_in_order,
+    acts_in_order, asks_in_order, records_in_order, scanned_images_are_whole, steps_in_order,
     taken_elections_are_valid, texts_in_order,
 };
 pub use plans::plan_all;

@@ -1,14 +1,16 @@
-ghost use Rattle.std.specs.Prelude.{◌≤◌, length, IfOk, IfErr};
+ghost use Rattle.std.specs.Prelude.{◌≤◌, ◌∷◌, [], length, is_ok, IfOk, IfErr};
 ghost use Rattle.std.specs.Option.{ForSome};
 ghost use Rattle.vx_base.specs.Refusals.{Gives};
 ghost use Rattle.vx_election.specs.Reading.{election_of};
 ghost use Rattle.vx_election_model.specs.Valid.{IsValid};
 ghost use Rattle.vx_command.specs.Acts.{input_of};
+ghost use Rattle.vx_command.specs.Asking.{Asks};
 ghost use Rattle.vx_command.specs.Devices.{TouchesInputs, TouchesNothing};
 ghost use Rattle.vx_command.specs.Elections.{election_read, election_in};
 ghost use Rattle.vx_command.specs.Steps.{is_no_memory, GivesTaking, IsTakingHalt};
 
 use crate::halt::{Halt, halt_of_election, halt_of_taking};
+use crate::laws::asks_in_order;
 use std::alloc::Global;
 use vx_base::Bytes;
 use vx_election::{Election, read_election};
@@ -32,6 +34,7 @@ pub fn take_input<I: Inputs>(
     ensures within { IfOk result (λ bytes. length bytes ≤ limit) }
     ensures halts { IfErr result (IsTakingHalt word) }
     ensures inputs { TouchesInputs I.Inputs inputs.old inputs.new result }
+    ensures asked { Asks I.Inputs (name.now ∷ []) inputs.old inputs.new (is_ok result) }
 {
     match take_reusing(old, inputs, name, limit) {
         Ok(bytes) => Ok(bytes),
@@ -57,7 +60,9 @@ pub fn take_election<I: Inputs>(alloc: Global, inputs: &mut I, name: &str) -> Re
         GivesTaking 1 result (election_in (files name.now))) }
     ensures valid { IfOk result IsValid }
     ensures inputs { TouchesInputs I.Inputs inputs.old inputs.new result }
+    ensures asked { Asks I.Inputs (name.now ∷ []) inputs.old inputs.new (is_ok result) }
 {
+    asks_in_order::<I>();
     let bytes = take_input(Bytes::new(alloc), inputs, name, 1, INPUT_LIMIT)?;
     read_bytes(alloc, bytes.as_slice())
 }

@@ -1,5 +1,6 @@
--- Laws for the proofs of callers: fronts of a text, what a sink has taken, counts of faults.
+-- Laws for the proofs of callers: fronts of a text, what a sink has taken, what inputs were asked, counts of faults.
 use Rattle.std.specs.Prelude.{ℕ, Bool, false, List, [], ◌++◌, take, Option}
+use Rattle.vx_io.specs.Asking.{Question, Questions, Asked}
 use Rattle.vx_io.specs.Outside.{IsPrefix, Took, TookFront, CountsFaults}
 
 -- fronts of a text
@@ -22,6 +23,11 @@ pub record TookFrontLaws : Type 0 where
   pub whole : (a b : Option (List ℕ)) (text : List ℕ) → Took a b text → TookFront a b text
   pub append : (a b c : Option (List ℕ)) (s t : List ℕ) → Took a b s → TookFront b c t → TookFront a c (s ++ t)
   pub longer : (a b : Option (List ℕ)) (s t : List ℕ) → TookFront a b s → TookFront a b (s ++ t)
+
+-- what inputs were asked: nothing, and some questions after others
+pub record AskedLaws : Type 0 where
+  pub nothing : (told : Questions) → Asked told told []
+  pub append : (a b c : Questions) (s t : List Question) → Asked a b s → Asked b c t → Asked a c (s ++ t)
 
 -- a device that wasn't called, and one call beside others without a fault
 pub record FaultLaws : Type 0 where

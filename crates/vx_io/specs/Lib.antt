@@ -1,3 +1,4 @@
+pub mod Asking
 pub mod Fakes
 pub mod Keeping
 pub mod Laws

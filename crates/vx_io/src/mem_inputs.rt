@@ -1,4 +1,4 @@
-ghost use Rattle.std.specs.Prelude.{◌≡◌, ◌<◌, ◌≤◌, Some, length, take, min, IfOk, is_err};
+ghost use Rattle.std.specs.Prelude.{◌≡◌, ◌<◌, ◌≤◌, None, Some, length, take, min, IfOk, is_err};
 ghost use Rattle.vx_io.specs.Fakes.{HeldInputs, counted, files_of, is_listed, no_calls};
 ghost use Rattle.vx_io.specs.Outside.{CountsFaults, IsSameBehind, IsSizeOf, IsThere, ReadsFrom};
 
@@ -62,6 +62,8 @@ impl Inputs for MemInputs {
     ghost held = { λ inputs. Some (files_of inputs.files) };
 
     ghost faults = { λ inputs. inputs.tally.faults };
+
+    ghost asked = { λ _. None };
 
     fn size(&mut self, name: &str) -> Result<Option<u64>, Failed>
         ensures size { IfOk result (IsSizeOf (Some (files_of self.old.files)) name.now) }

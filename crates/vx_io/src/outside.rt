@@ -1,4 +1,5 @@
-ghost use Rattle.std.specs.Prelude.{◌≡◌, ◌<◌, ◌≤◌, ℕ, List, [], Option, length, take, IfOk, OnOk, OnErr, IfSome, is_err};
+ghost use Rattle.std.specs.Prelude.{◌≡◌, ◌<◌, ◌≤◌, ◌∷◌, ℕ, List, [], Option, length, take, IfOk, OnOk, OnErr, is_err};
+ghost use Rattle.vx_io.specs.Asking.{Asked, BytesFrom, Questions, SizeOf};
 ghost use Rattle.vx_io.specs.Keeping.{has_failed};
 ghost use Rattle.vx_io.specs.Outside.{Files, IsThere, CountsFaults, IsSameBehind, ReadsFrom, IsSizeOf, TookFront, TookPiece, IsCountOf, IsIndexOf, IsRecordAt, Appends, MayAppend};
 
@@ -46,11 +47,14 @@ pub trait Inputs {
     ghost held: { Self → Option Files };
     /// How many faults there were so far; it stands still at its last value.
     ghost faults: { Self → ℕ };
+    /// What they were asked so far, where that is told.
+    ghost asked: { Self → Questions };
 
     /// How many bytes are held under the name; None where nothing has that name.
     fn size(&mut self, name: &str) -> Result<Option<u64>, Failed>
         ensures size { IfOk result (IsSizeOf (held self.old) name.now) }
         ensures held { held self.new ≡ held self.old }
+        ensures asked { Asked (asked self.old) (asked self.new) (SizeOf name.now ∷ []) }
         ensures cause { CountsFaults (is_err result) (faults self.old) (faults self.new) };
 
     /// Reads bytes from offset `at` on into the front of `buf`, and answers how many: at least one.
@@ -62,6 +66,7 @@ pub trait Inputs {
         ensures read { IfOk result (λ count. ReadsFrom (held self.old) name.now at (take count buf.new)) }
         ensures behind { IfOk result (λ count. IsSameBehind count buf.old buf.new) }
         ensures held { held self.new ≡ held self.old }
+        ensures asked { Asked (asked self.old) (asked self.new) (BytesFrom name.now at ∷ []) }
         ensures cause { CountsFaults (is_err result) (faults self.old) (faults self.new) };
 }
 

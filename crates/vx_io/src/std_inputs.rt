@@ -62,6 +62,8 @@ impl<R: Files> Inputs for StdInputs<'_, R> {
 
     ghost faults = { λ inputs. inputs };
 
+    ghost asked = { λ _. None };
+
     fn size(&mut self, name: &str) -> Result<Option<u64>, Failed>
         ensures size { IfOk result (IsSizeOf None name.now) }
         ensures cause { CountsFaults (is_err result) self.old self.new }

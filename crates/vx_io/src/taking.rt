@@ -1,4 +1,5 @@
-ghost use Rattle.std.specs.Prelude.{◌≡◌, ◌≤◌, Some, length, IfSome, IfOk, OnOk, is_err};
+ghost use Rattle.std.specs.Prelude.{◌≡◌, ℕ, Some, length, IfSome, IfOk, OnOk, is_err};
+ghost use Rattle.vx_io.specs.Asking.{AsksFor, AsksPieces};
 ghost use Rattle.vx_io.specs.Outside.{CountsFaults, IsSizeOf, ReadsFrom};
 ghost use Rattle.vx_io.specs.Take.{Takes, IsWithin, take_failed};
 
@@ -46,6 +47,7 @@ fn read_whole<I: Inputs>(inputs: &mut I, name: &str, buffer: &mut [u8]) -> Resul
     requires sized { IsSizeOf (I.held inputs.old) name.now (Some (length buffer.old)) }
     ensures read { OnOk result (ReadsFrom (I.held inputs.old) name.now 0 buffer.new) }
     ensures held { I.held inputs.new ≡ I.held inputs.old }
+    ensures asked { (to : ℕ) × AsksPieces name.now to (I.asked inputs.old) (I.asked inputs.new) }
     ensures cause { CountsFaults (is_err result) (I.faults inputs.old) (I.faults inputs.new) }
 {
     let mut at = 0;
@@ -76,6 +78,7 @@ pub fn take<I: Inputs>(
     ensures told { IfSome (I.held inputs.old) (λ files. Takes (files name.now) limit result) }
     ensures within { IsWithin limit result }
     ensures held { I.held inputs.new ≡ I.held inputs.old }
+    ensures asked { AsksFor name.now (I.asked inputs.old) (I.asked inputs.new) }
     ensures cause { CountsFaults (take_failed result) (I.faults inputs.old) (I.faults inputs.new) }
 {
     take_reusing(Bytes::new(alloc), inputs, name, limit)
@@ -91,6 +94,7 @@ pub fn take_reusing<I: Inputs>(
     ensures told { IfSome (I.held inputs.old) (λ files. Takes (files name.now) limit result) }
     ensures within { IsWithin limit result }
     ensures held { I.held inputs.new ≡ I.held inputs.old }
+    ensures asked { AsksFor name.now (I.asked inputs.old) (I.asked inputs.new) }
     ensures cause { CountsFaults (take_failed result) (I.faults inputs.old) (I.faults inputs.new) }
 {
     let Some(size) = inputs.size(name)? else {
