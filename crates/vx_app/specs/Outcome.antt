@@ -1,5 +1,5 @@
--- What each command does, and which devices it touches when.
-use Rattle.std.specs.Prelude.{ℕ, Bool, true, false, List}
+-- What each command does, which inputs it takes, and which devices it touches when.
+use Rattle.std.specs.Prelude.{ℕ, Bool, true, false, List, [], ◌∷◌}
 use Rattle.vx_io.specs.Outside.{Files}
 use Rattle.vx_command.specs.Acts.{Outcome, finished}
 use Rattle.vx_command_print.specs.Outcome.{print_outcome}
@@ -61,3 +61,20 @@ takes_first (Check election scans readings) = true
 takes_first (Center election moment device items) = true
 takes_first (Cards election) = true
 takes_first command = false
+
+-- the names of the inputs that a command takes, in order; those of `center` stand in its own `AsksAsCenter`
+abbrev pub inputs_of : Command → List (List ℕ)
+inputs_of (Print election card kind test) = election ∷ []
+inputs_of (Read election scans) = election ∷ scans
+inputs_of (Check election scans readings) = election ∷ scans ∷ readings ∷ []
+inputs_of (Count election batch workers scans) = election ∷ scans
+inputs_of (Decide election script) = election ∷ script ∷ []
+inputs_of (Queue election) = election ∷ []
+inputs_of (Export election moment device) = election ∷ []
+inputs_of (Demo seed sheets) = []
+inputs_of (Center election moment device items) = []
+inputs_of (Try election scans) = election ∷ scans
+inputs_of (Cards election) = election ∷ []
+inputs_of (Results election) = election ∷ []
+inputs_of (Sample election seed size hand) = election ∷ hand ∷ []
+inputs_of (Desk election batch scans) = election ∷ scans

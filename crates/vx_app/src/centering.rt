@@ -1,9 +1,11 @@
 //! The command `center`, whole.
 
-ghost use Rattle.std.specs.Prelude.{◌≡◌, ◌↔◌, true, IsTrue, List, ℕ, Ok, Some};
+ghost use Rattle.std.specs.Prelude.{◌≡◌, ◌↔◌, [], true, IsTrue, List, ℕ, Ok, Some, is_ok};
 ghost use Rattle.vx_io.specs.Outside.{Files};
+ghost use Rattle.vx_command.specs.Asking.{Asks};
 ghost use Rattle.vx_command.specs.Devices.{LeavesDevices};
 ghost use Rattle.vx_command.specs.Status.{answer_of};
+ghost use Rattle.vx_command_center.specs.Asking.{AsksAsCenter};
 ghost use Rattle.vx_command_center.specs.Laws.{ReportedWhatIsKept};
 ghost use Rattle.vx_command_center.specs.Runs.{Centers, is_refusal};
 ghost use Rattle.vx_election_model.specs.declared.election.Election.{Election};
@@ -19,7 +21,7 @@ use crate::laws::fitting_sheets_are_in_their_items;
 use std::alloc::Global;
 use std::sync::Wait;
 use std::thread::Threads;
-use vx_command::{Halt, Status, acts_in_order, status_of};
+use vx_command::{Halt, Status, acts_in_order, asks_in_order, status_of};
 use vx_command_center::{
     center, center_keeps_journals, center_reports_what_is_kept, centers_may_not_begin,
 };
@@ -62,8 +64,13 @@ fn center_words<R: Threads + Wait + Sync, I: Inputs, S: Sink, K: Keeper, G: Gate
     ensures usage_keeps_all { result ≡ Status.Usage → K.held keeper.new ≡ K.held keeper.old }
     ensures devices { LeavesDevices I.Inputs S.Sink K.Keeper inputs.old inputs.new out.old out.new
         keeper.old keeper.new (answer_of result) }
+    ensures asked { (election moment device : List ℕ) (items : List ItemWord) →
+        Spells words.now (Command.Center election moment device items) →
+        AsksAsCenter I.Inputs election items inputs.old inputs.new (is_ok (answer_of result)) }
+    ensures usage_asks_nothing { result ≡ Status.Usage → Asks I.Inputs [] inputs.old inputs.new true }
 {
     acts_in_order();
+    asks_in_order::<I>();
     words_spell_one_command();
     centers_may_not_begin();
     if !is_center(words) {
@@ -135,6 +142,12 @@ pub fn run_center<R: Threads + Wait + Sync, I: Inputs, S: Sink, K: Keeper, G: Ga
     ensures usage_keeps_all { result ≡ Status.Usage → K.held keeper.new ≡ K.held keeper.old }
     ensures devices { LeavesDevices I.Inputs S.Sink K.Keeper inputs.old inputs.new out.old out.new
         keeper.old keeper.new (answer_of result) }
+    // The inputs are asked for the election, then for the sizes of the items' inputs, and then for those, in order,
+    // each once, and for nothing else.
+    ensures asked { (election moment device : List ℕ) (items : List ItemWord) →
+        Spells words.now (Command.Center election moment device items) →
+        AsksAsCenter I.Inputs election items inputs.old inputs.new (is_ok (answer_of result)) }
+    ensures usage_asks_nothing { result ≡ Status.Usage → Asks I.Inputs [] inputs.old inputs.new true }
     // Whatever the status, a journal of the election stays one, which keeps the events that it kept, and
     // perhaps more behind them.
     ensures journal_kept { (files : Files) → I.held inputs.old ≡ Some files →

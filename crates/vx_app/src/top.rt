@@ -1,5 +1,6 @@
-ghost use Rattle.std.specs.Prelude.{◌≡◌, ◌≢◌, ◌↔◌, true, false, List, ℕ, Ok, Some};
+ghost use Rattle.std.specs.Prelude.{◌≡◌, ◌≢◌, ◌↔◌, ◌∷◌, [], true, false, List, ℕ, Ok, Some, is_ok};
 ghost use Rattle.vx_io.specs.Outside.{Files};
+ghost use Rattle.vx_command.specs.Asking.{Asks};
 ghost use Rattle.vx_command.specs.Devices.{LeavesDevices, writes_nothing};
 ghost use Rattle.vx_command.specs.Done.{IsDone};
 ghost use Rattle.vx_command.specs.Status.{answer_of};
@@ -14,7 +15,7 @@ ghost use Rattle.vx_events.specs.declared.event.Event.{Event};
 ghost use Rattle.vx_journal.specs.Replay.{replay_of};
 ghost use Rattle.vx_words.specs.declared.command.Command.{Command as CommandOf};
 ghost use Rattle.vx_words.specs.Words.{IsSound, Spells};
-ghost use Rattle.vx_app.specs.Outcome.{appends, outcome_of, takes_first, uses_keeper};
+ghost use Rattle.vx_app.specs.Outcome.{appends, inputs_of, outcome_of, takes_first, uses_keeper};
 ghost use Rattle.vx_app.specs.Counting.{IsCount};
 ghost use Rattle.vx_app.specs.Journals.{HoldsMore, IsFor};
 ghost use Rattle.vx_app.specs.Runs.{NoRun, SpellsRun, is_run};
@@ -22,7 +23,7 @@ ghost use Rattle.vx_app.specs.Runs.{NoRun, SpellsRun, is_run};
 use crate::centering::is_center;
 use std::alloc::Global;
 use std::thread::Threads;
-use vx_command::{Halt, Status, acts_in_order, status_of};
+use vx_command::{Halt, Status, acts_in_order, asks_in_order, status_of};
 use vx_command_cards::cards;
 use vx_command_center::center_keeps_journals;
 use vx_command_check::{certified_pages_say_what_fits, check};
@@ -62,8 +63,10 @@ fn obey<R: Threads + Sync, I: Inputs, S: Sink, K: Keeper, G: Gate>(
         S.taken out.new ≡ S.taken out.old }
     ensures devices { LeavesDevices I.Inputs S.Sink K.Keeper inputs.old inputs.new out.old out.new
         keeper.old keeper.new result }
+    ensures asked { Asks I.Inputs (inputs_of command) inputs.old inputs.new (is_ok result) }
     ensures keeper_held { appends command ≡ false → K.held keeper.new ≡ K.held keeper.old }
 {
+    asks_in_order::<I>();
     match command {
         Command::Print {
             election,
@@ -191,10 +194,14 @@ fn run_words<R: Threads + Sync, I: Inputs, S: Sink, K: Keeper, G: Gate>(
     ensures usage_keeps_all { result ≡ Status.Usage → K.held keeper.new ≡ K.held keeper.old }
     ensures devices { LeavesDevices I.Inputs S.Sink K.Keeper inputs.old inputs.new out.old out.new
         keeper.old keeper.new (answer_of result) }
+    ensures asked { (command : CommandOf) → SpellsRun words.now command →
+        Asks I.Inputs (inputs_of command) inputs.old inputs.new (is_ok (answer_of result)) }
+    ensures usage_asks_nothing { result ≡ Status.Usage → Asks I.Inputs [] inputs.old inputs.new true }
     ensures keeper_held { (command : CommandOf) → SpellsRun words.now command →
         appends command ≡ false → K.held keeper.new ≡ K.held keeper.old }
 {
     acts_in_order();
+    asks_in_order::<I>();
     words_spell_one_command();
     if is_center(words) {
         return Status::Usage;
@@ -240,6 +247,11 @@ pub fn run<R: Threads + Sync, I: Inputs, S: Sink, K: Keeper>(
     ensures usage_keeps_all { result ≡ Status.Usage → K.held keeper.new ≡ K.held keeper.old }
     ensures devices { LeavesDevices I.Inputs S.Sink K.Keeper inputs.old inputs.new out.old out.new
         keeper.old keeper.new (answer_of result) }
+    // The inputs are asked for those that the command takes, in order, each once: for its size, and then for its
+    // bytes from the front. They are asked for nothing else.
+    ensures asked { (command : CommandOf) → SpellsRun words.now command →
+        Asks I.Inputs (inputs_of command) inputs.old inputs.new (is_ok (answer_of result)) }
+    ensures usage_asks_nothing { result ≡ Status.Usage → Asks I.Inputs [] inputs.old inputs.new true }
     // A command that appends nothing leaves what the keeper holds.
     ensures keeper_held { (command : CommandOf) → SpellsRun words.now command →
         appends command ≡ false → K.held keeper.new ≡ K.held keeper.old }
@@ -322,6 +334,9 @@ pub fn run_count<R: Threads + Sync, I: Inputs, S: Sink, K: Keeper, G: Gate>(
         S.taken out.new ≡ S.taken out.old }
     ensures devices { LeavesDevices I.Inputs S.Sink K.Keeper inputs.old inputs.new out.old out.new
         keeper.old keeper.new (answer_of result) }
+    ensures asked { (election batch : List ℕ) (workers : ℕ) (scans : List (List ℕ)) →
+        Spells words.now (Command.Count election batch workers scans) →
+        Asks I.Inputs (election ∷ scans) inputs.old inputs.new (is_ok (answer_of result)) }
 {
     run_words(rt, alloc, words, inputs, out, keeper, gate)
 }

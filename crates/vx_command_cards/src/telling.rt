@@ -1,8 +1,9 @@
-ghost use Rattle.std.specs.Prelude.{◌≡◌, ◌++◌, true, false, [], Bool, IfOk, Ok, string_bytes};
+ghost use Rattle.std.specs.Prelude.{◌≡◌, ◌++◌, ◌∷◌, true, false, [], Bool, IfOk, Ok, string_bytes, is_ok};
 ghost use Rattle.std.specs.Option.{ForSome};
 ghost use Rattle.vx_base.specs.Refusals.{Gives};
 ghost use Rattle.vx_election_model.specs.Valid.{IsValid};
 ghost use Rattle.vx_command.specs.Acts.{writing};
+ghost use Rattle.vx_command.specs.Asking.{Asks};
 ghost use Rattle.vx_command.specs.Devices.{TouchesInputsAndSink, TouchesNothing, TouchesSink, writes_nothing};
 ghost use Rattle.vx_command.specs.Done.{IsWritten};
 ghost use Rattle.vx_command.specs.Steps.{is_no_memory};
@@ -21,7 +22,7 @@ use crate::listing::list_cards;
 use crate::texts::list_flaws;
 use std::alloc::Global;
 use vx_base::{Bytes, OutOfMemory};
-use vx_command::{Halt, acts_in_order, steps_in_order, take_election, write_text};
+use vx_command::{Halt, acts_in_order, asks_in_order, steps_in_order, take_election, write_text};
 use vx_election_model::Election;
 use vx_io::{Inputs, Sink};
 
@@ -121,7 +122,9 @@ pub fn cards<I: Inputs, S: Sink>(
         (S.taken out.old) (S.taken out.new) result) }
     ensures nothing_written { writes_nothing true result ≡ true → S.taken out.new ≡ S.taken out.old }
     ensures devices { TouchesInputsAndSink I.Inputs S.Sink inputs.old inputs.new out.old out.new result }
+    ensures asked { Asks I.Inputs (election.now ∷ []) inputs.old inputs.new (is_ok result) }
 {
+    asks_in_order::<I>();
     steps_in_order::<Election>();
     let given = take_election(alloc, inputs, election)?;
     write_cards(alloc, &given, out)

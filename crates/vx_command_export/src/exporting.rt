@@ -1,8 +1,9 @@
-ghost use Rattle.std.specs.Prelude.{◌≡◌, Bool, true, false, Ok};
+ghost use Rattle.std.specs.Prelude.{◌≡◌, ◌∷◌, [], Bool, true, false, Ok, is_ok};
 ghost use Rattle.std.specs.Option.{ForSome};
 ghost use Rattle.vx_base.specs.Refusals.{Gives};
 ghost use Rattle.vx_election_model.specs.Valid.{IsValid};
 ghost use Rattle.vx_command.specs.Acts.{writing};
+ghost use Rattle.vx_command.specs.Asking.{Asks};
 ghost use Rattle.vx_command.specs.Devices.{LeavesDevices, TouchesNothing, TouchesSink, writes_nothing};
 ghost use Rattle.vx_command.specs.Done.{IsDone, IsWritten};
 ghost use Rattle.vx_command.specs.Steps.{is_no_memory};
@@ -12,7 +13,7 @@ ghost use Rattle.vx_command_export.specs.Outcome.{export_outcome};
 use std::alloc::Global;
 use vx_base::Bytes;
 use vx_center::Center;
-use vx_command::{Halt, acts_in_order, steps_in_order, take_election, write_text};
+use vx_command::{Halt, acts_in_order, asks_in_order, steps_in_order, take_election, write_text};
 use vx_cvr::report;
 use vx_election_model::Election;
 use vx_io::{Inputs, Keeper, Sink};
@@ -75,7 +76,9 @@ pub fn export<I: Inputs, S: Sink, K: Keeper>(
     ensures held { K.held keeper.new ≡ K.held keeper.old }
     ensures devices { LeavesDevices I.Inputs S.Sink K.Keeper inputs.old inputs.new out.old out.new
         keeper.old keeper.new result }
+    ensures asked { Asks I.Inputs (election.now ∷ []) inputs.old inputs.new (is_ok result) }
 {
+    asks_in_order::<I>();
     steps_in_order::<Election>();
     journals_in_order();
     let given = take_election(alloc, inputs, election)?;

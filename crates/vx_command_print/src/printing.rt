@@ -1,9 +1,10 @@
-ghost use Rattle.std.specs.Prelude.{◌≡◌, true, IfOk};
+ghost use Rattle.std.specs.Prelude.{◌≡◌, ◌∷◌, [], true, IfOk, is_ok};
 ghost use Rattle.std.specs.Option.{ForSome};
 ghost use Rattle.vx_base.specs.Refusals.{Gives};
 ghost use Rattle.vx_election_model.specs.Valid.{IsValid};
 ghost use Rattle.vx_layout.specs.Pages.{IsNumbered};
 ghost use Rattle.vx_layout.specs.Plan.{plan_of};
+ghost use Rattle.vx_command.specs.Asking.{Asks};
 ghost use Rattle.vx_command.specs.Devices.{TouchesInputsAndSink, TouchesNothing, TouchesSink, writes_nothing};
 ghost use Rattle.vx_command.specs.Done.{IsWritten};
 ghost use Rattle.vx_command.specs.Steps.{is_no_memory};
@@ -12,7 +13,7 @@ ghost use Rattle.vx_command_print.specs.Outcome.{card_made, card_outcome, print_
 use crate::ballot::Ballot;
 use crate::pages::print_pages;
 use std::alloc::Global;
-use vx_command::{Halt, halt_of_card, steps_in_order, take_election};
+use vx_command::{Halt, asks_in_order, halt_of_card, steps_in_order, take_election};
 use vx_election_model::Election;
 use vx_io::{Inputs, Sink};
 use vx_layout::{CardFault, CardPlan, plan_card};
@@ -62,7 +63,9 @@ pub fn print<I: Inputs, S: Sink>(
         (S.taken out.old) (S.taken out.new) result) }
     ensures nothing_written { writes_nothing true result ≡ true → S.taken out.new ≡ S.taken out.old }
     ensures devices { TouchesInputsAndSink I.Inputs S.Sink inputs.old inputs.new out.old out.new result }
+    ensures asked { Asks I.Inputs (election.now ∷ []) inputs.old inputs.new (is_ok result) }
 {
+    asks_in_order::<I>();
     steps_in_order::<Election>();
     let given = take_election(alloc, inputs, election)?;
     print_card(alloc, &given, ballot, out)

@@ -1,6 +1,6 @@
 //! Inputs in memory that put down what they are asked.
 
-ghost use Rattle.std.specs.Prelude.{◌≡◌, ◌<◌, ◌≤◌, Some, IfOk, length, take, is_err};
+ghost use Rattle.std.specs.Prelude.{◌≡◌, ◌<◌, ◌≤◌, None, Some, IfOk, length, take, is_err};
 ghost use Rattle.vx_io.specs.Fakes.{files_of};
 ghost use Rattle.vx_io.specs.Outside.{CountsFaults, IsSameBehind, IsSizeOf, IsThere, ReadsFrom};
 
@@ -48,6 +48,8 @@ impl Inputs for HeardInputs {
     ghost held = { λ heard. Some (files_of heard.inputs.files) };
 
     ghost faults = { λ heard. heard.inputs.tally.faults };
+
+    ghost asked = { λ _. None };
 
     fn size(&mut self, name: &str) -> Result<Option<u64>, Failed> {
         let _ = push_size(self.alloc, &mut self.heard, name);

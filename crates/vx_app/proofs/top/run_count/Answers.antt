@@ -15,3 +15,7 @@ pub returns-clause-nothing_written : goal.returns-clause-nothing_written
 returns-clause-nothing_written g c before =
     let count = c.requires in
     c.run_words.ensures.nothing_written (Count count.election count.batch count.workers count.scans) (record { spells = count.spells; is_run = refl }) before
+
+pub returns-clause-asked : goal.returns-clause-asked
+returns-clause-asked g c election batch workers scans spells =
+    c.run_words.ensures.asked (Count election batch workers scans) (record { spells = spells; is_run = refl })

@@ -1,6 +1,7 @@
-use Rattle.std.proofs.Common.{◌≡◌, ◌∙◌, Bool, true, Some, Err, false, ap, refl, sym, subst}
+use Rattle.std.proofs.Common.{◌≡◌, ◌∙◌, Bool, true, Some, Err, false, ap, is_ok, refl, sym, subst}
 use Rattle.std.proofs.lemmas.Bool.{false≢true}
 use Rattle.vx_command.specs.Acts.{Answer}
+use Rattle.vx_command.specs.Asking.{Asks}
 use Rattle.vx_command.specs.Devices.{writes_nothing}
 use Rattle.vx_command.specs.Done.{IsDone}
 use Rattle.vx_command.specs.declared.status.Status.{Status}
@@ -8,7 +9,7 @@ use Rattle.vx_command.specs.declared.status.Status.TheVariants.{Usage}
 use Rattle.vx_words.specs.declared.command.Command.{Command}
 use Rattle.vx_words.specs.declared.fault.UsageFault.{UsageFault}
 use Rattle.vx_words.specs.Words.{NoCommand, Parses, Spells}
-use Rattle.vx_app.specs.Outcome.{appends, outcome_of, takes_first, uses_keeper}
+use Rattle.vx_app.specs.Outcome.{appends, inputs_of, outcome_of, takes_first, uses_keeper}
 use Rattle.vx_app.proofs.Named.{is_center, is_other}
 use Rattle.vx_app.proofs.top.run_words.Goals as goal
 
@@ -24,6 +25,11 @@ returns-then-is_center-clause-usage g c =
 
 pub returns-then-is_center-clause-done : goal.returns-then-is_center-clause-done
 returns-then-is_center-clause-done g c files told command spells records kept =
+    let named = c.is_center.ensures.0 c.if-is_center.true in
+    absurd (false≢true (sym (is_center c.args.words.now command named spells.spells) ∙ spells.is_run))
+
+pub returns-then-is_center-clause-asked : goal.returns-then-is_center-clause-asked
+returns-then-is_center-clause-asked g c command spells =
     let named = c.is_center.ensures.0 c.if-is_center.true in
     absurd (false≢true (sym (is_center c.args.words.now command named spells.spells) ∙ spells.is_run))
 
@@ -46,6 +52,18 @@ returns-in-Err-Usage-clause-done g c files told command spells records kept =
     let Parsed : UsageFault → Type 0 = λ fault. Parses c.args.words.now (Err fault) in
     let none : NoCommand c.args.words.now = subst Parsed c.in-Err-Usage.field-0-is c.in-Err-Usage.ensures in
     absurd (none command spells.spells)
+
+pub returns-in-Err-Usage-clause-asked : goal.returns-in-Err-Usage-clause-asked
+returns-in-Err-Usage-clause-asked g c command spells =
+    let Parsed : UsageFault → Type 0 = λ fault. Parses c.args.words.now (Err fault) in
+    let none : NoCommand c.args.words.now = subst Parsed c.in-Err-Usage.field-0-is c.in-Err-Usage.ensures in
+    absurd (none command spells.spells)
+
+pub returns-in-Ok-clause-asked : goal.returns-in-Ok-clause-asked
+returns-in-Ok-clause-asked g c command spells =
+    let Asked : Command → Type 0 = λ it. Asks g.I.Inputs (inputs_of it) c.args.inputs.now c.obey.new.inputs (is_ok c.obey.result) in
+    rw c.status_of.ensures.answer
+    (subst Asked (c.words_spell_one_command.ensures c.args.words.now c.in-Ok.command command c.in-Ok.ensures spells.spells) c.obey.ensures.asked)
 
 pub returns-in-Ok-clause-done : goal.returns-in-Ok-clause-done
 returns-in-Ok-clause-done g c files told command spells records kept =
