@@ -27,7 +27,7 @@ use vx_command_center::{
 };
 use vx_command_count::count_keeps_journals;
 use vx_command_decide::decide_keeps_journals;
-use vx_io::{Inputs, Keeper, Sink, Words};
+use vx_io::{Inputs, Keeper, Sink, Words, questions_asked};
 use vx_journal::{fronts_are_journals, journals_stay};
 use vx_words::{Command, UsageFault, parse, words_spell_one_command};
 use vx_workers::Gate;
@@ -71,6 +71,7 @@ fn center_words<R: Threads + Wait + Sync, I: Inputs, S: Sink, K: Keeper, G: Gate
 {
     acts_in_order();
     asks_in_order::<I>();
+    questions_asked();
     words_spell_one_command();
     centers_may_not_begin();
     if !is_center(words) {
