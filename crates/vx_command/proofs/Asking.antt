@@ -1,7 +1,7 @@
 -- Inputs that are taken one after the other.
-use Rattle.std.proofs.Common.{◌≡◌, ℕ, Bool, true, false, List, [], ◌∷◌, ◌++◌, refl, sym, ap, ◌∙◌, subst}
+use Rattle.std.proofs.Common.{◌≡◌, ◌+◌, ◌<◌, ◌≤◌, ℕ, Bool, true, false, List, [], ◌∷◌, ◌++◌, drop, get_or, length, take, refl, sym, ap, ◌∙◌, subst, take_all, take-append-drop}
 use Rattle.std.proofs.lemmas.Bool.{false≢true}
-use Rattle.std.proofs.lemmas.List.{append-nil, append_assoc}
+use Rattle.std.proofs.lemmas.List.{append-nil, append_assoc, drop_more, take_more}
 use Rattle.vx_io.specs.declared.outside.Inputs.{Ghosts as InputsOf}
 use Rattle.vx_io.specs.Asking.{Question, AsksFor}
 use Rattle.vx_io.specs.Laws.{AskedLaws}
@@ -51,6 +51,31 @@ module _ (laws : AskedLaws) {I : Type 0} (i : InputsOf I) where
         asked = laws.append (i.asked a) (i.asked b) (i.asked c) p.questions q.questions p.asked q.asked;
       }
 
+  -- one more of several was taken
+  pub one-more : (names : List (List ℕ)) (index : ℕ) (name : List ℕ) (a b c : I) → index < length names → name ≡ get_or names index [] → Asks i (take index names) a b true → Asks i (name ∷ []) b c true → Asks i (take (index + 1) names) a c true
+  one-more names index name a b c within is so_far taken =
+      let Taken : List (List ℕ) → Type 0 = λ some. Asks i some a c true in
+      let more : take (index + 1) names ≡ take index names ++ name ∷ [] =
+      take_more names index [] within ∙ ap (λ (next : List ℕ). take index names ++ next ∷ []) (sym is) in
+      subst Taken (sym more) (further-asked (take index names) (name ∷ []) a b c true so_far taken)
+
+  -- the next of several was asked for, and no further one
+  pub one-breaks : (names : List (List ℕ)) (index : ℕ) (name : List ℕ) (a b c : I) (all : Bool) → index < length names → name ≡ get_or names index [] → Asks i (take index names) a b true → Asks i (name ∷ []) b c all → Asks i names a c false
+  one-breaks names index name a b c all within is so_far asked =
+      let Broken : List (List ℕ) → Type 0 = λ some. Asks i some a c false in
+      let left : drop index names ≡ name ∷ drop (index + 1) names =
+      drop_more names index [] within ∙ ap (λ (next : List ℕ). next ∷ drop (index + 1) names) (sym is) in
+      let whole : take index names ++ name ∷ drop (index + 1) names ≡ names =
+      ap (λ (rest : List (List ℕ)). take index names ++ rest) (sym left) ∙ take-append-drop index names in
+      subst Broken whole
+      (further-asked (take index names) (name ∷ drop (index + 1) names) a b c false so_far (front-asked (name ∷ []) (drop (index + 1) names) b c all asked))
+
+  -- all of several were taken
+  pub all-taken : (names : List (List ℕ)) (index : ℕ) (a b : I) (all : Bool) → length names ≤ index → Asks i (take index names) a b true → Asks i names a b all
+  all-taken names index a b all past so_far =
+      let Taken : List (List ℕ) → Type 0 = λ some. Asks i some a b true in
+      ended-so names a b all (subst Taken (take_all index names past) so_far)
+
   pub ask-laws : AskLaws i
   ask-laws =
       record {
@@ -61,6 +86,9 @@ module _ (laws : AskedLaws) {I : Type 0} (i : InputsOf I) where
         then = λ name names a b c all p q. further-asked (name ∷ []) names a b c all p q;
         further = further-asked;
         front = front-asked;
+        one_more = one-more;
+        one_breaks = one-breaks;
+        all_taken = all-taken;
       }
 
 -- one input was asked for
