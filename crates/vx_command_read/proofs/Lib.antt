@@ -1,4 +1,5 @@
 pub mod ImageTexts
 pub mod ImageActs
 pub mod ScanActs
+pub mod Asked
 pub mod Told

@@ -1,7 +1,8 @@
-ghost use Rattle.std.specs.Prelude.{◌≡◌, ◌≤◌, ◌<◌, ◌+◌, ◌^◌, false, length, IfOk};
+ghost use Rattle.std.specs.Prelude.{◌≡◌, ◌≤◌, ◌<◌, ◌+◌, ◌^◌, ◌∷◌, [], false, length, is_ok, IfOk};
 ghost use Rattle.std.specs.Option.{ForSome};
 ghost use Rattle.vx_election_model.specs.Valid.{IsValid};
 ghost use Rattle.vx_layout.specs.Plans.{ArePlansOf};
+ghost use Rattle.vx_command.specs.Asking.{Asks};
 ghost use Rattle.vx_command.specs.Devices.{TouchesInputsAndSink, writes_nothing};
 ghost use Rattle.vx_command.specs.Done.{IsWritten};
 ghost use Rattle.vx_command_read.specs.Outcome.{scans_outcome};
@@ -11,7 +12,7 @@ use crate::images::read_scan;
 use std::alloc::Global;
 use std::mem::replace;
 use vx_base::Bytes;
-use vx_command::{Halt, INPUT_LIMIT, acts_in_order, steps_in_order, take_input};
+use vx_command::{Halt, INPUT_LIMIT, acts_in_order, asks_in_order, steps_in_order, take_input};
 use vx_count::CounterMemory;
 use vx_election_model::Election;
 use vx_io::{Inputs, Sink};
@@ -57,8 +58,10 @@ fn read_input<I: Inputs, S: Sink>(
         (S.taken out.old) (S.taken out.new) result) }
     ensures bound { IfOk result (λ next. next ≤ number + 67108864) }
     ensures devices { TouchesInputsAndSink I.Inputs S.Sink inputs.old inputs.new out.old out.new result }
+    ensures asked { Asks I.Inputs (name.now ∷ []) inputs.old inputs.new (is_ok result) }
     ensures late { writes_nothing false result ≡ false }
 {
+    asks_in_order::<I>();
     steps_in_order::<Bytes>();
     let last = replace(&mut memory.bytes, Bytes::new(alloc));
     let bytes = take_input(last, inputs, name, word, INPUT_LIMIT)?;
@@ -87,8 +90,10 @@ pub fn read_scans<I: Inputs, S: Sink>(
         IsWritten (scans_outcome election.now files 2 1 scans.now)
         (S.taken out.old) (S.taken out.new) result) }
     ensures devices { TouchesInputsAndSink I.Inputs S.Sink inputs.old inputs.new out.old out.new result }
+    ensures asked { Asks I.Inputs scans.now inputs.old inputs.new (is_ok result) }
     ensures late { writes_nothing false result ≡ false }
 {
+    asks_in_order::<I>();
     acts_in_order();
     let mut memory = ScanMemory::new(alloc);
     let mut number = 1;
