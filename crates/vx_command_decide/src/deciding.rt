@@ -1,6 +1,7 @@
-ghost use Rattle.std.specs.Prelude.{◌≡◌, true, false};
+ghost use Rattle.std.specs.Prelude.{◌≡◌, ◌∷◌, [], true, false, is_ok};
 ghost use Rattle.std.specs.Option.{ForSome};
 ghost use Rattle.vx_election_model.specs.Valid.{IsValid};
+ghost use Rattle.vx_command.specs.Asking.{Asks};
 ghost use Rattle.vx_command.specs.Devices.{LeavesDevices, writes_nothing};
 ghost use Rattle.vx_command.specs.Done.{IsDone};
 ghost use Rattle.vx_journal.specs.Steps.{once_read};
@@ -9,7 +10,7 @@ ghost use Rattle.vx_command_decide.specs.Outcome.{begun_outcome, decide_outcome,
 use crate::lines::decide_lines;
 use std::alloc::Global;
 use vx_base::Bytes;
-use vx_command::{Halt, acts_in_order, steps_in_order, take_election, take_input};
+use vx_command::{Halt, acts_in_order, asks_in_order, steps_in_order, take_election, take_input};
 use vx_election_model::Election;
 use vx_io::{Inputs, Keeper, Sink};
 use vx_journal::{Journal, begin_journal, journals_in_order, read_journal};
@@ -32,8 +33,10 @@ fn decide_script<I: Inputs, S: Sink, K: Keeper>(
         (S.taken out.old) (S.taken out.new) (K.held keeper.old) (K.held keeper.new) result) }
     ensures devices { LeavesDevices I.Inputs S.Sink K.Keeper inputs.old inputs.new out.old out.new
         keeper.old keeper.new result }
+    ensures asked { Asks I.Inputs (script.now ∷ []) inputs.old inputs.new (is_ok result) }
     ensures late { writes_nothing false result ≡ false }
 {
+    asks_in_order::<I>();
     steps_in_order::<Bytes>();
     let bytes = take_input(Bytes::new(alloc), inputs, script, 2, SCRIPT_LIMIT)?;
     decide_lines(alloc, election, journal, bytes.as_slice(), out, keeper)
@@ -56,8 +59,10 @@ fn decide_begun<I: Inputs, S: Sink, K: Keeper>(
         (S.taken out.old) (S.taken out.new) (K.held keeper.old) (K.held keeper.new) result) }
     ensures devices { LeavesDevices I.Inputs S.Sink K.Keeper inputs.old inputs.new out.old out.new
         keeper.old keeper.new result }
+    ensures asked { Asks I.Inputs (script.now ∷ []) inputs.old inputs.new (is_ok result) }
     ensures late { writes_nothing false result ≡ false }
 {
+    asks_in_order::<I>();
     acts_in_order();
     begin_journal(alloc, election, journal, keeper)?;
     decide_script(alloc, election, journal, script, inputs, out, keeper)
@@ -79,7 +84,9 @@ fn decide_for<I: Inputs, S: Sink, K: Keeper>(
     ensures nothing_written { writes_nothing false result ≡ true → S.taken out.new ≡ S.taken out.old }
     ensures devices { LeavesDevices I.Inputs S.Sink K.Keeper inputs.old inputs.new out.old out.new
         keeper.old keeper.new result }
+    ensures asked { Asks I.Inputs (script.now ∷ []) inputs.old inputs.new (is_ok result) }
 {
+    asks_in_order::<I>();
     journals_in_order();
     let mut journal = read_journal(alloc, election, keeper)?;
     decide_begun(alloc, election, &mut journal, script, inputs, out, keeper)
@@ -102,7 +109,9 @@ pub fn decide<I: Inputs, S: Sink, K: Keeper>(
     ensures nothing_written { writes_nothing false result ≡ true → S.taken out.new ≡ S.taken out.old }
     ensures devices { LeavesDevices I.Inputs S.Sink K.Keeper inputs.old inputs.new out.old out.new
         keeper.old keeper.new result }
+    ensures asked { Asks I.Inputs (election.now ∷ script.now ∷ []) inputs.old inputs.new (is_ok result) }
 {
+    asks_in_order::<I>();
     steps_in_order::<Election>();
     let given = take_election(alloc, inputs, election)?;
     decide_for(alloc, &given, script, inputs, out, keeper)
