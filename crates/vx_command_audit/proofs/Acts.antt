@@ -9,9 +9,11 @@ use Rattle.vx_audit.specs.declared.hand.HandLine.{HandLine}
 use Rattle.vx_audit.specs.declared.hand.HandFault.{HandFault}
 use Rattle.vx_audit.specs.declared.hand.HandFault.TheVariants as hand
 use Rattle.vx_audit.specs.Hand.{is_no_memory as is_no_memory_of_hand}
+use Rattle.vx_io.specs.declared.outside.Inputs.{Ghosts as InputsOf}
 use Rattle.vx_command.specs.declared.halt.Halt.{Halt}
 use Rattle.vx_command.specs.declared.halt.Halt.TheVariants as halt
 use Rattle.vx_command.specs.Acts.{Act, Answer, Take, Write, Outcome, writing, after as after_command, goes_on, taking, input_of, input_limit}
+use Rattle.vx_command.specs.Asking.{Asks}
 use Rattle.vx_command.specs.Devices.{is_keeper_fault, is_read_fault}
 use Rattle.vx_command.specs.Done.{Taken, IsDone, IsWritten, WritesTo, BreaksAt}
 use Rattle.vx_command.specs.Laws.{ActLaws, StepLaws}
@@ -20,7 +22,7 @@ use Rattle.vx_command_audit.specs.declared.status.AuditStatus.{AuditStatus}
 use Rattle.vx_command_audit.specs.declared.status.AuditStatus.TheVariants as audit
 use Rattle.vx_command_audit.specs.Done.{IsAuditDone, Comes}
 use Rattle.vx_command_audit.specs.Outcome.{AuditOutcome, as_command, ended, once_handed, once_read, once_taken, writes}
-use Rattle.vx_command_audit.specs.Status.{answer_of, hand_status, report_status, may_have_written, IsStop}
+use Rattle.vx_command_audit.specs.Status.{answer_of, hand_status, report_status, is_done, may_have_written, IsStop}
 
 -- the rest is done, so the whole is
 pub comes_done : (whole rest : AuditOutcome) (a c : Taken) (status : AuditStatus) → Comes whole rest a → IsAuditDone rest a c status
@@ -171,3 +173,13 @@ written_late text a b cause status other written is =
       | inl whole ↦ (let same = whole.same_answer in absurd cc)
       | inr breaks ↦ breaks_late status cause done.left done.text done.records other is breaks
     ]
+
+-- a status other than that one isn't the end of all
+not_done : (status : AuditStatus) → (status ≡ audit.Ok → ⊥) → is_done status ≡ false
+not_done audit.Ok other = absurd (other refl)
+not_done status other = refl
+
+-- inputs that weren't all asked for, by a status other than that one
+pub asked_front : {I : Type 0} (i : InputsOf I) (names : List (List ℕ)) (a b : I) (status : AuditStatus) → (status ≡ audit.Ok → ⊥)
+    → Asks i names a b false → Asks i names a b (is_done status)
+asked_front i names a b status other asked = subst (λ (all : Bool). Asks i names a b all) (sym (not_done status other)) asked

@@ -8,6 +8,7 @@ use Rattle.vx_command.specs.Devices.{LeavesInputs, is_write_fault}
 use Rattle.vx_command.specs.Done.{Taken, IsWritten, WritesTo}
 use Rattle.vx_command_audit.specs.declared.status.AuditStatus.{AuditStatus}
 use Rattle.vx_command_audit.specs.declared.status.AuditStatus.TheVariants.{Usage}
+use Rattle.vx_command_audit.specs.declared.status.AuditStatus.TheVariants as variants
 use Rattle.vx_command_audit.specs.Outcome.{AuditOutcome, as_command, with_hand, with_report}
 use Rattle.vx_command_audit.specs.Status.{answer_of}
 
@@ -39,8 +40,10 @@ abbrev pub step_answer : {A : Type 0} → Result A AuditStatus → Answer
 step_answer (Ok given) = Ok tt
 step_answer (Err status) = answer_of status
 
--- a step that takes and reads an input touches the inputs alone, and never answers that the words are no command
+-- a step that takes and reads an input touches the inputs alone, and never answers that the words are no command, or that
+-- all was done
 pub record LeavesReading {I A : Type 0} (i : InputsOf I) (before now : I) (result : Result A AuditStatus) : Type 0 where
   pub inputs : LeavesInputs i before now (step_answer result)
   pub no_write_fault : is_write_fault (step_answer result) ≡ false
   pub no_usage : IfErr result (λ status. status ≢ Usage)
+  pub no_end : IfErr result (λ status. status ≢ variants.Ok)

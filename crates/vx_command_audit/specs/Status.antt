@@ -25,6 +25,11 @@ answer_of WriteFault = std.Err halt.WriteFault
 answer_of NoMemory = std.Err halt.NoMemory
 answer_of status = std.Ok tt
 
+-- a command that ends so has taken all its inputs, and its text was written
+abbrev pub is_done : AuditStatus → Bool
+is_done Ok = true
+is_done status = false
+
 -- a command that ends so has accepted all its inputs and may have written
 abbrev pub may_have_written : AuditStatus → Bool
 may_have_written Ok = true

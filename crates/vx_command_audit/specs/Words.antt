@@ -9,6 +9,11 @@ pub data Asked : Type 0 where
   Totals : List ℕ → Asked
   Audit : List ℕ → List ℕ → ℕ → List ℕ → Asked
 
+-- the names of the inputs that this takes, in their order
+abbrev pub names_of : Asked → List (List ℕ)
+names_of (Totals report) = report ∷ []
+names_of (Audit report seed size hand) = report ∷ hand ∷ []
+
 -- `totals REPORT`
 pub record SpellsTotals (words : List (List ℕ)) (report : List ℕ) : Type 0 where
   pub words_are : words ≡ codes "totals" ∷ report ∷ []

@@ -1,6 +1,7 @@
-ghost use Rattle.std.specs.Prelude.{IfOk};
+ghost use Rattle.std.specs.Prelude.{◌∷◌, [], IfOk, is_ok};
 ghost use Rattle.std.specs.Option.{ForSome};
 ghost use Rattle.vx_audit.specs.Sized.{IsSized};
+ghost use Rattle.vx_command.specs.Asking.{Asks};
 ghost use Rattle.vx_command.specs.Done.{Taken};
 ghost use Rattle.vx_command_audit.specs.Done.{LeavesReading, TakesHand, TakesReport};
 
@@ -8,7 +9,7 @@ use crate::status::{AuditStatus, status_of_halt, status_of_hand, status_of_repor
 use std::alloc::Global;
 use vx_audit::{Hand, read_hand, read_sized};
 use vx_base::Bytes;
-use vx_command::{INPUT_LIMIT, acts_in_order, steps_in_order, take_input};
+use vx_command::{INPUT_LIMIT, acts_in_order, asks_in_order, steps_in_order, take_input};
 use vx_io::Inputs;
 use vx_tally::Report;
 
@@ -21,8 +22,10 @@ pub(crate) fn take_report<I: Inputs>(
     ensures done { ForSome (I.held inputs.old) (λ files.
         (taken : Taken) → TakesReport (files name.now) taken result) }
     ensures inputs { LeavesReading I.Inputs inputs.old inputs.new result }
+    ensures asked { Asks I.Inputs (name.now ∷ []) inputs.old inputs.new (is_ok result) }
     ensures sized { IfOk result IsSized }
 {
+    asks_in_order::<I>();
     acts_in_order();
     steps_in_order::<Bytes>();
     let bytes = match take_input(Bytes::new(alloc), inputs, name, 1, INPUT_LIMIT) {
@@ -46,7 +49,9 @@ pub(crate) fn take_hand<I: Inputs>(
     ensures done { ForSome (I.held inputs.old) (λ files.
         (taken : Taken) → TakesHand report.now (files name.now) taken result) }
     ensures inputs { LeavesReading I.Inputs inputs.old inputs.new result }
+    ensures asked { Asks I.Inputs (name.now ∷ []) inputs.old inputs.new (is_ok result) }
 {
+    asks_in_order::<I>();
     acts_in_order();
     steps_in_order::<Bytes>();
     let bytes = match take_input(Bytes::new(alloc), inputs, name, 4, INPUT_LIMIT) {

@@ -1,17 +1,19 @@
-ghost use Rattle.std.specs.Prelude.{◌≡◌, ◌≢◌, ◌↔◌, false, Some};
+ghost use Rattle.std.specs.Prelude.{◌≡◌, ◌≢◌, ◌↔◌, ◌∷◌, [], false, Some};
 ghost use Rattle.std.specs.Option.{ForSome};
 ghost use Rattle.vx_io.specs.Outside.{Files};
+ghost use Rattle.vx_command.specs.Asking as asking;
 ghost use Rattle.vx_command.specs.Devices.{TouchesInputsAndSink};
 ghost use Rattle.vx_command_audit.specs.Done.{IsAuditDone};
 ghost use Rattle.vx_command_audit.specs.Outcome.{asked_outcome};
-ghost use Rattle.vx_command_audit.specs.Status.{answer_of, may_have_written};
-ghost use Rattle.vx_command_audit.specs.Words.{Asked, Audit, Totals, Asks, AsksNothing};
+ghost use Rattle.vx_command_audit.specs.Status.{answer_of, is_done, may_have_written};
+ghost use Rattle.vx_command_audit.specs.Words.{Asked, Audit, Totals, Asks, AsksNothing, names_of};
 
 use crate::asking::{is_audit_form, totals_in};
 use crate::status::AuditStatus;
 use crate::taking::{take_hand, take_report};
 use crate::writing::{write_audit, write_totals};
 use std::alloc::Global;
+use vx_command::asks_in_order;
 use vx_io::{Inputs, Sink, Words};
 use vx_words::{sample_seed, sample_size};
 
@@ -21,8 +23,10 @@ fn totals<I: Inputs, S: Sink>(alloc: Global, name: &str, inputs: &mut I, out: &m
         IsAuditDone (asked_outcome (Totals name.now) files) (S.taken out.old) (S.taken out.new) result) }
     ensures nothing_written { may_have_written result ≡ false → S.taken out.new ≡ S.taken out.old }
     ensures devices { TouchesInputsAndSink I.Inputs S.Sink inputs.old inputs.new out.old out.new (answer_of result) }
+    ensures asked { asking.Asks I.Inputs (name.now ∷ []) inputs.old inputs.new (is_done result) }
     ensures no_usage { result ≢ AuditStatus.Usage }
 {
+    asks_in_order::<I>();
     match take_report(alloc, name, inputs) {
         Ok(report) => write_totals(alloc, &report, out),
         Err(status) => status,
@@ -44,8 +48,10 @@ fn audit<I: Inputs, S: Sink>(
         (S.taken out.old) (S.taken out.new) result) }
     ensures nothing_written { may_have_written result ≡ false → S.taken out.new ≡ S.taken out.old }
     ensures devices { TouchesInputsAndSink I.Inputs S.Sink inputs.old inputs.new out.old out.new (answer_of result) }
+    ensures asked { asking.Asks I.Inputs (name.now ∷ hand.now ∷ []) inputs.old inputs.new (is_done result) }
     ensures no_usage { result ≢ AuditStatus.Usage }
 {
+    asks_in_order::<I>();
     let report = match take_report(alloc, name, inputs) {
         Ok(report) => report,
         Err(status) => return status,
@@ -77,6 +83,8 @@ pub fn run_audit<I: Inputs, S: Sink>(
     // Of inputs that don't tell, too.
     ensures nothing_written { may_have_written result ≡ false → S.taken out.new ≡ S.taken out.old }
     ensures devices { TouchesInputsAndSink I.Inputs S.Sink inputs.old inputs.new out.old out.new (answer_of result) }
+    ensures asked { (asked : Asked) → Asks words.now asked →
+        asking.Asks I.Inputs (names_of asked) inputs.old inputs.new (is_done result) }
 {
     if let Some(report) = totals_in(words) {
         return totals(alloc, report, inputs, out);

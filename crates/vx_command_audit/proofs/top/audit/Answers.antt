@@ -1,9 +1,9 @@
-use Rattle.std.proofs.Common.{◌∙◌, List}
+use Rattle.std.proofs.Common.{◌∙◌, false, List, [], ◌∷◌}
 use Rattle.vx_base.proofs.Booleans.{not-both}
 use Rattle.vx_tally.specs.declared.report.Report.{Report}
 use Rattle.vx_command_audit.specs.Outcome.{AuditOutcome, asked_outcome, audited, with_hand}
 use Rattle.vx_command_audit.specs.Words.{Audit}
-use Rattle.vx_command_audit.proofs.Acts.{comes_done}
+use Rattle.vx_command_audit.proofs.Acts.{asked_front, comes_done}
 use Rattle.vx_command_audit.proofs.top.audit.Goals as goal
 
 pub returns-in-Err-clause-done : goal.returns-in-Err-clause-done
@@ -36,3 +36,15 @@ returns-clause-done g c files told =
 
 pub returns-in-Ok-take_hand-clause-nothing_written : goal.returns-in-Ok-take_hand-clause-nothing_written
 returns-in-Ok-take_hand-clause-nothing_written g c never = absurd (not-both _ c.write_audit.ensures.late never)
+
+pub returns-in-Err-clause-asked : goal.returns-in-Err-clause-asked
+returns-in-Err-clause-asked g c =
+    asked_front g.I.Inputs (c.args.name.now ∷ c.args.hand.now ∷ []) c.args.inputs.now c.take_report.new.inputs c.in-Err.status c.in-Err.ensures.inputs.no_end
+    (c.asks_in_order.ensures.broken c.args.name.now (c.args.hand.now ∷ []) c.args.inputs.now c.take_report.new.inputs false c.in-Err.ensures.asked)
+
+pub returns-clause-asked : goal.returns-clause-asked
+returns-clause-asked g c =
+    asked_front g.I.Inputs (c.args.name.now ∷ c.args.hand.now ∷ []) c.args.inputs.now c.take_hand.new.inputs c.in-Err-take_hand.status
+    c.in-Err-take_hand.ensures.inputs.no_end
+    (c.asks_in_order.ensures.then c.args.name.now (c.args.hand.now ∷ []) c.args.inputs.now c.take_report.new.inputs c.take_hand.new.inputs false
+    c.in-Ok.ensures.asked c.in-Err-take_hand.ensures.asked)

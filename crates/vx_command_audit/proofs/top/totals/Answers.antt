@@ -1,8 +1,9 @@
+use Rattle.std.proofs.Common.{[], ◌∷◌}
 use Rattle.vx_base.proofs.Booleans.{not-both}
 use Rattle.vx_audit.specs.Totals.{totals_text}
 use Rattle.vx_command_audit.specs.Outcome.{asked_outcome, writes}
 use Rattle.vx_command_audit.specs.Words.{Totals}
-use Rattle.vx_command_audit.proofs.Acts.{comes_done}
+use Rattle.vx_command_audit.proofs.Acts.{asked_front, comes_done}
 use Rattle.vx_command_audit.proofs.top.totals.Goals as goal
 
 pub returns-in-Ok-clause-done : goal.returns-in-Ok-clause-done
@@ -17,3 +18,8 @@ returns-in-Err-clause-done g c files told =
 
 pub returns-in-Ok-clause-nothing_written : goal.returns-in-Ok-clause-nothing_written
 returns-in-Ok-clause-nothing_written g c never = absurd (not-both _ c.write_totals.ensures.late never)
+
+pub returns-in-Err-clause-asked : goal.returns-in-Err-clause-asked
+returns-in-Err-clause-asked g c =
+    asked_front g.I.Inputs (c.args.name.now ∷ []) c.args.inputs.now c.take_report.new.inputs c.in-Err.status c.in-Err.ensures.inputs.no_end
+    c.in-Err.ensures.asked
