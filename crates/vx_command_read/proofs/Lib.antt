@@ -1,5 +1,4 @@
 pub mod ImageTexts
 pub mod ImageActs
 pub mod ScanActs
-pub mod Asked
 pub mod Told
