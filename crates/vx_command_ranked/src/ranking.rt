@@ -1,7 +1,8 @@
-ghost use Rattle.std.specs.Prelude.{◌≡◌, false};
+ghost use Rattle.std.specs.Prelude.{◌≡◌, ◌∷◌, [], false, is_ok};
 ghost use Rattle.std.specs.Option.{ForSome};
 ghost use Rattle.vx_election_model.specs.Valid.{IsValid};
 ghost use Rattle.vx_layout.specs.Plans.{ArePlansOf};
+ghost use Rattle.vx_command.specs.Asking.{Asks};
 ghost use Rattle.vx_command.specs.Devices.{LeavesDevices, TouchesInputsAndSink};
 ghost use Rattle.vx_command_ranked.specs.Done.{IsRankedDone, IsRankedWritten};
 ghost use Rattle.vx_command_ranked.specs.Outcome.{file_outcome, journal_outcome, ranked_outcome};
@@ -11,7 +12,9 @@ use crate::writing::write_rounds;
 use std::alloc::Global;
 use vx_base::Bytes;
 use vx_center::Center;
-use vx_command::{Halt, INPUT_LIMIT, plan_all, steps_in_order, take_election, take_input};
+use vx_command::{
+    Halt, INPUT_LIMIT, asks_in_order, plan_all, steps_in_order, take_election, take_input,
+};
 use vx_election_model::Election;
 use vx_io::{Inputs, Keeper, Sink};
 use vx_journal::{journals_in_order, read_journal};
@@ -36,7 +39,9 @@ fn rank_file<I: Inputs, S: Sink>(
         (S.taken out.old) (S.taken out.new) (status_of result)) }
     ensures nothing_written { may_have_written (status_of result) ≡ false → S.taken out.new ≡ S.taken out.old }
     ensures devices { TouchesInputsAndSink I.Inputs S.Sink inputs.old inputs.new out.old out.new result }
+    ensures asked { Asks I.Inputs (ranked.now ∷ []) inputs.old inputs.new (is_ok result) }
 {
+    asks_in_order::<I>();
     steps_in_order::<Bytes>();
     let bytes = take_input(Bytes::new(alloc), inputs, ranked, 2, INPUT_LIMIT)?;
     write_rounds(alloc, election, plans, center, bytes.as_slice(), out)
@@ -61,7 +66,9 @@ fn rank_journal<I: Inputs, S: Sink, K: Keeper>(
     ensures held { K.held keeper.new ≡ K.held keeper.old }
     ensures devices { LeavesDevices I.Inputs S.Sink K.Keeper inputs.old inputs.new out.old out.new
         keeper.old keeper.new result }
+    ensures asked { Asks I.Inputs (ranked.now ∷ []) inputs.old inputs.new (is_ok result) }
 {
+    asks_in_order::<I>();
     journals_in_order();
     let journal = read_journal(alloc, election, keeper)?;
     rank_file(alloc, election, plans, &journal.center, ranked, inputs, out)
@@ -84,7 +91,9 @@ pub(crate) fn rank<I: Inputs, S: Sink, K: Keeper>(
     ensures held { K.held keeper.new ≡ K.held keeper.old }
     ensures devices { LeavesDevices I.Inputs S.Sink K.Keeper inputs.old inputs.new out.old out.new
         keeper.old keeper.new result }
+    ensures asked { Asks I.Inputs (election.now ∷ ranked.now ∷ []) inputs.old inputs.new (is_ok result) }
 {
+    asks_in_order::<I>();
     steps_in_order::<Election>();
     steps_in_order::<CardPlans>();
     let given = take_election(alloc, inputs, election)?;

@@ -1,5 +1,6 @@
-ghost use Rattle.std.specs.Prelude.{◌≡◌, ◌↔◌, ℕ, List, false, Some};
+ghost use Rattle.std.specs.Prelude.{◌≡◌, ◌↔◌, ◌∷◌, [], ℕ, List, false, is_ok, Some};
 ghost use Rattle.vx_io.specs.Outside.{Files};
+ghost use Rattle.vx_command.specs.Asking.{Asks};
 ghost use Rattle.vx_command.specs.Devices.{LeavesDevices};
 ghost use Rattle.vx_command_ranked.specs.Done.{IsRankedDone};
 ghost use Rattle.vx_command_ranked.specs.Outcome.{ranked_outcome};
@@ -39,6 +40,8 @@ pub fn run_ranked<I: Inputs, S: Sink, K: Keeper>(
     ensures nothing_appended { K.held keeper.new ≡ K.held keeper.old }
     ensures devices { LeavesDevices I.Inputs S.Sink K.Keeper inputs.old inputs.new out.old out.new
         keeper.old keeper.new (answer_of result) }
+    ensures asked { (election ranked : List ℕ) → SpellsRanked words.now election ranked →
+        Asks I.Inputs (election ∷ ranked ∷ []) inputs.old inputs.new (is_ok (answer_of result)) }
 {
     match ranked_words(words) {
         None => RankedStatus::Usage,

@@ -1,4 +1,4 @@
-use Rattle.std.proofs.Common.{◌∙◌, List, Err, ap}
+use Rattle.std.proofs.Common.{◌∙◌, true, List, [], ◌∷◌, Err, ap}
 use Rattle.std.proofs.lemmas.Result.{err_from_is_err_and}
 use Rattle.vx_election_model.specs.declared.election.Election.{Election}
 use Rattle.vx_layout.specs.declared.plan.CardPlan.{CardPlan}
@@ -47,3 +47,9 @@ returns-clause-done g c files told records kept =
     (comes_done (planned_outcome given file records) (planned plans) out out out_now held held held_now ends
     (gone_on c.steps_in_order-2.ensures (plans_in given) planned out held plans c.in_ok-plans.ensures.exact)
     (c.rank_journal.ensures.done files (c.take_election.ensures.inputs.inputs.same ∙ told) records kept))
+
+pub returns-in_err-plans-clause-asked : goal.returns-in_err-plans-clause-asked
+returns-in_err-plans-clause-asked g c =
+    let err = err_from_is_err_and c.from_residual-in_err-plans.result c.from_residual-in_err-plans.ensures.1 in
+    rw (err.1 ∙ ap Err err.2)
+    (c.asks_in_order.ensures.broken c.args.election.now (c.args.ranked.now ∷ []) c.args.inputs.now c.take_election.new.inputs true c.in_ok-given.ensures.asked)
