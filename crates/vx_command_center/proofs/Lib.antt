@@ -1,4 +1,5 @@
 mod Appended
+mod Asking
 mod Centered
 mod Chosen
 mod Closing

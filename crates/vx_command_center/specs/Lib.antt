@@ -1,3 +1,4 @@
+pub mod Asking
 pub mod Histories
 pub mod Items
 pub mod Laws

@@ -1,9 +1,10 @@
-ghost use Rattle.std.specs.Prelude.{◌≡◌, ◌<◌, ◌≤◌, All, true, false, length};
+ghost use Rattle.std.specs.Prelude.{◌≡◌, ◌<◌, ◌≤◌, All, true, false, is_ok, length};
 ghost use Rattle.std.specs.Option.{ForSome};
 ghost use Rattle.vx_election_model.specs.Valid.{IsValid};
 ghost use Rattle.vx_layout.specs.Plans.{ArePlansOf};
 ghost use Rattle.vx_words.specs.Items.{AreItemWords};
 ghost use Rattle.vx_command.specs.Devices.{LeavesDevices, TouchesSinkAndKeeper};
+ghost use Rattle.vx_command_center.specs.Asking.{AsksAsCenter, AsksItems};
 ghost use Rattle.vx_command_center.specs.Items.{FitsItem, possible_in_all};
 ghost use Rattle.vx_command_center.specs.Runs.{Centers, CentersItems, CentersJournal, CentersPlanned, CentersSet, is_refusal};
 
@@ -16,7 +17,7 @@ use std::sync::Wait;
 use std::thread::{Threads, map_vec};
 use vx_command::{Halt, acts_in_order, plan_all, steps_in_order, take_election};
 use vx_election_model::Election;
-use vx_io::{Inputs, Keeper, Sink};
+use vx_io::{Inputs, Keeper, Sink, questions_asked};
 use vx_journal::{Journal, journals_in_order, read_journal};
 use vx_layout::CardPlans;
 use vx_shared::lists_have_histories;
@@ -88,6 +89,7 @@ fn center_read<'e, R: Threads + Wait + Sync, I: Inputs, S: Sink, K: Keeper, G: G
     ensures nothing_kept { is_refusal result ≡ true → K.held keeper.new ≡ K.held keeper.old }
     ensures devices { LeavesDevices I.Inputs S.Sink K.Keeper inputs.old inputs.new out.old out.new
         keeper.old keeper.new result }
+    ensures asked { AsksItems I.Inputs items.now inputs.old inputs.new (is_ok result) }
 {
     lists_have_histories();
     let taken = take_items(rt, alloc, election, items, inputs)?;
@@ -120,7 +122,9 @@ fn center_set<R: Threads + Wait + Sync, I: Inputs, S: Sink, K: Keeper, G: Gate>(
     ensures nothing_kept { is_refusal result ≡ true → K.held keeper.new ≡ K.held keeper.old }
     ensures devices { LeavesDevices I.Inputs S.Sink K.Keeper inputs.old inputs.new out.old out.new
         keeper.old keeper.new result }
+    ensures asked { AsksItems I.Inputs items.now inputs.old inputs.new (is_ok result) }
 {
+    questions_asked();
     journals_in_order();
     lists_have_histories();
     let journal = read_journal(alloc, election, keeper)?;
@@ -151,7 +155,9 @@ fn center_planned<R: Threads + Wait + Sync, I: Inputs, S: Sink, K: Keeper, G: Ga
     ensures nothing_kept { is_refusal result ≡ true → K.held keeper.new ≡ K.held keeper.old }
     ensures devices { LeavesDevices I.Inputs S.Sink K.Keeper inputs.old inputs.new out.old out.new
         keeper.old keeper.new result }
+    ensures asked { AsksItems I.Inputs items.now inputs.old inputs.new (is_ok result) }
 {
+    questions_asked();
     steps_in_order::<CardPlans>();
     lists_have_histories();
     let plans = plan_all(alloc, election)?;
@@ -187,7 +193,9 @@ pub fn center<R: Threads + Wait + Sync, I: Inputs, S: Sink, K: Keeper, G: Gate>(
     ensures nothing_kept { is_refusal result ≡ true → K.held keeper.new ≡ K.held keeper.old }
     ensures devices { LeavesDevices I.Inputs S.Sink K.Keeper inputs.old inputs.new out.old out.new
         keeper.old keeper.new result }
+    ensures asked { AsksAsCenter I.Inputs election.now items.now inputs.old inputs.new (is_ok result) }
 {
+    questions_asked();
     steps_in_order::<Election>();
     lists_have_histories();
     let given = take_election(alloc, inputs, election)?;

@@ -1,7 +1,9 @@
 //! Memory for what the items' inputs hold. New memory takes longer to be had than a scan takes to be read into
 //! it, so threads make that of the items behind the first ready, while the inputs before are read.
-ghost use Rattle.std.specs.Prelude.{◌≡◌, IfErr, IfOk, length};
+ghost use Rattle.std.specs.Prelude.{◌≡◌, ◌∷◌, [], IfErr, IfOk, is_ok, length};
 ghost use Rattle.vx_command.specs.Devices.{TouchesInputs};
+ghost use Rattle.vx_command_center.specs.Asking.{AsksSizes, names_of};
+ghost use Rattle.vx_command_center.specs.Outcome.{name_in};
 ghost use Rattle.vx_command_center.specs.Taking.{BreaksBefore};
 
 use crate::item::input_for;
@@ -9,16 +11,18 @@ use std::alloc::Global;
 use std::thread::{JoinHandle, Threads, spawn};
 use vx_base::{Bytes, ListOf, OutOfMemory};
 use vx_command::Halt;
-use vx_io::Inputs;
+use vx_io::{Inputs, questions_asked};
 use vx_words::ItemWord;
 
 /// A thread that makes memory ready for an input; none where the memory is had when the input is read.
 pub(crate) type Room = Option<JoinHandle<Result<Bytes, OutOfMemory>>>;
 
 /// How many bytes the input of an item has; 0 where there is none, or more than it may have.
+#[tactic(auto, using(crate::proofs::Asking::one_sized))]
 fn length_for<I: Inputs>(item: &ItemWord, inputs: &mut I) -> Result<usize, Halt>
     ensures broke { IfErr result BreaksBefore }
     ensures inputs { TouchesInputs I.Inputs inputs.old inputs.new result }
+    ensures asked { AsksSizes I.Inputs (name_in item.now ∷ []) inputs.old inputs.new (is_ok result) }
 {
     let (name, limit) = input_for(item);
     match inputs.size(name) {
@@ -37,7 +41,9 @@ fn lengths_for<I: Inputs>(
     ensures as_many { IfOk result (λ lengths. length lengths ≡ length words.now) }
     ensures broke { IfErr result BreaksBefore }
     ensures inputs { TouchesInputs I.Inputs inputs.old inputs.new result }
+    ensures asked { AsksSizes I.Inputs (names_of words.now) inputs.old inputs.new (is_ok result) }
 {
+    questions_asked();
     let mut lengths = ListOf::new(alloc);
     for item in words {
         let length = length_for(item, inputs)?;
@@ -86,6 +92,7 @@ pub(crate) fn rooms_for<R: Threads, I: Inputs>(
 ) -> Result<Vec<Room>, Halt>
     ensures broke { IfErr result BreaksBefore }
     ensures inputs { TouchesInputs I.Inputs inputs.old inputs.new result }
+    ensures asked { AsksSizes I.Inputs (names_of words.now) inputs.old inputs.new (is_ok result) }
 {
     let lengths = lengths_for(alloc, words, inputs)?;
     let rooms = begin_rooms(rt, alloc, lengths.as_slice())?;

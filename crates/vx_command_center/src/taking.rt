@@ -1,11 +1,13 @@
 //! The items of a command, taken one after another.
-ghost use Rattle.std.specs.Prelude.{◌≡◌, ◌+◌, ◌≤◌, All, IfOk, length};
+ghost use Rattle.std.specs.Prelude.{◌≡◌, ◌+◌, ◌≤◌, ◌∷◌, [], All, IfOk, is_ok, length};
 ghost use Rattle.std.specs.Option.{ForSome};
 ghost use Rattle.vx_base.specs.Refusals.{Gives};
 ghost use Rattle.vx_election_model.specs.Valid.{IsValid};
+ghost use Rattle.vx_command.specs.Asking.{Asks};
 ghost use Rattle.vx_command.specs.Devices.{TouchesInputs, TouchesNothing};
 ghost use Rattle.vx_command.specs.Steps.{GivesTaking, is_no_memory};
 ghost use Rattle.vx_words.specs.Items.{AreItemWords, IsItem};
+ghost use Rattle.vx_command_center.specs.Asking.{AsksItems, names_of};
 ghost use Rattle.vx_command_center.specs.Items.{FitsItem, possible_in_all, possible_of};
 ghost use Rattle.vx_command_center.specs.Outcome as outcome;
 ghost use Rattle.vx_command_center.specs.Outcome.{item_in, limit_of, name_in, taken_item};
@@ -17,9 +19,9 @@ use crate::rooms::{Room, leave_rooms, next_room, rooms_for};
 use std::alloc::Global;
 use std::thread::Threads;
 use vx_base::Bytes;
-use vx_command::{Halt, acts_in_order, steps_in_order, take_input};
+use vx_command::{Halt, acts_in_order, asks_in_order, steps_in_order, take_input};
 use vx_election_model::Election;
-use vx_io::Inputs;
+use vx_io::{Inputs, questions_asked};
 use vx_words::ItemWord;
 
 /// The most events that a shared center takes.
@@ -81,7 +83,9 @@ fn take_item<I: Inputs>(
     ensures fits { IfOk result (FitsItem election.now) }
     ensures within { IfOk result (λ taken. before + possible_of taken ≤ 1000000) }
     ensures inputs { TouchesInputs I.Inputs inputs.old inputs.new result }
+    ensures asked { Asks I.Inputs (name_in item.now ∷ []) inputs.old inputs.new (is_ok result) }
 {
+    asks_in_order::<I>();
     let (name, limit) = input_for(item);
     let bytes = take_input(room, inputs, name, word, limit)?;
     let taken = item_of(alloc, election, word, item, bytes)?;
@@ -104,8 +108,10 @@ fn take_into<R: Threads, I: Inputs>(
     ensures as_many { IfOk result (λ items. length items ≡ length words.now) }
     ensures within { IfOk result (λ items. possible_in_all items ≤ 1000000) }
     ensures inputs { TouchesInputs I.Inputs inputs.old inputs.new result }
+    ensures asked { Asks I.Inputs (names_of words.now) inputs.old inputs.new (is_ok result) }
 {
     acts_in_order();
+    asks_in_order::<I>();
     steps_in_order::<Item>();
     let mut items = Items::new(alloc);
     let mut word = 4;
@@ -135,7 +141,9 @@ pub(crate) fn take_items<R: Threads, I: Inputs>(
     ensures as_many { IfOk result (λ items. length items ≡ length words.now) }
     ensures within { IfOk result (λ items. possible_in_all items ≤ 1000000) }
     ensures inputs { TouchesInputs I.Inputs inputs.old inputs.new result }
+    ensures asked { AsksItems I.Inputs words.now inputs.old inputs.new (is_ok result) }
 {
+    questions_asked();
     steps_in_order::<Item>();
     let mut rooms = rooms_for(rt, alloc, words, inputs)?;
     let taken = take_into(rt, alloc, election, &mut rooms, words, inputs);

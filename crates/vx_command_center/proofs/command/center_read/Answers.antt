@@ -1,5 +1,6 @@
 use Rattle.std.proofs.Common.{Err, ap, ◌∙◌}
 use Rattle.std.proofs.lemmas.Result.{err_from_is_err_and}
+use Rattle.vx_command_center.proofs.Asking.{items_ended}
 use Rattle.vx_command_center.proofs.Centered.{items_done, items_stopped}
 use Rattle.vx_command_center.proofs.command.center_read.Goals as goal
 
@@ -14,3 +15,6 @@ pub returns-clause-done : goal.returns-clause-done
 returns-clause-done g c files told =
     items_done c.args.election.now c.args.moment.now c.args.device.now c.args.items.now files c.args.journal (g.S.Sink.taken c.args.out.now) (g.S.Sink.taken c.do_items.new.out) (g.K.Keeper.held c.args.keeper.now) (g.K.Keeper.held c.do_items.new.keeper)
     c.in_ok-taken.taken c.do_items.result (c.in_ok-taken.ensures.told files told) c.do_items.ensures.done
+
+pub returns-clause-asked : goal.returns-clause-asked
+returns-clause-asked g c = items_ended g.I.Inputs c.args.items.now _ _ _ c.in_ok-taken.ensures.asked

@@ -2,6 +2,7 @@ use Rattle.std.proofs.Common.{Err, ap, subst, sym, ◌∙◌}
 use Rattle.std.proofs.lemmas.Result.{err_from_is_err_and}
 use Rattle.vx_command.specs.Done.{Held}
 use Rattle.vx_command_center.specs.Runs.{CentersJournal, CentersSet}
+use Rattle.vx_command_center.proofs.Asking.{items_unasked}
 use Rattle.vx_command_center.proofs.Centered.{journal_done, journal_stopped}
 use Rattle.vx_command_center.proofs.command.center_set.Goals as goal
 
@@ -27,3 +28,9 @@ returns-clause-done g c files told records kept =
     journal_done c.args.election.now c.args.moment.now c.args.device.now c.args.items.now files records taken taken_now held held_now
     c.journals_in_order.ensures c.in_ok-journal.journal c.center_read.result (c.in_ok-journal.ensures.told records kept)
     (subst Read c.in_ok-journal.ensures.held (c.center_read.ensures.done files told))
+
+pub returns-in_err-journal-clause-asked : goal.returns-in_err-journal-clause-asked
+returns-in_err-journal-clause-asked g c =
+    let err = err_from_is_err_and c.from_residual.result c.from_residual.ensures.1 in
+    rw (err.1 ∙ ap Err err.2)
+    (items_unasked g.I.Inputs c.questions_asked.ensures c.args.items.now _)

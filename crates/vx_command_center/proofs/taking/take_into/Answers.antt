@@ -1,4 +1,4 @@
-use Rattle.std.proofs.Common.{◌≡◌, ℕ, ◌+◌, List, [], ◌∷◌, ◌++◌, drop, length, Some, Err, refl, sym, ap, subst, ◌∙◌, arith, length-append}
+use Rattle.std.proofs.Common.{◌≡◌, ℕ, ◌+◌, false, true, List, [], ◌∷◌, ◌++◌, drop, length, Some, Err, refl, sym, ap, subst, ◌∙◌, arith, length-append}
 use Rattle.std.specs.Prelude.{All}
 use Rattle.std.proofs.lemmas.List.Elements.{All-append, All-cons, All-nil}
 use Rattle.std.proofs.lemmas.Result.{err_from_is_err_and}
@@ -6,6 +6,7 @@ use Rattle.vx_io.specs.Outside.{Files}
 use Rattle.vx_command.specs.declared.halt.Halt.TheVariants.{NoMemory}
 use Rattle.vx_command_center.specs.declared.item.Item.{Item}
 use Rattle.vx_command_center.specs.Items.{FitsItem, possible_in_all, possible_of}
+use Rattle.vx_command_center.proofs.Asking.{all_taken, more_taken, taking_stopped}
 use Rattle.vx_command_center.proofs.Taken.{HasTaken, has_all, has_one, has_stopped, none_taken, possible_more}
 use Rattle.vx_command_center.proofs.taking.take_into.Goals as goal
 
@@ -52,6 +53,7 @@ loop-item-preserved g c =
           let all : length c.push.new.self ≡ length (items ++ taken ∷ []) = ap (λ (l : List Item). length l) pushed in
           let both = length-append items (taken ∷ []) in
           omega (arith, all, both, c.loop-item.invariant.as_many);
+      asked = more_taken g.I.Inputs c.asks_in_order.ensures words i c.item-item.result c.loop-item-test.true c.item-item.is _ _ _ c.loop-item.invariant.asked true c.in_ok-taken.ensures.asked;
       same = c.in_ok-taken.ensures.inputs.inputs.same ∙ c.loop-item.invariant.same;
       still = c.in_ok-taken.ensures.inputs.inputs.counts.still refl ∙ c.loop-item.invariant.still;
     }
@@ -59,3 +61,19 @@ loop-item-preserved g c =
 pub returns-clause-told : goal.returns-clause-told
 returns-clause-told g c files told =
     has_all c.args.election.now files c.args.words.now c.loop-item.item-index c.loop-item.word c.loop-item.before c.loop-item.items (c.loop-item.invariant.taken files told) c.loop-item-test.false
+
+pub returns-in_err-taken-clause-asked : goal.returns-in_err-taken-clause-asked
+returns-in_err-taken-clause-asked g c =
+    let err = err_from_is_err_and c.from_residual.result c.from_residual.ensures.1 in
+    rw (err.1 ∙ ap Err err.2)
+    (taking_stopped g.I.Inputs c.asks_in_order.ensures c.args.words.now c.loop-item.item-index c.item-item.result c.loop-item-test.true c.item-item.is _ _ _ c.loop-item.invariant.asked false c.in_err-taken.ensures.asked)
+
+pub returns-in_err-push-clause-asked : goal.returns-in_err-push-clause-asked
+returns-in_err-push-clause-asked g c =
+    let err = err_from_is_err_and c.from_residual-in_err-push.result c.from_residual-in_err-push.ensures.1 in
+    rw (err.1 ∙ ap Err err.2)
+    (taking_stopped g.I.Inputs c.asks_in_order.ensures c.args.words.now c.loop-item.item-index c.item-item.result c.loop-item-test.true c.item-item.is _ _ _ c.loop-item.invariant.asked true c.in_ok-taken.ensures.asked)
+
+pub returns-clause-asked : goal.returns-clause-asked
+returns-clause-asked g c =
+    all_taken g.I.Inputs c.args.words.now c.loop-item.item-index _ _ c.loop-item-test.false c.loop-item.invariant.asked

@@ -1,6 +1,8 @@
-use Rattle.std.proofs.Common.{◌≡◌, ◌+◌, ◌≤◌, drop, length, Some}
+use Rattle.std.proofs.Common.{◌≡◌, ◌+◌, ◌≤◌, true, drop, length, take, Some}
 use Rattle.std.specs.Prelude.{All}
 use Rattle.vx_io.specs.Outside.{Files}
+use Rattle.vx_command.specs.Asking.{Asks}
+use Rattle.vx_command_center.specs.Asking.{names_of}
 use Rattle.vx_command_center.specs.Items.{FitsItem, possible_in_all}
 use Rattle.vx_command_center.proofs.Taken.{HasTaken}
 use Rattle.vx_command_center.proofs.taking.take_into.Given as goal
@@ -14,6 +16,7 @@ invariant-loop-item g l = record {
   within : l.before ≤ 1000000;
   fits : All (FitsItem l.election) l.items;
   as_many : length l.items ≡ l.item-index;
+  asked : Asks g.I.Inputs (names_of (take l.item-index l.words)) l.fn.inputs l.inputs true;
   same : g.I.Inputs.held l.inputs ≡ g.I.Inputs.held l.fn.inputs;
   still : g.I.Inputs.faults l.inputs ≡ g.I.Inputs.faults l.fn.inputs;
 }
