@@ -1,5 +1,5 @@
--- What `center` asks of its inputs, and in which order: its election, then how many bytes the inputs of all items have,
--- and then these inputs, item after item.
+-- What `center` asks of its inputs, and in which order: its election, then how many bytes the inputs of all items
+-- have, and then these inputs, item after item.
 use Rattle.std.specs.Prelude.{◌≡◌, ◌⊎◌, ℕ, Bool, true, List, [], ◌∷◌, ◌++◌, map}
 use Rattle.vx_io.specs.declared.outside.Inputs.{Ghosts as InputsOf}
 use Rattle.vx_io.specs.Asking.{Question, SizeOf, Asked}
@@ -15,16 +15,17 @@ names_of items = map name_in items
 abbrev pub AreFront : List (List ℕ) → List (List ℕ) → Type 0
 AreFront front names = (left : List (List ℕ)) × (names ≡ front ++ left)
 
--- inputs were asked how many bytes these names have, once each, in order, and nothing else: of all of them, or of a
--- front of them
-pub record AsksSizes {I : Type 0} (i : InputsOf I) (names : List (List ℕ)) (before now : I) (all : Bool) : Type 0 where
+-- inputs were asked how many bytes these names have, once each, in order, and nothing else: a front of them, or
+-- all of them where `all` is true
+pub record AsksSizes {I : Type 0} (i : InputsOf I) (names : List (List ℕ)) (before now : I) (all : Bool)
+    : Type 0 where
   pub sized : List (List ℕ)
   pub are_front : AreFront sized names
   pub whole : all ≡ true → sized ≡ names
   pub asked : Asked (i.asked before) (i.asked now) (map SizeOf sized)
 
--- questions of items' inputs under these names: the sizes of a front of them, and then, where those are the sizes of all,
--- the takings of a front of them; of all of them in the end
+-- questions of items' inputs under these names: the sizes of a front of them, and behind the sizes of all the takings
+-- of a front of them; both of all of them where `all` is true
 pub record AreOfItems (names : List (List ℕ)) (all : Bool) (questions : List Question) : Type 0 where
   pub sized : List (List ℕ)
   pub taken : List (List ℕ)
@@ -37,14 +38,16 @@ pub record AreOfItems (names : List (List ℕ)) (all : Bool) (questions : List Q
   pub are : questions ≡ map SizeOf sized ++ takings
 
 -- inputs were asked so for items, and for nothing else
-pub record AsksItems {I : Type 0} (i : InputsOf I) (items : List ItemWord) (before now : I) (all : Bool) : Type 0 where
+pub record AsksItems {I : Type 0} (i : InputsOf I) (items : List ItemWord) (before now : I) (all : Bool)
+    : Type 0 where
   pub questions : List Question
   pub of_items : AreOfItems (names_of items) all questions
   pub asked : Asked (i.asked before) (i.asked now) questions
 
--- inputs were asked for the election under a name, and then, where that was taken, so for items, and for nothing else
-pub record AsksAsCenter {I : Type 0} (i : InputsOf I) (election : List ℕ) (items : List ItemWord) (before now : I)
-    (all : Bool) : Type 0 where
+-- inputs were asked for the election under a name, and behind it so for items, and for nothing else; for the
+-- election and for all items where `all` is true
+pub record AsksAsCenter {I : Type 0} (i : InputsOf I) (election : List ℕ) (items : List ItemWord)
+    (before now : I) (all : Bool) : Type 0 where
   pub taken : List (List ℕ)
   pub taken_are_front : AreFront taken (election ∷ [])
   pub takings : List Question

@@ -3,8 +3,8 @@
 //! An item is a station's script or a scan: the events of an item, and the lines of its sheets that make
 //! none, stand in `specs/Items.antt`, the sheets of a scan in `specs/Sheets.antt`. What the command does by
 //! the history of its shared center is `center_outcome` of `specs/Outcome.antt`; that there is such a
-//! history, `specs/Runs.antt`. The functions of `laws` promise what `specs/Laws.antt` says of the journal behind
-//! it.
+//! history, `specs/Runs.antt`; what it asks of its inputs, and in which order, `specs/Asking.antt`. The
+//! functions of `laws` promise what `specs/Laws.antt` says of the journal behind it.
 #![tactic(auto)]
 
 mod command;

@@ -17,7 +17,7 @@ returns-in_err-rooms-clause-asked g c =
     (items_unsized g.I.Inputs c.args.words.now _ _ false c.in_err-rooms.ensures.asked)
 
 pub returns-clause-told : goal.returns-clause-told
-returns-clause-told g c files told = c.take_into-taken.ensures.told files (c.in_ok-rooms.ensures.inputs.inputs.same ∙ told)
+returns-clause-told g c files told = c.take_into-taken.ensures.told files cc
 
 pub returns-clause-asked : goal.returns-clause-asked
 returns-clause-asked g c =
