@@ -1,8 +1,9 @@
-ghost use Rattle.std.specs.Prelude.{◌≡◌, ◌≤◌, true, None, length};
+ghost use Rattle.std.specs.Prelude.{◌≡◌, ◌≤◌, ◌∷◌, [], true, None, length, is_ok};
 ghost use Rattle.std.specs.Option.{ForSome};
 ghost use Rattle.vx_election_model.specs.Valid.{IsValid};
 ghost use Rattle.vx_layout.specs.Plans.{ArePlansOf};
 ghost use Rattle.vx_pbm.specs.Images.{images_of};
+ghost use Rattle.vx_command.specs.Asking.{Asks};
 ghost use Rattle.vx_command.specs.Devices.{TouchesInputsAndSink, writes_nothing};
 ghost use Rattle.vx_command.specs.Done.{IsWritten};
 ghost use Rattle.vx_command.specs.Elections.{once_planned};
@@ -12,7 +13,9 @@ use crate::pages::check_pages;
 use crate::walking::count_images;
 use std::alloc::Global;
 use vx_base::Bytes;
-use vx_command::{Halt, INPUT_LIMIT, plan_all, steps_in_order, take_election, take_input};
+use vx_command::{
+    Halt, INPUT_LIMIT, asks_in_order, plan_all, steps_in_order, take_election, take_input,
+};
 use vx_election_model::Election;
 use vx_io::{Inputs, Sink};
 use vx_layout::CardPlans;
@@ -37,7 +40,9 @@ fn check_readings<I: Inputs, S: Sink>(
         (S.taken out.old) (S.taken out.new) result) }
     ensures nothing_written { writes_nothing true result ≡ true → S.taken out.new ≡ S.taken out.old }
     ensures devices { TouchesInputsAndSink I.Inputs S.Sink inputs.old inputs.new out.old out.new result }
+    ensures asked { Asks I.Inputs (readings.now ∷ []) inputs.old inputs.new (is_ok result) }
 {
+    asks_in_order::<I>();
     steps_in_order::<Bytes>();
     let text = take_input(Bytes::new(alloc), inputs, readings, 3, INPUT_LIMIT)?;
     check_pages(alloc, election, plans, scans, held, text.as_slice(), out)
@@ -61,7 +66,9 @@ fn check_bytes<I: Inputs, S: Sink>(
         (S.taken out.old) (S.taken out.new) result) }
     ensures nothing_written { writes_nothing true result ≡ true → S.taken out.new ≡ S.taken out.old }
     ensures devices { TouchesInputsAndSink I.Inputs S.Sink inputs.old inputs.new out.old out.new result }
+    ensures asked { Asks I.Inputs (readings.now ∷ []) inputs.old inputs.new (is_ok result) }
 {
+    asks_in_order::<I>();
     steps_in_order::<u32>();
     let held = count_images(alloc, scans)?;
     check_readings(alloc, election, plans, scans, held, readings, inputs, out)
@@ -84,7 +91,9 @@ fn check_scans<I: Inputs, S: Sink>(
         (S.taken out.old) (S.taken out.new) result) }
     ensures nothing_written { writes_nothing true result ≡ true → S.taken out.new ≡ S.taken out.old }
     ensures devices { TouchesInputsAndSink I.Inputs S.Sink inputs.old inputs.new out.old out.new result }
+    ensures asked { Asks I.Inputs (scans.now ∷ readings.now ∷ []) inputs.old inputs.new (is_ok result) }
 {
+    asks_in_order::<I>();
     steps_in_order::<Bytes>();
     let bytes = take_input(Bytes::new(alloc), inputs, scans, 2, INPUT_LIMIT)?;
     check_bytes(
@@ -113,7 +122,9 @@ fn check_planned<I: Inputs, S: Sink>(
         (S.taken out.old) (S.taken out.new) result) }
     ensures nothing_written { writes_nothing true result ≡ true → S.taken out.new ≡ S.taken out.old }
     ensures devices { TouchesInputsAndSink I.Inputs S.Sink inputs.old inputs.new out.old out.new result }
+    ensures asked { Asks I.Inputs (scans.now ∷ readings.now ∷ []) inputs.old inputs.new (is_ok result) }
 {
+    asks_in_order::<I>();
     steps_in_order::<CardPlans>();
     let plans = plan_all(alloc, election)?;
     check_scans(alloc, election, &plans, scans, readings, inputs, out)
@@ -137,7 +148,10 @@ pub fn check<I: Inputs, S: Sink>(
         (S.taken out.old) (S.taken out.new) result) }
     ensures nothing_written { writes_nothing true result ≡ true → S.taken out.new ≡ S.taken out.old }
     ensures devices { TouchesInputsAndSink I.Inputs S.Sink inputs.old inputs.new out.old out.new result }
+    ensures asked { Asks I.Inputs (election.now ∷ scans.now ∷ readings.now ∷ [])
+        inputs.old inputs.new (is_ok result) }
 {
+    asks_in_order::<I>();
     steps_in_order::<Election>();
     let given = take_election(alloc, inputs, election)?;
     check_planned(alloc, &given, scans, readings, inputs, out)
