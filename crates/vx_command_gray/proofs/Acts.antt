@@ -187,7 +187,7 @@ taking_stops word halt.NoMemory is = tt
 taking_stops word cause is = absurd is
 
 -- the words from one on begin with it
-word_on : (words : List (List ℕ)) (word : ℕ) (name : List ℕ) → slice_get words word ≡ Some name → drop word words ≡ name ∷ drop (word + 1) words
+pub word_on : (words : List (List ℕ)) (word : ℕ) (name : List ℕ) → slice_get words word ≡ Some name → drop word words ≡ name ∷ drop (word + 1) words
 word_on words word name at =
     drop_more words word name (slice_get_within words word name at)
     ∙ ap (λ (first : List ℕ). first ∷ drop (word + 1) words) (get_or_from_slice_get words word name name at)

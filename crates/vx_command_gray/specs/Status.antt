@@ -1,5 +1,5 @@
 -- The status of a `gray`: its number, what the program says of it, and what of it the inputs and the devices did.
-use Rattle.std.specs.Prelude.{ℕ, List, [], ◌++◌, ◌∷◌, codes}
+use Rattle.std.specs.Prelude.{ℕ, Bool, true, false, List, [], ◌++◌, ◌∷◌, codes}
 use Rattle.std.specs.Prelude as std
 use Rattle.std.specs.Fmt.{decimal}
 use Rattle.vx_gray.specs.FaultTexts.{pgm_fault_text}
@@ -18,6 +18,11 @@ answer_of ReadFault = std.Err halt.ReadFault
 answer_of WriteFault = std.Err halt.WriteFault
 answer_of NoMemory = std.Err halt.NoMemory
 answer_of status = std.Ok tt
+
+-- whether a `gray` did all its work; one that ends otherwise may have stopped before its last scan
+abbrev pub ends_well : GrayStatus → Bool
+ends_well Ok = true
+ends_well status = false
 
 -- a cause that may halt a `gray`
 abbrev pub IsStop : Halt → Type 0

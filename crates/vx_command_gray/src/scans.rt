@@ -1,16 +1,17 @@
-ghost use Rattle.std.specs.Prelude.{◌≢◌, drop, IfErr};
+ghost use Rattle.std.specs.Prelude.{◌≢◌, ◌∷◌, [], drop, is_ok, IfErr};
 ghost use Rattle.std.specs.Option.{ForSome};
+ghost use Rattle.vx_command.specs.Asking.{Asks};
 ghost use Rattle.vx_command.specs.Devices.{TouchesInputsAndSink};
 ghost use Rattle.vx_command_gray.specs.Done.{IsGrayDone, WritesFirst};
 ghost use Rattle.vx_command_gray.specs.Outcome.{gray_outcome};
-ghost use Rattle.vx_command_gray.specs.Status.{answer_of, IsStop};
+ghost use Rattle.vx_command_gray.specs.Status.{answer_of, ends_well, IsStop};
 
 use crate::status::{GrayStatus, status_of_halt};
 use crate::writing::write_scan;
 use std::alloc::Global;
 use std::mem::replace;
 use vx_base::Bytes;
-use vx_command::{Halt, INPUT_LIMIT, acts_in_order, steps_in_order, take_input};
+use vx_command::{Halt, INPUT_LIMIT, acts_in_order, asks_in_order, steps_in_order, take_input};
 use vx_gray::PgmFault;
 use vx_io::{Inputs, Sink, Words};
 
@@ -27,8 +28,10 @@ fn write_input<I: Inputs, S: Sink>(
     ensures done { ForSome (I.held inputs.old) (λ files.
         WritesFirst files word name.now (S.taken out.old) (S.taken out.new) result) }
     ensures devices { TouchesInputsAndSink I.Inputs S.Sink inputs.old inputs.new out.old out.new result }
+    ensures asked { Asks I.Inputs (name.now ∷ []) inputs.old inputs.new (is_ok result) }
     ensures stops { IfErr result IsStop }
 {
+    asks_in_order::<I>();
     steps_in_order::<Bytes>();
     let last = replace(memory, Bytes::new(alloc));
     let bytes = take_input(last, inputs, name, word, INPUT_LIMIT)?;
@@ -47,8 +50,11 @@ pub(crate) fn write_scans<I: Inputs, S: Sink>(
     ensures done { ForSome (I.held inputs.old) (λ files.
         IsGrayDone (gray_outcome (drop 1 words.now) files) (S.taken out.old) (S.taken out.new) result) }
     ensures devices { TouchesInputsAndSink I.Inputs S.Sink inputs.old inputs.new out.old out.new (answer_of result) }
+    ensures asked { Asks I.Inputs (drop 1 words.now)
+        inputs.old inputs.new (ends_well result) }
     ensures no_usage { result ≢ GrayStatus.Usage }
 {
+    asks_in_order::<I>();
     acts_in_order();
     let mut memory = Bytes::new(alloc);
     for word in 1..words.count() {

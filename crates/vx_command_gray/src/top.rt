@@ -1,10 +1,11 @@
-ghost use Rattle.std.specs.Prelude.{◌≡◌, ◌↔◌, ℕ, List, Some};
+ghost use Rattle.std.specs.Prelude.{◌≡◌, ◌↔◌, ℕ, List, Some, drop};
 ghost use Rattle.vx_io.specs.Outside.{Files};
+ghost use Rattle.vx_command.specs.Asking.{Asks};
 ghost use Rattle.vx_command.specs.Devices.{TouchesInputsAndSink};
 ghost use Rattle.vx_command_gray.specs.Bitmaps.{WritesBitmaps};
 ghost use Rattle.vx_command_gray.specs.Done.{IsGrayDone};
 ghost use Rattle.vx_command_gray.specs.Outcome.{gray_outcome};
-ghost use Rattle.vx_command_gray.specs.Status.{answer_of};
+ghost use Rattle.vx_command_gray.specs.Status.{answer_of, ends_well};
 ghost use Rattle.vx_command_gray.specs.Words.{NoGray, SpellsGray};
 
 use crate::laws::bitmaps_are_written;
@@ -12,6 +13,7 @@ use crate::reading::is_gray;
 use crate::scans::write_scans;
 use crate::status::GrayStatus;
 use std::alloc::Global;
+use vx_command::asks_in_order;
 use vx_io::{Inputs, Sink, Words};
 
 /// Does the `gray` that the words spell.
@@ -27,7 +29,10 @@ fn gray_words<I: Inputs, S: Sink>(
         IsGrayDone (gray_outcome scans files) (S.taken out.old) (S.taken out.new) result }
     ensures usage_writes_nothing { result ≡ GrayStatus.Usage → S.taken out.new ≡ S.taken out.old }
     ensures devices { TouchesInputsAndSink I.Inputs S.Sink inputs.old inputs.new out.old out.new (answer_of result) }
+    ensures asked { Asks I.Inputs (drop 1 words.now)
+        inputs.old inputs.new (ends_well result) }
 {
+    asks_in_order::<I>();
     if !is_gray(words) {
         return GrayStatus::Usage;
     }
@@ -54,6 +59,8 @@ pub fn run_gray<I: Inputs, S: Sink>(
         IsGrayDone (gray_outcome scans files) (S.taken out.old) (S.taken out.new) result }
     ensures usage_writes_nothing { result ≡ GrayStatus.Usage → S.taken out.new ≡ S.taken out.old }
     ensures devices { TouchesInputsAndSink I.Inputs S.Sink inputs.old inputs.new out.old out.new (answer_of result) }
+    ensures asked { Asks I.Inputs (drop 1 words.now)
+        inputs.old inputs.new (ends_well result) }
     // Each image that fits a printed page with some marks is written as a bitmap that fits it with those marks.
     ensures margin { (files : Files) → I.held inputs.old ≡ Some files →
         (scans : List (List ℕ)) → SpellsGray words.now scans →

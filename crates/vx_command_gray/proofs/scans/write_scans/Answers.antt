@@ -4,6 +4,7 @@ use Rattle.vx_gray.specs.declared.fault.PgmFault.{PgmFault}
 use Rattle.vx_command_gray.specs.Done.{WritesFirst}
 use Rattle.vx_command_gray.specs.Outcome.{gray_outcome}
 use Rattle.vx_command_gray.proofs.Acts.{scan_written, scan_faulty, scan_broken}
+use Rattle.vx_command_gray.proofs.Asked.{ends_ill, one_asked, last_asked}
 use Rattle.vx_command_gray.proofs.scans.write_scans.Goals as goal
 
 pub returns-in-Ok-Some-clause-done : goal.returns-in-Ok-Some-clause-done
@@ -14,11 +15,22 @@ returns-in-Ok-Some-clause-done g c files told =
     (c.loop-word.invariant.comes files told)
     c.acts_in_order.ensures c.in-Ok-Some.fault (subst Written c.in-Ok-Some.field-0-is (c.in-Ok-Some.ensures.done files (c.loop-word.invariant.same ∙ told)))
 
+pub returns-in-Ok-Some-clause-asked : goal.returns-in-Ok-Some-clause-asked
+returns-in-Ok-Some-clause-asked g c =
+    last_asked g.I.Inputs c.asks_in_order.ensures c.args.words.now (drop 1 c.args.words.now) c.loop-word.word c.word.result.now _ _ _ c.word.ensures
+    c.loop-word.invariant.asked _ c.in-Ok-Some.ensures.asked
+
 pub returns-in-Err-clause-done : goal.returns-in-Err-clause-done
 returns-in-Err-clause-done g c files told =
     scan_broken files c.args.words.now c.loop-word.word c.word.result.now (gray_outcome (drop 1 c.args.words.now) files) _ _ _ c.word.ensures
     (c.loop-word.invariant.comes files told)
     c.in-Err.cause c.status_of_halt.result c.status_of_halt.ensures (c.in-Err.ensures.done files (c.loop-word.invariant.same ∙ told))
+
+pub returns-in-Err-clause-asked : goal.returns-in-Err-clause-asked
+returns-in-Err-clause-asked g c =
+    rw (ends_ill c.status_of_halt.result c.in-Err.cause c.status_of_halt.ensures)
+    (last_asked g.I.Inputs c.asks_in_order.ensures c.args.words.now (drop 1 c.args.words.now) c.loop-word.word c.word.result.now _ _ _ c.word.ensures
+    c.loop-word.invariant.asked _ c.in-Err.ensures.asked)
 
 pub loop-word-preserved : goal.loop-word-preserved
 loop-word-preserved g c =
@@ -29,6 +41,8 @@ loop-word-preserved g c =
           scan_written files c.args.words.now c.loop-word.word c.word.result.now (gray_outcome (drop 1 c.args.words.now) files) _ _ _ c.word.ensures
           (c.loop-word.invariant.comes files told)
           (subst (Written files) c.in-Ok-None.field-0-is (c.in-Ok-None.ensures.done files (c.loop-word.invariant.same ∙ told)));
+      asked = one_asked g.I.Inputs c.asks_in_order.ensures c.args.words.now (drop 1 c.args.words.now) c.loop-word.word c.word.result.now _ _ _ c.word.ensures
+          c.loop-word.invariant.asked c.in-Ok-None.ensures.asked;
       same = c.in-Ok-None.ensures.devices.inputs.same ∙ c.loop-word.invariant.same;
       no_read_fault = c.in-Ok-None.ensures.devices.inputs.counts.still refl ∙ c.loop-word.invariant.no_read_fault;
       no_write_fault = c.in-Ok-None.ensures.devices.sink.still refl ∙ c.loop-word.invariant.no_write_fault;
