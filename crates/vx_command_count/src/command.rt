@@ -1,8 +1,9 @@
-ghost use Rattle.std.specs.Prelude.{◌≡◌, ◌≤◌, ◌<◌, true, false, length};
+ghost use Rattle.std.specs.Prelude.{◌≡◌, ◌≤◌, ◌<◌, ◌∷◌, true, false, length, is_ok};
 ghost use Rattle.std.specs.Option.{ForSome};
 ghost use Rattle.vx_election_model.specs.Valid.{IsValid};
 ghost use Rattle.vx_events.specs.Fits.{is_batch};
 ghost use Rattle.vx_layout.specs.Plans.{ArePlansOf};
+ghost use Rattle.vx_command.specs.Asking.{Asks};
 ghost use Rattle.vx_command.specs.Devices.{LeavesDevices, writes_nothing};
 ghost use Rattle.vx_command.specs.Done.{IsDone};
 ghost use Rattle.vx_command.specs.Elections.{once_planned};
@@ -16,7 +17,7 @@ use crate::setting::Setting;
 use crate::tally::Tally;
 use std::alloc::Global;
 use std::thread::Threads;
-use vx_command::{Halt, acts_in_order, plan_all, steps_in_order, take_election};
+use vx_command::{Halt, acts_in_order, asks_in_order, plan_all, steps_in_order, take_election};
 use vx_election_model::Election;
 use vx_io::{Inputs, Keeper, Sink};
 use vx_journal::{Journal, begin_journal, journals_in_order, read_journal};
@@ -44,8 +45,10 @@ fn count_into<R: Threads + Sync, I: Inputs, S: Sink, K: Keeper, G: Gate>(
         (S.taken out.old) (S.taken out.new) (K.held keeper.old) (K.held keeper.new) result) }
     ensures devices { LeavesDevices I.Inputs S.Sink K.Keeper inputs.old inputs.new out.old out.new
         keeper.old keeper.new result }
+    ensures asked { Asks I.Inputs scans.now inputs.old inputs.new (is_ok result) }
     ensures late { writes_nothing false result ≡ false }
 {
+    asks_in_order::<I>();
     acts_in_order();
     begin_journal(alloc, setting.election, &journal, keeper)?;
     let mut counting = Counting {
@@ -86,7 +89,9 @@ fn count_set<R: Threads + Sync, I: Inputs, S: Sink, K: Keeper, G: Gate>(
     ensures nothing_kept { writes_nothing false result ≡ true → K.held keeper.new ≡ K.held keeper.old }
     ensures devices { LeavesDevices I.Inputs S.Sink K.Keeper inputs.old inputs.new out.old out.new
         keeper.old keeper.new result }
+    ensures asked { Asks I.Inputs scans.now inputs.old inputs.new (is_ok result) }
 {
+    asks_in_order::<I>();
     journals_in_order();
     let journal = read_journal(alloc, setting.election, keeper)?;
     count_into(
@@ -145,7 +150,9 @@ fn count_planned<R: Threads + Sync, I: Inputs, S: Sink, K: Keeper, G: Gate>(
     ensures nothing_kept { writes_nothing false result ≡ true → K.held keeper.new ≡ K.held keeper.old }
     ensures devices { LeavesDevices I.Inputs S.Sink K.Keeper inputs.old inputs.new out.old out.new
         keeper.old keeper.new result }
+    ensures asked { Asks I.Inputs scans.now inputs.old inputs.new (is_ok result) }
 {
+    asks_in_order::<I>();
     steps_in_order::<CardPlans>();
     let plans = plan_all(alloc, election)?;
     let setting = set_up(election, &plans, batch, workers);
@@ -179,7 +186,9 @@ pub fn count<R: Threads + Sync, I: Inputs, S: Sink, K: Keeper, G: Gate>(
     ensures nothing_kept { writes_nothing false result ≡ true → K.held keeper.new ≡ K.held keeper.old }
     ensures devices { LeavesDevices I.Inputs S.Sink K.Keeper inputs.old inputs.new out.old out.new
         keeper.old keeper.new result }
+    ensures asked { Asks I.Inputs (election.now ∷ scans.now) inputs.old inputs.new (is_ok result) }
 {
+    asks_in_order::<I>();
     steps_in_order::<Election>();
     let given = take_election(alloc, inputs, election)?;
     count_planned(

@@ -1,6 +1,21 @@
-ghost use Rattle.std.specs.Prelude.{◌≡◌, ◌≤◌, ◌<◌, ◌+◌, ◌*◌, ◌^◌, [], false, length, IfOk, OnOk};
+ghost use Rattle.std.specs.Prelude.{
+  ◌≡◌,
+  ◌≤◌,
+  ◌<◌,
+  ◌+◌,
+  ◌*◌,
+  ◌^◌,
+  [],
+  ◌∷◌,
+  false,
+  length,
+  is_ok,
+  IfOk,
+  OnOk,
+};
 ghost use Rattle.std.specs.Option.{ForSome};
 ghost use Rattle.vx_pbm.specs.Images.{images_of};
+ghost use Rattle.vx_command.specs.Asking.{Asks};
 ghost use Rattle.vx_command.specs.Devices.{LeavesDevices, TouchesSinkAndKeeper, writes_nothing};
 ghost use Rattle.vx_command.specs.Done.{IsDone};
 ghost use Rattle.vx_command_count.specs.Outcome.{scans_outcome};
@@ -18,7 +33,9 @@ use std::alloc::Global;
 use std::mem::replace;
 use std::thread::Threads;
 use vx_base::Bytes;
-use vx_command::{Halt, INPUT_LIMIT, acts_in_order, halt_of_bitmap, steps_in_order, take_input};
+use vx_command::{
+    Halt, INPUT_LIMIT, acts_in_order, asks_in_order, halt_of_bitmap, steps_in_order, take_input,
+};
 use vx_io::{Inputs, Keeper, Sink};
 use vx_json::Text;
 use vx_pbm::{PbmReader, images_are_whole};
@@ -102,8 +119,10 @@ fn count_input<R: Threads + Sync, I: Inputs, S: Sink, K: Keeper, G: Gate>(
         ≤ 2 * sheets_in counting.old.tally + length waiting.now + 67108864) }
     ensures devices { LeavesDevices I.Inputs S.Sink K.Keeper inputs.old inputs.new out.old out.new
         keeper.old keeper.new result }
+    ensures asked { Asks I.Inputs (name.now ∷ []) inputs.old inputs.new (is_ok result) }
     ensures late { writes_nothing false result ≡ false }
 {
+    asks_in_order::<I>();
     steps_in_order::<Bytes>();
     let last = replace(memory, Bytes::new(alloc));
     let bytes = take_input(last, inputs, name, word, INPUT_LIMIT)?;
@@ -137,8 +156,10 @@ pub(crate) fn count_scans<R: Threads + Sync, I: Inputs, S: Sink, K: Keeper, G: G
         (S.taken out.old) (S.taken out.new) (K.held keeper.old) (K.held keeper.new) result) }
     ensures devices { LeavesDevices I.Inputs S.Sink K.Keeper inputs.old inputs.new out.old out.new
         keeper.old keeper.new result }
+    ensures asked { Asks I.Inputs scans.now inputs.old inputs.new (is_ok result) }
     ensures late { writes_nothing false result ≡ false }
 {
+    asks_in_order::<I>();
     acts_in_order();
     let mut memory = Bytes::new(alloc);
     let mut waiting = Waiting::none(alloc);

@@ -1,5 +1,6 @@
-use Rattle.std.proofs.Common.{◌≡◌, ◌≤◌, ◌+◌, ◌*◌, [], drop, length, Some}
+use Rattle.std.proofs.Common.{◌≡◌, ◌≤◌, ◌+◌, ◌*◌, [], drop, length, take, Some, true}
 use Rattle.vx_io.specs.Outside.{Files}
+use Rattle.vx_command.specs.Asking.{Asks}
 use Rattle.vx_command.specs.Done.{ComesTo}
 use Rattle.vx_command_count.specs.Outcome.{scans_outcome}
 use Rattle.vx_command_count.specs.Tally.{sheets_in}
@@ -16,4 +17,5 @@ invariant-loop-scan g l = record {
   no_read_fault : g.I.Inputs.faults l.inputs ≡ g.I.Inputs.faults l.fn.inputs;
   no_write_fault : g.S.Sink.faults l.out ≡ g.S.Sink.faults l.fn.out;
   no_keeper_fault : g.K.Keeper.faults l.keeper ≡ g.K.Keeper.faults l.fn.keeper;
+  asked : Asks g.I.Inputs (take l.scan-index l.scans) l.fn.inputs l.inputs true;
 }
