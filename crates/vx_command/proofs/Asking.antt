@@ -52,19 +52,19 @@ module _ (laws : AskedLaws) {I : Type 0} (i : InputsOf I) where
       }
 
   -- one more of several was taken
-  pub one-more : (names : List (List ℕ)) (index : ℕ) (name : List ℕ) (a b c : I) → index < length names → name ≡ get_or names index [] → Asks i (take index names) a b true → Asks i (name ∷ []) b c true → Asks i (take (index + 1) names) a c true
-  one-more names index name a b c within is so_far taken =
+  pub one-more : (names : List (List ℕ)) (index : ℕ) (name other : List ℕ) (a b c : I) → index < length names → name ≡ get_or names index other → Asks i (take index names) a b true → Asks i (name ∷ []) b c true → Asks i (take (index + 1) names) a c true
+  one-more names index name other a b c within is so_far taken =
       let Taken : List (List ℕ) → Type 0 = λ some. Asks i some a c true in
       let more : take (index + 1) names ≡ take index names ++ name ∷ [] =
-      take_more names index [] within ∙ ap (λ (next : List ℕ). take index names ++ next ∷ []) (sym is) in
+      take_more names index other within ∙ ap (λ (next : List ℕ). take index names ++ next ∷ []) (sym is) in
       subst Taken (sym more) (further-asked (take index names) (name ∷ []) a b c true so_far taken)
 
   -- the next of several was asked for, and no further one
-  pub one-breaks : (names : List (List ℕ)) (index : ℕ) (name : List ℕ) (a b c : I) (all : Bool) → index < length names → name ≡ get_or names index [] → Asks i (take index names) a b true → Asks i (name ∷ []) b c all → Asks i names a c false
-  one-breaks names index name a b c all within is so_far asked =
+  pub one-breaks : (names : List (List ℕ)) (index : ℕ) (name other : List ℕ) (a b c : I) (all : Bool) → index < length names → name ≡ get_or names index other → Asks i (take index names) a b true → Asks i (name ∷ []) b c all → Asks i names a c false
+  one-breaks names index name other a b c all within is so_far asked =
       let Broken : List (List ℕ) → Type 0 = λ some. Asks i some a c false in
       let left : drop index names ≡ name ∷ drop (index + 1) names =
-      drop_more names index [] within ∙ ap (λ (next : List ℕ). next ∷ drop (index + 1) names) (sym is) in
+      drop_more names index other within ∙ ap (λ (next : List ℕ). next ∷ drop (index + 1) names) (sym is) in
       let whole : take index names ++ name ∷ drop (index + 1) names ≡ names =
       ap (λ (rest : List (List ℕ)). take index names ++ rest) (sym left) ∙ take-append-drop index names in
       subst Broken whole

@@ -33,6 +33,6 @@ pub record AskLaws {I : Type 0} (i : InputsOf I) : Type 0 where
   pub further : (names more : List (List ℕ)) (a b c : I) (all : Bool) → Asks i names a b true → Asks i more b c all → Asks i (names ++ more) a c all
   pub front : (names more : List (List ℕ)) (a b : I) (all : Bool) → Asks i names a b all → Asks i (names ++ more) a b false
   -- inputs that are taken one after the other: one more of them, the one with which that breaks off, and the last
-  pub one_more : (names : List (List ℕ)) (index : ℕ) (name : List ℕ) (a b c : I) → index < length names → name ≡ get_or names index [] → Asks i (take index names) a b true → Asks i (name ∷ []) b c true → Asks i (take (index + 1) names) a c true
-  pub one_breaks : (names : List (List ℕ)) (index : ℕ) (name : List ℕ) (a b c : I) (all : Bool) → index < length names → name ≡ get_or names index [] → Asks i (take index names) a b true → Asks i (name ∷ []) b c all → Asks i names a c false
+  pub one_more : (names : List (List ℕ)) (index : ℕ) (name other : List ℕ) (a b c : I) → index < length names → name ≡ get_or names index other → Asks i (take index names) a b true → Asks i (name ∷ []) b c true → Asks i (take (index + 1) names) a c true
+  pub one_breaks : (names : List (List ℕ)) (index : ℕ) (name other : List ℕ) (a b c : I) (all : Bool) → index < length names → name ≡ get_or names index other → Asks i (take index names) a b true → Asks i (name ∷ []) b c all → Asks i names a c false
   pub all_taken : (names : List (List ℕ)) (index : ℕ) (a b : I) (all : Bool) → length names ≤ index → Asks i (take index names) a b true → Asks i names a b all
