@@ -1,3 +1,4 @@
+pub mod AskedScans
 pub mod ImageActs
 pub mod InputActs
 pub mod ScanActs

@@ -1,7 +1,8 @@
-ghost use Rattle.std.specs.Prelude.{◌≡◌, ◌≤◌, true, false, length};
+ghost use Rattle.std.specs.Prelude.{◌≡◌, ◌≤◌, ◌∷◌, true, false, length, is_ok};
 ghost use Rattle.std.specs.Option.{ForSome};
 ghost use Rattle.vx_election_model.specs.Valid.{IsValid};
 ghost use Rattle.vx_layout.specs.Plans.{ArePlansOf};
+ghost use Rattle.vx_command.specs.Asking.{Asks};
 ghost use Rattle.vx_command.specs.Devices.{LeavesDevices, TouchesInputsAndSink, writes_nothing};
 ghost use Rattle.vx_command.specs.Done.{IsDone, IsWritten};
 ghost use Rattle.vx_command.specs.Elections.{once_planned};
@@ -14,7 +15,7 @@ use crate::scans::walk_scans;
 use crate::setting::Setting;
 use std::alloc::Global;
 use vx_center::Center;
-use vx_command::{Halt, acts_in_order, plan_all, steps_in_order, take_election};
+use vx_command::{Halt, acts_in_order, asks_in_order, plan_all, steps_in_order, take_election};
 use vx_election_model::Election;
 use vx_io::{Inputs, Keeper, Sink};
 use vx_journal::{journals_in_order, read_journal};
@@ -58,8 +59,10 @@ fn write_page<I: Inputs, S: Sink>(
         IsWritten (page_outcome setting.now.election.now setting.now.batch.now scans.now files
         setting.now.center.now.events) (S.taken out.old) (S.taken out.new) result) }
     ensures devices { TouchesInputsAndSink I.Inputs S.Sink inputs.old inputs.new out.old out.new result }
+    ensures asked { Asks I.Inputs scans.now inputs.old inputs.new (is_ok result) }
     ensures late { writes_nothing false result ≡ false }
 {
+    asks_in_order::<I>();
     acts_in_order();
     open_page(alloc, setting, out)?;
     walk_scans(alloc, setting, scans.as_slice(), inputs, out)
@@ -87,7 +90,9 @@ fn desk_read<I: Inputs, S: Sink, K: Keeper>(
     ensures held { K.held keeper.new ≡ K.held keeper.old }
     ensures devices { LeavesDevices I.Inputs S.Sink K.Keeper inputs.old inputs.new out.old out.new
         keeper.old keeper.new result }
+    ensures asked { Asks I.Inputs scans.now inputs.old inputs.new (is_ok result) }
 {
+    asks_in_order::<I>();
     journals_in_order();
     let journal = read_journal(alloc, election, keeper)?;
     let setting = set_up(election, plans, &journal.center, batch);
@@ -114,7 +119,9 @@ fn desk_planned<I: Inputs, S: Sink, K: Keeper>(
     ensures held { K.held keeper.new ≡ K.held keeper.old }
     ensures devices { LeavesDevices I.Inputs S.Sink K.Keeper inputs.old inputs.new out.old out.new
         keeper.old keeper.new result }
+    ensures asked { Asks I.Inputs scans.now inputs.old inputs.new (is_ok result) }
 {
+    asks_in_order::<I>();
     steps_in_order::<CardPlans>();
     let plans = plan_all(alloc, election)?;
     desk_read(alloc, election, &plans, batch, scans, inputs, out, keeper)
@@ -142,7 +149,9 @@ pub fn desk<I: Inputs, S: Sink, K: Keeper>(
     ensures held { K.held keeper.new ≡ K.held keeper.old }
     ensures devices { LeavesDevices I.Inputs S.Sink K.Keeper inputs.old inputs.new out.old out.new
         keeper.old keeper.new result }
+    ensures asked { Asks I.Inputs (election.now ∷ scans.now) inputs.old inputs.new (is_ok result) }
 {
+    asks_in_order::<I>();
     steps_in_order::<Election>();
     let given = take_election(alloc, inputs, election)?;
     desk_planned(alloc, &given, batch, scans, inputs, out, keeper)

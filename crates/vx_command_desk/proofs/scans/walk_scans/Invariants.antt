@@ -1,5 +1,6 @@
-use Rattle.std.proofs.Common.{◌≡◌, ◌≤◌, ◌+◌, ◌*◌, [], drop, Some}
+use Rattle.std.proofs.Common.{◌≡◌, ◌≤◌, ◌+◌, ◌*◌, [], drop, take, Some, true}
 use Rattle.vx_io.specs.Outside.{Files}
+use Rattle.vx_command.specs.Asking.{Asks}
 use Rattle.vx_command.specs.Done.{WritesTo}
 use Rattle.vx_command_desk.specs.Outcome.{scans_outcome}
 use Rattle.vx_command_desk.specs.Setting.{closing_of, images_in, texts_of, waits}
@@ -14,4 +15,5 @@ invariant-loop-scan g l = record {
   same : g.I.Inputs.held l.inputs ≡ g.I.Inputs.held l.fn.inputs;
   no_read_fault : g.I.Inputs.faults l.inputs ≡ g.I.Inputs.faults l.fn.inputs;
   no_write_fault : g.S.Sink.faults l.out ≡ g.S.Sink.faults l.fn.out;
+  asked : Asks g.I.Inputs (take l.scan-index l.scans) l.fn.inputs l.inputs true;
 }
