@@ -5,7 +5,6 @@ pub mod ImageActs
 pub mod PieceActs
 pub mod ScanActs
 pub mod InputActs
-pub mod AskedScans
 pub mod Sets
 pub mod Journals
 pub mod Held

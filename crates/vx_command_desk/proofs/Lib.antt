@@ -1,4 +1,3 @@
-pub mod AskedScans
 pub mod ImageActs
 pub mod InputActs
 pub mod ScanActs

@@ -1,7 +1,8 @@
-ghost use Rattle.std.specs.Prelude.{◌≡◌, ◌≤◌, [], true, false, length};
+ghost use Rattle.std.specs.Prelude.{◌≡◌, ◌≤◌, ◌∷◌, [], true, false, length, is_ok};
 ghost use Rattle.std.specs.Option.{ForSome};
 ghost use Rattle.vx_election_model.specs.Valid.{IsValid};
 ghost use Rattle.vx_layout.specs.Plans.{ArePlansOf};
+ghost use Rattle.vx_command.specs.Asking.{Asks};
 ghost use Rattle.vx_command.specs.Devices.{TouchesInputsAndSink, writes_nothing};
 ghost use Rattle.vx_command.specs.Done.{IsWritten};
 ghost use Rattle.vx_command.specs.Elections.{once_planned};
@@ -11,7 +12,7 @@ ghost use Rattle.vx_command_try.specs.Setting.{IsSet};
 use crate::scans::try_scans;
 use crate::setting::Setting;
 use std::alloc::Global;
-use vx_command::{Halt, plan_all, steps_in_order, take_election};
+use vx_command::{Halt, asks_in_order, plan_all, steps_in_order, take_election};
 use vx_election_model::Election;
 use vx_io::{Inputs, Sink};
 use vx_json::Texts;
@@ -43,7 +44,9 @@ fn try_planned<I: Inputs, S: Sink>(
         (S.taken out.old) (S.taken out.new) result) }
     ensures nothing_written { writes_nothing false result ≡ true → S.taken out.new ≡ S.taken out.old }
     ensures devices { TouchesInputsAndSink I.Inputs S.Sink inputs.old inputs.new out.old out.new result }
+    ensures asked { Asks I.Inputs scans.now inputs.old inputs.new (is_ok result) }
 {
+    asks_in_order::<I>();
     steps_in_order::<CardPlans>();
     let plans = plan_all(alloc, election)?;
     let setting = set_up(election, &plans);
@@ -67,7 +70,9 @@ pub fn try_sheets<I: Inputs, S: Sink>(
         (S.taken out.old) (S.taken out.new) result) }
     ensures nothing_written { writes_nothing false result ≡ true → S.taken out.new ≡ S.taken out.old }
     ensures devices { TouchesInputsAndSink I.Inputs S.Sink inputs.old inputs.new out.old out.new result }
+    ensures asked { Asks I.Inputs (election.now ∷ scans.now) inputs.old inputs.new (is_ok result) }
 {
+    asks_in_order::<I>();
     steps_in_order::<Election>();
     let given = take_election(alloc, inputs, election)?;
     try_planned(alloc, &given, scans, inputs, out)

@@ -1,5 +1,6 @@
-ghost use Rattle.std.specs.Prelude.{◌≡◌, ◌≤◌, ◌<◌, ◌+◌, ◌^◌, [], false, length, IfOk};
+ghost use Rattle.std.specs.Prelude.{◌≡◌, ◌≤◌, ◌<◌, ◌+◌, ◌^◌, ◌∷◌, [], false, length, is_ok, IfOk};
 ghost use Rattle.std.specs.Option.{ForSome};
+ghost use Rattle.vx_command.specs.Asking.{Asks};
 ghost use Rattle.vx_command.specs.Devices.{TouchesInputsAndSink, writes_nothing};
 ghost use Rattle.vx_command.specs.Done.{IsWritten};
 ghost use Rattle.vx_command_try.specs.Outcome.{scans_outcome};
@@ -13,7 +14,7 @@ use crate::tried::Tried;
 use std::alloc::Global;
 use std::mem::replace;
 use vx_base::Bytes;
-use vx_command::{Halt, INPUT_LIMIT, acts_in_order, steps_in_order, take_input};
+use vx_command::{Halt, INPUT_LIMIT, acts_in_order, asks_in_order, steps_in_order, take_input};
 use vx_count::CounterMemory;
 use vx_io::{Inputs, Sink};
 use vx_json::Text;
@@ -56,8 +57,10 @@ fn try_input<I: Inputs, S: Sink>(
     ensures waits { IfOk result (WaitsSo setting.now.election.now) }
     ensures bound { IfOk result (λ now. images_read now ≤ images_read tried + 67108864) }
     ensures devices { TouchesInputsAndSink I.Inputs S.Sink inputs.old inputs.new out.old out.new result }
+    ensures asked { Asks I.Inputs (name.now ∷ []) inputs.old inputs.new (is_ok result) }
     ensures late { writes_nothing false result ≡ false }
 {
+    asks_in_order::<I>();
     steps_in_order::<Bytes>();
     let last = replace(&mut memory.bytes, Bytes::new(alloc));
     let bytes = take_input(last, inputs, name, word, INPUT_LIMIT)?;
@@ -82,8 +85,10 @@ pub(crate) fn try_scans<I: Inputs, S: Sink>(
         IsWritten (scans_outcome setting.now.election.now files 2 0 [] scans.now)
         (S.taken out.old) (S.taken out.new) result) }
     ensures devices { TouchesInputsAndSink I.Inputs S.Sink inputs.old inputs.new out.old out.new result }
+    ensures asked { Asks I.Inputs scans.now inputs.old inputs.new (is_ok result) }
     ensures late { writes_nothing false result ≡ false }
 {
+    asks_in_order::<I>();
     acts_in_order();
     let mut memory = ScanMemory::new(alloc);
     let mut tried = Tried {

@@ -1,16 +1,16 @@
 use Rattle.std.proofs.Common.{◌≡◌, ◌+◌, ℕ, List, ◌∷◌, drop, false, Err, rules, sym, ap, subst, ◌∙◌}
+use Rattle.std.proofs.lemmas.List.{drop_more}
 use Rattle.std.proofs.lemmas.Result.{err_from_is_err_and}
 use Rattle.vx_command.specs.Done.{IsDone}
 use Rattle.vx_command_count.specs.Outcome.{scans_outcome}
-use Rattle.vx_command_count.proofs.AskedScans.{one-breaks, one-more, scans-left}
 use Rattle.vx_command_count.proofs.scans.count_scans.Goals as goal
 
 pub returns-in_err-waiting-clause-asked : goal.returns-in_err-waiting-clause-asked
 returns-in_err-waiting-clause-asked g c =
     let err = err_from_is_err_and c.from_residual.result c.from_residual.ensures.1 in
     rw (err.1 ∙ ap Err err.2)
-    (one-breaks c.args.scans.now c.loop-scan.scan-index c.as_str.result.now _ c.loop-scan-test.true (c.as_str.ensures ∙ c.scan-item.is) g.I.Inputs c.asks_in_order.ensures
-    c.args.inputs.now c.loop-scan.inputs c.count_input.new.inputs c.loop-scan.invariant.asked false c.in_err-waiting.ensures.asked)
+    (c.asks_in_order.ensures.one_breaks c.args.scans.now c.loop-scan.scan-index c.as_str.result.now _ c.args.inputs.now c.loop-scan.inputs c.count_input.new.inputs false c.loop-scan-test.true (c.as_str.ensures ∙ c.scan-item.is)
+    c.loop-scan.invariant.asked c.in_err-waiting.ensures.asked)
 
 pub loop-scan-preserved : goal.loop-scan-preserved
 loop-scan-preserved g c =
@@ -21,7 +21,7 @@ loop-scan-preserved g c =
           let Done : List (List ℕ) → Type 0 = λ left.
           IsDone (scans_outcome c.args.setting.now.election.now c.args.setting.now.batch.now files c.loop-scan.word c.loop-scan.counting c.loop-scan.waiting left)
           (g.S.Sink.taken c.loop-scan.out) taken_then (g.K.Keeper.held c.loop-scan.keeper) held_then answer in
-          let here : drop i names ≡ c.as_str.result.now ∷ drop (i + 1) names = scans-left names i c.as_str.result.now _ c.loop-scan-test.true (c.as_str.ensures ∙ c.scan-item.is) in
+          let here : drop i names ≡ c.as_str.result.now ∷ drop (i + 1) names = drop_more names i _ c.loop-scan-test.true ∙ ap (λ (next : List ℕ). next ∷ drop (i + 1) names) (sym (c.as_str.ensures ∙ c.scan-item.is)) in
           c.loop-scan.invariant.comes files told taken_then held_then answer
           (subst Done (sym here) (c.in_ok-waiting.ensures.done files (c.loop-scan.invariant.same ∙ told) (drop (i + 1) names) taken_then held_then answer done));
       election = search rules;
@@ -32,6 +32,6 @@ loop-scan-preserved g c =
       no_write_fault = search rules;
       no_keeper_fault = search rules;
       asked =
-          one-more names i c.as_str.result.now _ c.loop-scan-test.true (c.as_str.ensures ∙ c.scan-item.is) g.I.Inputs c.asks_in_order.ensures c.args.inputs.now c.loop-scan.inputs c.count_input.new.inputs
+          c.asks_in_order.ensures.one_more names i c.as_str.result.now _ c.args.inputs.now c.loop-scan.inputs c.count_input.new.inputs c.loop-scan-test.true (c.as_str.ensures ∙ c.scan-item.is)
           c.loop-scan.invariant.asked c.in_ok-waiting.ensures.asked;
     }

@@ -1,5 +1,6 @@
-use Rattle.std.proofs.Common.{◌≡◌, ◌≤◌, ◌+◌, ◌*◌, [], drop, Some}
+use Rattle.std.proofs.Common.{◌≡◌, ◌≤◌, ◌+◌, ◌*◌, [], true, drop, take, Some}
 use Rattle.vx_io.specs.Outside.{Files}
+use Rattle.vx_command.specs.Asking.{Asks}
 use Rattle.vx_command.specs.Done.{WritesTo}
 use Rattle.vx_command_try.specs.Outcome.{scans_outcome}
 use Rattle.vx_command_try.specs.Setting.{WaitsSo, images_read, waits}
@@ -10,6 +11,7 @@ abbrev pub invariant-loop-scan : goal.invariant-loop-scan
 invariant-loop-scan g l = record {
   comes : (files : Files) → g.I.Inputs.held l.fn.inputs ≡ Some files → WritesTo (scans_outcome l.setting.election.now files 2 0 [] l.scans) (scans_outcome l.setting.election.now files l.word l.tried.sheets (waits l.tried.waiting) (drop l.scan-index l.scans)) (g.S.Sink.taken l.fn.out) (g.S.Sink.taken l.out);
   waits_so : WaitsSo l.setting.election.now l.tried;
+  asked : Asks g.I.Inputs (take l.scan-index l.scans) l.fn.inputs l.inputs true;
   word : l.word ≡ 2 + l.scan-index;
   room : images_read l.tried ≤ l.scan-index * 67108864;
   same : g.I.Inputs.held l.inputs ≡ g.I.Inputs.held l.fn.inputs;
