@@ -1,5 +1,5 @@
 -- How a `totals` or an `audit` goes from act to act.
-use Rattle.std.proofs.Common.{◌≡◌, ◌+◌, ℕ, Bool, true, false, cond, List, [], ◌∷◌, length, nat_lt, Option, Some, None, Result, Ok, Err, inl, inr, refl, sym, ap, subst, ◌∙◌}
+use Rattle.std.proofs.Common.{◌≡◌, ℕ, Bool, true, false, cond, List, [], ◌∷◌, length, nat_lt, Option, Some, None, Result, Ok, Err, inl, inr, refl, sym, ap, subst, ◌∙◌}
 use Rattle.vx_base.specs.Refusals.{Gives}
 use Rattle.vx_tally.specs.declared.report.Report.{Report}
 use Rattle.vx_tally.specs.declared.fault.ReportFault.{ReportFault}
@@ -12,7 +12,7 @@ use Rattle.vx_audit.specs.Hand.{is_no_memory as is_no_memory_of_hand}
 use Rattle.vx_io.specs.declared.outside.Inputs.{Ghosts as InputsOf}
 use Rattle.vx_command.specs.declared.halt.Halt.{Halt}
 use Rattle.vx_command.specs.declared.halt.Halt.TheVariants as halt
-use Rattle.vx_command.specs.Acts.{Act, Answer, Take, Write, Outcome, writing, after as after_command, goes_on, taking, input_of, input_limit}
+use Rattle.vx_command.specs.Acts.{Act, Answer, Take, Outcome, writing, after as after_command, goes_on, taking, input_of, input_limit}
 use Rattle.vx_command.specs.Asking.{Asks}
 use Rattle.vx_command.specs.Devices.{is_keeper_fault, is_read_fault}
 use Rattle.vx_command.specs.Done.{Taken, IsDone, IsWritten, WritesTo, BreaksAt}

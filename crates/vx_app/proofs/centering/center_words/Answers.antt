@@ -1,8 +1,7 @@
-use Rattle.std.proofs.Common.{◌≡◌, ◌∙◌, Bool, true, false, Some, Err, refl, ap, sym, subst}
+use Rattle.std.proofs.Common.{◌≡◌, ◌∙◌, Bool, true, false, Err, refl, ap, sym, subst}
 use Rattle.std.proofs.lemmas.Bool.{false≢true}
 use Rattle.vx_command.specs.declared.status.Status.{Status}
 use Rattle.vx_command.specs.declared.status.Status.TheVariants.{Usage}
-use Rattle.vx_command_center.specs.Runs.{Centers}
 use Rattle.vx_words.specs.declared.command.Command.{Command}
 use Rattle.vx_words.specs.declared.command.Command.TheVariants.{Center}
 use Rattle.vx_words.specs.declared.fault.UsageFault.{UsageFault}

@@ -1,4 +1,4 @@
-use Rattle.std.proofs.Common.{◌∙◌, false, List, [], ◌∷◌}
+use Rattle.std.proofs.Common.{◌∙◌, false, [], ◌∷◌}
 use Rattle.vx_base.proofs.Booleans.{not-both}
 use Rattle.vx_tally.specs.declared.report.Report.{Report}
 use Rattle.vx_command_audit.specs.Outcome.{AuditOutcome, asked_outcome, audited, with_hand}

@@ -1,4 +1,4 @@
-use Rattle.std.proofs.Common.{◌≡◌, sym, subst}
+use Rattle.std.proofs.Common.{sym, subst}
 use Rattle.vx_command.specs.Asking.{Asks}
 use Rattle.vx_command_audit.specs.Done.{IsAuditDone}
 use Rattle.vx_command_audit.specs.Outcome.{asked_outcome}
