@@ -1,7 +1,8 @@
-ghost use Rattle.std.specs.Prelude.{◌≡◌, true, false};
+ghost use Rattle.std.specs.Prelude.{◌≡◌, [], ◌∷◌, true, false, is_ok};
 ghost use Rattle.std.specs.Option.{ForSome};
 ghost use Rattle.vx_election_model.specs.Valid.{IsValid};
 ghost use Rattle.vx_audit.specs.Sized.{IsSized};
+ghost use Rattle.vx_command.specs.Asking.{Asks};
 ghost use Rattle.vx_command.specs.Devices.{LeavesDevices, TouchesInputsAndSink, writes_nothing};
 ghost use Rattle.vx_command.specs.Done.{IsDone, IsWritten};
 ghost use Rattle.vx_journal.specs.Steps.{once_read};
@@ -13,7 +14,9 @@ use crate::reading::compare_bytes;
 use std::alloc::Global;
 use vx_base::Bytes;
 use vx_center::Center;
-use vx_command::{Halt, INPUT_LIMIT, acts_in_order, steps_in_order, take_election, take_input};
+use vx_command::{
+    Halt, INPUT_LIMIT, acts_in_order, asks_in_order, steps_in_order, take_election, take_input,
+};
 use vx_election_model::Election;
 use vx_io::{Inputs, Keeper, Sink};
 use vx_journal::{journals_in_order, read_journal};
@@ -36,7 +39,9 @@ fn take_hand<I: Inputs, S: Sink>(
         IsWritten (hand_outcome seed size report.now (files hand.now)) (S.taken out.old) (S.taken out.new) result) }
     ensures late { writes_nothing false result ≡ false }
     ensures devices { TouchesInputsAndSink I.Inputs S.Sink inputs.old inputs.new out.old out.new result }
+    ensures asked { Asks I.Inputs (hand.now ∷ []) inputs.old inputs.new (is_ok result) }
 {
+    asks_in_order::<I>();
     steps_in_order::<Bytes>();
     let bytes = take_input(Bytes::new(alloc), inputs, hand, 4, INPUT_LIMIT)?;
     compare_bytes(alloc, report, seed, size, bytes.as_slice(), out)
@@ -60,7 +65,9 @@ fn sample_events<I: Inputs, S: Sink>(
         (S.taken out.old) (S.taken out.new) result) }
     ensures late { writes_nothing false result ≡ false }
     ensures devices { TouchesInputsAndSink I.Inputs S.Sink inputs.old inputs.new out.old out.new result }
+    ensures asked { Asks I.Inputs (hand.now ∷ []) inputs.old inputs.new (is_ok result) }
 {
+    asks_in_order::<I>();
     acts_in_order();
     let report = journal_report(alloc, election, center)?;
     take_hand(alloc, &report, seed, size, hand, inputs, out)
@@ -85,7 +92,9 @@ fn sample_journal<I: Inputs, S: Sink, K: Keeper>(
     ensures held { K.held keeper.new ≡ K.held keeper.old }
     ensures devices { LeavesDevices I.Inputs S.Sink K.Keeper inputs.old inputs.new out.old out.new
         keeper.old keeper.new result }
+    ensures asked { Asks I.Inputs (hand.now ∷ []) inputs.old inputs.new (is_ok result) }
 {
+    asks_in_order::<I>();
     journals_in_order();
     let journal = read_journal(alloc, election, keeper)?;
     sample_events(
@@ -133,7 +142,9 @@ pub fn sample<I: Inputs, S: Sink, K: Keeper>(
     ensures held { K.held keeper.new ≡ K.held keeper.old }
     ensures devices { LeavesDevices I.Inputs S.Sink K.Keeper inputs.old inputs.new out.old out.new
         keeper.old keeper.new result }
+    ensures asked { Asks I.Inputs (election.now ∷ hand.now ∷ []) inputs.old inputs.new (is_ok result) }
 {
+    asks_in_order::<I>();
     steps_in_order::<Election>();
     let bytes = bytes_of(seed);
     let given = take_election(alloc, inputs, election)?;
