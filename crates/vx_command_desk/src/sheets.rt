@@ -25,7 +25,8 @@ fn read_both(
 ) -> Result<(PageRead, PageRead), OutOfMemory>
     requires set { IsSet setting.now }
     ensures { IfOk result (λ both.
-        IsReadOf setting.now.election first.now both.0 × IsReadOf setting.now.election second.now both.1) }
+        IsReadOf setting.now.election.now first.now both.0
+        × IsReadOf setting.now.election.now second.now both.1) }
 {
     let mut counter = CounterMemory::new(alloc);
     let (election, plans) = (setting.election, setting.plans);
