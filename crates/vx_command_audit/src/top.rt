@@ -1,4 +1,4 @@
-ghost use Rattle.std.specs.Prelude.{◌≡◌, ◌≢◌, ◌↔◌, ◌∷◌, [], false, Some};
+ghost use Rattle.std.specs.Prelude.{◌≡◌, ◌≢◌, ◌↔◌, ◌∷◌, [], true, false, Some};
 ghost use Rattle.std.specs.Option.{ForSome};
 ghost use Rattle.vx_io.specs.Outside.{Files};
 ghost use Rattle.vx_command.specs.Asking as asking;
@@ -85,7 +85,9 @@ pub fn run_audit<I: Inputs, S: Sink>(
     ensures devices { TouchesInputsAndSink I.Inputs S.Sink inputs.old inputs.new out.old out.new (answer_of result) }
     ensures asked { (asked : Asked) → Asks words.now asked →
         asking.Asks I.Inputs (names_of asked) inputs.old inputs.new (is_done result) }
+    ensures usage_asks_nothing { result ≡ AuditStatus.Usage → asking.Asks I.Inputs [] inputs.old inputs.new true }
 {
+    asks_in_order::<I>();
     if let Some(report) = totals_in(words) {
         return totals(alloc, report, inputs, out);
     }

@@ -1,4 +1,4 @@
-ghost use Rattle.std.specs.Prelude.{◌≡◌, ◌↔◌, ℕ, List, Some, drop};
+ghost use Rattle.std.specs.Prelude.{◌≡◌, ◌↔◌, [], true, ℕ, List, Some, drop};
 ghost use Rattle.vx_io.specs.Outside.{Files};
 ghost use Rattle.vx_command.specs.Asking.{Asks};
 ghost use Rattle.vx_command.specs.Devices.{TouchesInputsAndSink};
@@ -29,8 +29,8 @@ fn gray_words<I: Inputs, S: Sink>(
         IsGrayDone (gray_outcome scans files) (S.taken out.old) (S.taken out.new) result }
     ensures usage_writes_nothing { result ≡ GrayStatus.Usage → S.taken out.new ≡ S.taken out.old }
     ensures devices { TouchesInputsAndSink I.Inputs S.Sink inputs.old inputs.new out.old out.new (answer_of result) }
-    ensures asked { Asks I.Inputs (drop 1 words.now)
-        inputs.old inputs.new (ends_well result) }
+    ensures asked { Asks I.Inputs (drop 1 words.now) inputs.old inputs.new (ends_well result) }
+    ensures usage_asks_nothing { result ≡ GrayStatus.Usage → Asks I.Inputs [] inputs.old inputs.new true }
 {
     asks_in_order::<I>();
     if !is_gray(words) {
@@ -59,8 +59,8 @@ pub fn run_gray<I: Inputs, S: Sink>(
         IsGrayDone (gray_outcome scans files) (S.taken out.old) (S.taken out.new) result }
     ensures usage_writes_nothing { result ≡ GrayStatus.Usage → S.taken out.new ≡ S.taken out.old }
     ensures devices { TouchesInputsAndSink I.Inputs S.Sink inputs.old inputs.new out.old out.new (answer_of result) }
-    ensures asked { Asks I.Inputs (drop 1 words.now)
-        inputs.old inputs.new (ends_well result) }
+    ensures asked { Asks I.Inputs (drop 1 words.now) inputs.old inputs.new (ends_well result) }
+    ensures usage_asks_nothing { result ≡ GrayStatus.Usage → Asks I.Inputs [] inputs.old inputs.new true }
     // Each image that fits a printed page with some marks is written as a bitmap that fits it with those marks.
     ensures margin { (files : Files) → I.held inputs.old ≡ Some files →
         (scans : List (List ℕ)) → SpellsGray words.now scans →

@@ -1,4 +1,4 @@
-ghost use Rattle.std.specs.Prelude.{◌≡◌, ◌↔◌, ◌∷◌, [], ℕ, List, false, is_ok, Some};
+ghost use Rattle.std.specs.Prelude.{◌≡◌, ◌↔◌, ◌∷◌, [], true, ℕ, List, false, is_ok, Some};
 ghost use Rattle.vx_io.specs.Outside.{Files};
 ghost use Rattle.vx_command.specs.Asking.{Asks};
 ghost use Rattle.vx_command.specs.Devices.{LeavesDevices};
@@ -11,6 +11,7 @@ use crate::ranking::rank;
 use crate::reading::ranked_words;
 use crate::status::{RankedStatus, status_of};
 use std::alloc::Global;
+use vx_command::asks_in_order;
 use vx_io::{Inputs, Keeper, Sink, Words};
 
 /// Does the command `ranked`, whole: reads its words, takes the election, whose cards it plans, reads its
@@ -42,7 +43,9 @@ pub fn run_ranked<I: Inputs, S: Sink, K: Keeper>(
         keeper.old keeper.new (answer_of result) }
     ensures asked { (election ranked : List ℕ) → SpellsRanked words.now election ranked →
         Asks I.Inputs (election ∷ ranked ∷ []) inputs.old inputs.new (is_ok (answer_of result)) }
+    ensures usage_asks_nothing { result ≡ RankedStatus.Usage → Asks I.Inputs [] inputs.old inputs.new true }
 {
+    asks_in_order::<I>();
     match ranked_words(words) {
         None => RankedStatus::Usage,
         Some((election, ranked)) => {
