@@ -1,6 +1,8 @@
-use Rattle.std.proofs.Common.{drop, Option, Ok, refl, subst, ◌∙◌}
+use Rattle.std.proofs.Common.{◌≤◌, ℕ, true, List, drop, length, Option, Ok, refl, sym, subst, ◌∙◌}
+use Rattle.std.proofs.lemmas.List.{drop_all}
 use Rattle.vx_io.specs.Outside.{Files}
 use Rattle.vx_gray.specs.declared.fault.PgmFault.{PgmFault}
+use Rattle.vx_command.specs.Asking.{Asks}
 use Rattle.vx_command_gray.specs.Done.{WritesFirst}
 use Rattle.vx_command_gray.specs.Outcome.{gray_outcome}
 use Rattle.vx_command_gray.proofs.Acts.{scan_written, scan_faulty, scan_broken}
@@ -31,6 +33,13 @@ returns-in-Err-clause-asked g c =
     rw (ends_ill c.status_of_halt.result c.in-Err.cause c.status_of_halt.ensures)
     (last_asked g.I.Inputs c.asks_in_order.ensures c.args.words.now (drop 1 c.args.words.now) c.loop-word.word c.word.result.now _ _ _ c.word.ensures
     c.loop-word.invariant.asked _ c.in-Err.ensures.asked)
+
+pub returns-clause-asked : goal.returns-clause-asked
+returns-clause-asked g c =
+    let past : length c.args.words.now ≤ c.loop-word.word = subst (λ (count : ℕ). count ≤ c.loop-word.word) c.count-word-end.ensures c.loop-word-test.false in
+    let Left : List (List ℕ) → Type 0 = λ names. Asks g.I.Inputs names c.loop-word.inputs c.loop-word.inputs true in
+    c.loop-word.invariant.asked c.loop-word.inputs true
+    (subst Left (sym (drop_all c.loop-word.word c.args.words.now past)) (c.asks_in_order.ensures.none c.loop-word.inputs true))
 
 pub loop-word-preserved : goal.loop-word-preserved
 loop-word-preserved g c =
