@@ -20,12 +20,9 @@ returns-in_err-tried-clause-done g c files told held =
 pub returns-in_err-tried-clause-asked : goal.returns-in_err-tried-clause-asked
 returns-in_err-tried-clause-asked g c =
     let err = err_from_is_err_and c.from_residual.result c.from_residual.ensures.1 in
-    let rest : List (List ℕ) = drop (c.loop-scan.scan-index + 1) c.args.scans.now in
-    let on : drop c.loop-scan.scan-index c.args.scans.now ≡ c.as_str-name.result.now ∷ rest =
-    drop_more c.args.scans.now c.loop-scan.scan-index _ c.loop-scan-test.true ∙ ap (λ (next : List ℕ). next ∷ rest) (sym (c.as_str-name.ensures ∙ c.scan-item.is)) in
     rw (err.1 ∙ ap Err err.2)
-    (last_asked g.I.Inputs c.asks_in_order.ensures c.args.scans.now (drop c.loop-scan.scan-index c.args.scans.now) rest c.as_str-name.result.now
-    c.args.inputs.now c.loop-scan.inputs c.try_input.new.inputs on c.loop-scan.invariant.asked false c.in_err-tried.ensures.asked)
+    (c.asks_in_order.ensures.one_breaks c.args.scans.now c.loop-scan.scan-index c.as_str-name.result.now _ c.args.inputs.now c.loop-scan.inputs c.try_input.new.inputs false
+    c.loop-scan-test.true (c.as_str-name.ensures ∙ c.scan-item.is) c.loop-scan.invariant.asked c.in_err-tried.ensures.asked)
 
 pub loop-scan-preserved : goal.loop-scan-preserved
 loop-scan-preserved g c =
@@ -38,8 +35,9 @@ loop-scan-preserved g c =
           c.loop-scan.invariant.comes files told held taken_then held_then answer
           (subst Done (sym on) (c.in_ok-tried.ensures.done files (c.loop-scan.invariant.same ∙ told) rest held taken_then held_then answer done));
       waits_so = c.in_ok-tried.ensures.waits;
-      asked = one_asked g.I.Inputs c.asks_in_order.ensures c.args.scans.now (drop c.loop-scan.scan-index c.args.scans.now) rest c.as_str-name.result.now
-          c.args.inputs.now c.loop-scan.inputs c.try_input.new.inputs on c.loop-scan.invariant.asked c.in_ok-tried.ensures.asked;
+      asked =
+          c.asks_in_order.ensures.one_more c.args.scans.now c.loop-scan.scan-index c.as_str-name.result.now _ c.args.inputs.now c.loop-scan.inputs c.try_input.new.inputs
+          c.loop-scan-test.true (c.as_str-name.ensures ∙ c.scan-item.is) c.loop-scan.invariant.asked c.in_ok-tried.ensures.asked;
       word = omega (arith, c.loop-scan.invariant.word);
       room = omega (arith, c.loop-scan.invariant.room, c.in_ok-tried.ensures.bound);
       same = c.in_ok-tried.ensures.devices.inputs.same ∙ c.loop-scan.invariant.same;
