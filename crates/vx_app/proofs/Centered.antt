@@ -1,5 +1,5 @@
 -- A run of `center`, said of the words that spell it.
-use Rattle.std.proofs.Common.{◌≡◌, ℕ, Bool, false, List, [], ◌∷◌, refl, subst}
+use Rattle.std.proofs.Common.{◌≡◌, ℕ, Bool, false, List, [], ◌∷◌, inl, refl, subst}
 use Rattle.std.proofs.lemmas.Bool.{false≢true}
 use Rattle.vx_io.specs.declared.outside.Inputs.{Ghosts as InputsOf}
 use Rattle.vx_io.specs.Laws.{AskedLaws}
