@@ -9,7 +9,6 @@ use crate::setting::Setting;
 use crate::sheets::write_sheet;
 use crate::walked::Walked;
 use std::alloc::{AllocError, Global};
-use vx_base::Bytes;
 use vx_bits::{BitPage, BitView};
 use vx_command::{Halt, acts_in_order, halt_of_bitmap};
 use vx_io::Sink;
@@ -28,7 +27,6 @@ fn copy_of(alloc: Global, image: &BitView<'_>) -> Result<BitPage, AllocError>
 /// their sheet is written.
 fn walk_image<S: Sink>(
     alloc: Global,
-    text: &mut Bytes,
     setting: &Setting<'_>,
     walked: Walked,
     image: &BitView<'_>,
@@ -52,7 +50,7 @@ fn walk_image<S: Sink>(
         }),
         Some(first) => {
             let number = sheets + 1;
-            write_sheet(alloc, text, setting, number, &first.view(), image, out)?;
+            write_sheet(alloc, setting, number, &first.view(), image, out)?;
             Ok(Walked {
                 sheets: number,
                 waiting: None,
@@ -64,7 +62,6 @@ fn walk_image<S: Sink>(
 /// The same of an image that is let go.
 fn take_image<S: Sink>(
     alloc: Global,
-    text: &mut Bytes,
     setting: &Setting<'_>,
     walked: Walked,
     image: Image<'_>,
@@ -79,13 +76,12 @@ fn take_image<S: Sink>(
     ensures sink { TouchesSink S.Sink out.old out.new result }
     ensures late { writes_nothing false result ≡ false }
 {
-    walk_image(alloc, text, setting, walked, &image.view(), out)
+    walk_image(alloc, setting, walked, &image.view(), out)
 }
 
 /// Goes through the images of the scan of a word, behind those of the scans before.
 pub(crate) fn walk_scan<S: Sink>(
     alloc: Global,
-    text: &mut Bytes,
     setting: &Setting<'_>,
     word: u32,
     walked: Walked,
@@ -108,7 +104,7 @@ pub(crate) fn walk_scan<S: Sink>(
         match reader.next() {
             Err(fault) => return Err(halt_of_bitmap(word, fault)),
             Ok(None) => return Ok(now),
-            Ok(Some(image)) => now = take_image(alloc, text, setting, now, image, out)?,
+            Ok(Some(image)) => now = take_image(alloc, setting, now, image, out)?,
         }
     }
 }

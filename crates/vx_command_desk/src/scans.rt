@@ -18,27 +18,11 @@ use vx_command::{Halt, INPUT_LIMIT, acts_in_order, asks_in_order, steps_in_order
 use vx_io::{Inputs, Sink};
 use vx_json::Text;
 
-/// What is kept over all scans, so that none takes memory anew: that of the last input and that of the last
-/// sheet's text.
-#[derive(Drop)]
-struct ScanMemory {
-    bytes: Bytes,
-    text: Bytes,
-}
-
-impl ScanMemory {
-    fn new(alloc: Global) -> ScanMemory {
-        ScanMemory {
-            bytes: Bytes::new(alloc),
-            text: Bytes::new(alloc),
-        }
-    }
-}
-
-/// Takes the scan of a word under its name and goes through its images, behind those of the scans before.
+/// Takes the scan of a word under its name, in the memory of the last one, and goes through its images, behind
+/// those of the scans before.
 fn walk_input<I: Inputs, S: Sink>(
     alloc: Global,
-    memory: &mut ScanMemory,
+    memory: &mut Bytes,
     setting: &Setting<'_>,
     name: &str,
     word: u32,
@@ -59,11 +43,10 @@ fn walk_input<I: Inputs, S: Sink>(
 {
     asks_in_order::<I>();
     steps_in_order::<Bytes>();
-    let last = replace(&mut memory.bytes, Bytes::new(alloc));
+    let last = replace(memory, Bytes::new(alloc));
     let bytes = take_input(last, inputs, name, word, INPUT_LIMIT)?;
-    let text = &mut memory.text;
-    let now = walk_scan(alloc, text, setting, word, walked, bytes.as_slice(), out);
-    memory.bytes = bytes;
+    let now = walk_scan(alloc, setting, word, walked, bytes.as_slice(), out);
+    *memory = bytes;
     now
 }
 
@@ -87,7 +70,7 @@ pub(crate) fn walk_scans<I: Inputs, S: Sink>(
 {
     asks_in_order::<I>();
     acts_in_order();
-    let mut memory = ScanMemory::new(alloc);
+    let mut memory = Bytes::new(alloc);
     let mut walked = Walked {
         sheets: 0,
         waiting: None,

@@ -35,7 +35,7 @@ fn read_both(
     Ok((first_read, second_read))
 }
 
-/// Reads both images of the sheet with a number, and makes its text in the memory of the last one's.
+/// Reads both images of the sheet with a number, and makes its text.
 fn read_sheet(
     alloc: Global,
     text: &mut Bytes,
@@ -68,26 +68,25 @@ fn read_sheet(
 /// read.
 fn make_text(
     alloc: Global,
-    text: &mut Bytes,
     setting: &Setting<'_>,
     number: u64,
     first: &BitView<'_>,
     second: &BitView<'_>,
-) -> Result<(), OutOfMemory>
+) -> Result<Bytes, OutOfMemory>
     requires set { IsSet setting.now }
-    ensures { OnOk result (text.new ≡ texts_of setting.now number first.now second.now) }
+    ensures { IfOk result (λ text. text ≡ texts_of setting.now number first.now second.now) }
 {
-    text.clear();
+    let mut text = Bytes::new(alloc);
     if waits(setting.election, setting.center, setting.batch, number) {
-        read_sheet(alloc, text, setting, number, first, second)?;
+        read_sheet(alloc, &mut text, setting, number, first, second)?;
     }
-    Ok(())
+    Ok(text)
 }
 
-/// Writes the text of the sheet with a number, of its two images.
+/// Writes the text of the sheet with a number, of its two images. Its memory is let go with it, since reading
+/// the next sheet takes as much.
 pub(crate) fn write_sheet<S: Sink>(
     alloc: Global,
-    text: &mut Bytes,
     setting: &Setting<'_>,
     number: u64,
     first: &BitView<'_>,
@@ -101,6 +100,6 @@ pub(crate) fn write_sheet<S: Sink>(
     ensures late { writes_nothing false result ≡ false }
 {
     acts_in_order();
-    make_text(alloc, text, setting, number, first, second)?;
+    let text = make_text(alloc, setting, number, first, second)?;
     write_text(out, text.as_slice())
 }
