@@ -3,9 +3,9 @@
 //!
 //! What a command does to the outside is its outcome, acts in order and an end (`specs/Acts.antt`);
 //! how far it has come when it answers stands in `specs/Done.antt`, what it leaves of the devices'
-//! counts of faults in `specs/Devices.antt`, and what a step may answer in `specs/Steps.antt`. The
-//! functions of `laws` promise the laws of `specs/Laws.antt`, with which a command's proof goes from
-//! act to act.
+//! counts of faults in `specs/Devices.antt`, which inputs it asks in `specs/Asking.antt`, and what a
+//! step may answer in `specs/Steps.antt`. The functions of `laws` promise the laws of
+//! `specs/Laws.antt` and `specs/Asking.antt`, with which a command's proof goes from act to act.
 #![tactic(auto)]
 
 mod causes;

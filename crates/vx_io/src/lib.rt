@@ -2,16 +2,18 @@
 //!
 //! `Inputs` are named files, a `Sink` takes bytes, a `Keeper` keeps records. Each means what it
 //! holds, told or not told, and a count of faults: in a call that answers `Failed` the count rises,
-//! in any other it stands still. Inputs mean what they were asked as well, told or not told. `MemInputs`, `MemSink` and `MemKeeper` hold everything in memory and
-//! fail at the listed calls and at no other, but that a full sink fails too; `StdInputs` and
-//! `StdSink` are the real files and the real standard output. `take` reads an input whole and `give`
-//! writes a text whole. `Words` are the words of a command.
+//! in any other it stands still. Inputs mean what they were asked as well, told or not told.
+//! `MemInputs`, `MemSink` and `MemKeeper` hold everything in memory and fail at the listed calls and
+//! at no other, but that a full sink fails too; `StdInputs` and `StdSink` are the real files and the
+//! real standard output. `take` reads an input whole and `give` writes a text whole. `Words` are the
+//! words of a command.
 //!
 //! The definitions stand in `specs/`: `Outside.antt` has what the outside holds and what a call
-//! counts, `Asking.antt` what inputs are asked, `Take.antt` what `take` may answer, `Fakes.antt` and `Keeping.antt` which calls fail in
-//! memory and what a call leaves, `Real.antt` what is asked of a real file and what the system's answers
-//! are told as. `Laws.antt` has the laws for callers, which the functions of `laws`
-//! promise: fronts of a text, what was taken text after text, counts of faults.
+//! counts, `Asking.antt` what inputs are asked, `Take.antt` what `take` may answer, `Fakes.antt` and
+//! `Keeping.antt` which calls fail in memory and what a call leaves, `Real.antt` what is asked of a
+//! real file and what the system's answers are told as. `Laws.antt` has the laws for callers, which
+//! the functions of `laws` promise: fronts of a text, what was taken text after text, counts of
+//! faults, questions one after the other.
 #![tactic(auto)]
 
 mod answers;
