@@ -1,4 +1,4 @@
-ghost use Rattle.std.specs.Prelude.{◌≡◌, ◌<◌, [], IfOk, OnOk, false};
+ghost use Rattle.std.specs.Prelude.{◌≡◌, IfOk, false};
 ghost use Rattle.vx_sheet.specs.Reads.{IsReadOf};
 ghost use Rattle.vx_command.specs.Acts.{writing};
 ghost use Rattle.vx_command.specs.Devices.{TouchesSink, writes_nothing};
@@ -38,20 +38,19 @@ fn read_both(
 /// Reads both images of the sheet with a number, and makes its text.
 fn read_sheet(
     alloc: Global,
-    text: &mut Bytes,
     setting: &Setting<'_>,
     number: u64,
     first: &BitView<'_>,
     second: &BitView<'_>,
-) -> Result<(), OutOfMemory>
-    requires set { IsSet setting.now }
-    requires empty { text.old ≡ [] }
-    ensures { OnOk result (text.new ≡ texts_of setting.now number first.now second.now) }
+) -> Result<Bytes, OutOfMemory>
+    requires { IsSet setting.now }
+    ensures { IfOk result (λ text. text ≡ texts_of setting.now number first.now second.now) }
 {
     let (first_read, second_read) = read_both(alloc, setting, first, second)?;
+    let mut text = Bytes::new(alloc);
     push_sheet(
         alloc,
-        text,
+        &mut text,
         setting.election,
         setting.plans,
         setting.center,
@@ -61,7 +60,8 @@ fn read_sheet(
         &first_read,
         second,
         &second_read,
-    )
+    )?;
+    Ok(text)
 }
 
 /// Makes the text of the sheet with a number. Where nothing of it waits that is empty, and its images aren't
@@ -73,14 +73,14 @@ fn make_text(
     first: &BitView<'_>,
     second: &BitView<'_>,
 ) -> Result<Bytes, OutOfMemory>
-    requires set { IsSet setting.now }
+    requires { IsSet setting.now }
     ensures { IfOk result (λ text. text ≡ texts_of setting.now number first.now second.now) }
 {
-    let mut text = Bytes::new(alloc);
     if waits(setting.election, setting.center, setting.batch, number) {
-        read_sheet(alloc, &mut text, setting, number, first, second)?;
+        read_sheet(alloc, setting, number, first, second)
+    } else {
+        Ok(Bytes::new(alloc))
     }
-    Ok(text)
 }
 
 /// Writes the text of the sheet with a number, of its two images. Its memory is let go with it, since reading

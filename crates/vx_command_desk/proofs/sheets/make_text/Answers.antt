@@ -4,7 +4,7 @@ use Rattle.vx_command_desk.proofs.sheets.make_text.Goals as goal
 
 pub returns-else-waits : goal.returns-else-waits
 returns-else-waits c =
-    c.new-text.ensures
+    c.new.ensures
     ∙ sym
     (silent c.args.setting.now.election.now c.args.setting.now.center.now.events c.args.setting.now.batch.now c.args.number c.args.first.now c.args.second.now
     (sym c.waits.ensures ∙ c.if-waits.false))
