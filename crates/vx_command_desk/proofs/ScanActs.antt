@@ -80,11 +80,14 @@ module _ (laws : ActLaws) (text : SheetTexts) (word : ℕ) (start : Walked) (byt
       (subst Done (sym left)
       (left-over mid.waiting (then_next word (Some fault) next) mid.sheets b held held (Err (Pbm word fault)) (laws.ended (Err (Pbm word fault)) b held)))
 
+  -- there was no memory
+  pub memory-ends : (next : ℕ → List Page → Outcome) → IsWritten (scan_outcome text word start.sheets (waits start.waiting) (images_of bytes) next) a b (Err NoMemory)
+  memory-ends next held = before.comes next held b held (Err NoMemory) (laws.no_memory (behind text word mid (images_left unread) next) b held)
+
   -- whatever fault the reader answers, the command halts so
   pub reader-halts : (fault : PbmFault) (unread_now : Unread) → Walks unread (Err fault) unread_now
       → (next : ℕ → List Page → Outcome) → IsWritten (scan_outcome text word start.sheets (waits start.waiting) (images_of bytes) next) a b (Err (bitmap_halt word fault))
-  reader-halts OutOfMemory unread_now walks next held =
-      before.comes next held b held (Err NoMemory) (laws.no_memory (behind text word mid (images_left unread) next) b held)
+  reader-halts OutOfMemory unread_now walks next held = memory-ends next held
   reader-halts fault unread_now walks next held = fault-halts fault walks next held
 
   -- all images were gone through

@@ -1,3 +1,4 @@
+pub mod First
 pub mod Outcome
 pub mod Setting
 pub mod Steps

@@ -20,23 +20,23 @@ use vx_json::Text;
 
 /// Takes the scan of a word under its name, in the memory of the last one, and goes through its images, behind
 /// those of the scans before.
-fn walk_input<I: Inputs, S: Sink>(
+fn walk_input<'n, I: Inputs, S: Sink>(
     alloc: Global,
     memory: &mut Bytes,
     setting: &Setting<'_>,
     name: &str,
     word: u32,
-    walked: Walked,
+    walked: Walked<'_>,
     inputs: &mut I,
     out: &mut S,
-) -> Result<Walked, Halt>
+) -> Result<Walked<'n>, Halt>
     requires set { IsSet setting.now }
     requires few { images_in walked < 2 ^ 61 }
     requires later_word { 1 < word }
     ensures done { ForSome (I.held inputs.old) (λ files.
-        WalksFirst (texts_of setting.now) (closing_of setting.now) files word walked name.now
+        WalksFirst (texts_of setting.now) (closing_of setting.now) files word walked.entry name.now
         (S.taken out.old) (S.taken out.new) result) }
-    ensures bound { IfOk result (λ now. images_in now ≤ images_in walked + 67108864) }
+    ensures bound { IfOk result (λ now. images_in now ≤ images_in walked.entry + 67108864) }
     ensures devices { TouchesInputsAndSink I.Inputs S.Sink inputs.old inputs.new out.old out.new result }
     ensures asked { Asks I.Inputs (name.now ∷ []) inputs.old inputs.new (is_ok result) }
     ensures late { writes_nothing false result ≡ false }

@@ -35,7 +35,8 @@ fn read_both(
     Ok((first_read, second_read))
 }
 
-/// Reads both images of the sheet with a number, and makes its text.
+/// Reads both images of the sheet with a number, and makes its text. The room that most texts take is taken at
+/// once: a text that grows step by step leaves the memory of each step behind.
 fn read_sheet(
     alloc: Global,
     setting: &Setting<'_>,
@@ -47,7 +48,8 @@ fn read_sheet(
     ensures { IfOk result (λ text. text ≡ texts_of setting.now number first.now second.now) }
 {
     let (first_read, second_read) = read_both(alloc, setting, first, second)?;
-    let mut text = Bytes::new(alloc);
+    let room = first.rows().len().saturating_add(second.rows().len());
+    let mut text = Bytes::with_capacity(alloc, room)?;
     push_sheet(
         alloc,
         &mut text,

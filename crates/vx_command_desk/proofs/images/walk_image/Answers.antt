@@ -1,28 +1,24 @@
 use Rattle.std.proofs.Common.{◌+◌, None, Ok, Option, Err, ap, subst, sym, ◌∙◌}
 use Rattle.std.proofs.lemmas.Result.{err_from_is_err_and}
 use Rattle.vx_plane.specs.Plane.{Page}
-use Rattle.vx_command.specs.Acts.{writing}
-use Rattle.vx_command.specs.Done.{IsWritten}
 use Rattle.vx_command_desk.specs.Setting.{texts_of}
 use Rattle.vx_command_desk.specs.Steps.{WalksImage}
 use Rattle.vx_command_desk.proofs.ImageActs.{image-halts, image-pairs, walked_so}
 use Rattle.vx_command_desk.proofs.images.walk_image.Goals as goal
 
-pub returns-in_err-write_sheet-in-Some-clause-done : goal.returns-in_err-write_sheet-in-Some-clause-done
-returns-in_err-write_sheet-in-Some-clause-done g c =
-    let err = err_from_is_err_and c.from_residual-in_err-write_sheet-in-Some.result c.from_residual-in_err-write_sheet-in-Some.ensures.1 in
-    let cause = c.in_err-write_sheet-in-Some.field-0.0 in
-    let Wrote : Page → Type 0 = λ page. IsWritten (writing (texts_of c.args.setting.now (c.args.walked.sheets + 1) page c.args.image.now)) (g.S.Sink.taken c.args.out.now) (g.S.Sink.taken c.write_sheet.new.out) (Err cause) in
-    let Walks : Option Page → Type 0 = λ waiting. WalksImage (texts_of c.args.setting.now) (walked_so c.args.walked.sheets waiting) c.args.image.now (g.S.Sink.taken c.args.out.now) (g.S.Sink.taken c.write_sheet.new.out) (Err cause) in
+pub returns-in_err-end_sheet-in-Some-clause-done : goal.returns-in_err-end_sheet-in-Some-clause-done
+returns-in_err-end_sheet-in-Some-clause-done g c =
+    let err = err_from_is_err_and c.from_residual.result c.from_residual.ensures.1 in
+    let cause = c.in_err-end_sheet-in-Some.field-0.0 in
+    let Walks : Option Page → Type 0 = λ waiting. WalksImage (texts_of c.args.setting.now) (walked_so c.args.walked.sheets waiting) c.args.image (g.S.Sink.taken c.args.out.now) (g.S.Sink.taken c.end_sheet.new.out) (Err cause) in
     rw (err.1 ∙ ap Err err.2)
     (subst Walks (sym c.in-Some.is)
-    (image-halts (texts_of c.args.setting.now) c.args.walked.sheets c.args.image.now c.acts_in_order.ensures c.in-Some.first (g.S.Sink.taken c.args.out.now) (g.S.Sink.taken c.write_sheet.new.out) cause
-    (subst Wrote c.view.ensures c.in_err-write_sheet-in-Some.ensures.done)))
+    (image-halts (texts_of c.args.setting.now) c.args.walked.sheets c.args.image c.acts_in_order.ensures c.in-Some.first (g.S.Sink.taken c.args.out.now) (g.S.Sink.taken c.end_sheet.new.out) cause
+    c.in_err-end_sheet-in-Some.ensures.done))
 
-pub returns-in_ok-write_sheet-in-Some-clause-done : goal.returns-in_ok-write_sheet-in-Some-clause-done
-returns-in_ok-write_sheet-in-Some-clause-done g c =
-    let Wrote : Page → Type 0 = λ page. IsWritten (writing (texts_of c.args.setting.now (c.args.walked.sheets + 1) page c.args.image.now)) (g.S.Sink.taken c.args.out.now) (g.S.Sink.taken c.write_sheet.new.out) (Ok tt) in
-    let Walks : Option Page → Type 0 = λ waiting. WalksImage (texts_of c.args.setting.now) (walked_so c.args.walked.sheets waiting) c.args.image.now (g.S.Sink.taken c.args.out.now) (g.S.Sink.taken c.write_sheet.new.out) (Ok (walked_so (c.args.walked.sheets + 1) None)) in
+pub returns-in_ok-end_sheet-in-Some-clause-done : goal.returns-in_ok-end_sheet-in-Some-clause-done
+returns-in_ok-end_sheet-in-Some-clause-done g c =
+    let Walks : Option Page → Type 0 = λ waiting. WalksImage (texts_of c.args.setting.now) (walked_so c.args.walked.sheets waiting) c.args.image (g.S.Sink.taken c.args.out.now) (g.S.Sink.taken c.end_sheet.new.out) (Ok (walked_so (c.args.walked.sheets + 1) None)) in
     subst Walks (sym c.in-Some.is)
-    (image-pairs (texts_of c.args.setting.now) c.args.walked.sheets c.args.image.now c.acts_in_order.ensures c.in-Some.first (g.S.Sink.taken c.args.out.now) (g.S.Sink.taken c.write_sheet.new.out)
-    (subst Wrote c.view.ensures c.in_ok-write_sheet-in-Some.ensures.done))
+    (image-pairs (texts_of c.args.setting.now) c.args.walked.sheets c.args.image c.acts_in_order.ensures c.in-Some.first (g.S.Sink.taken c.args.out.now) (g.S.Sink.taken c.end_sheet.new.out)
+    c.in_ok-end_sheet-in-Some.ensures.done)

@@ -1,10 +1,12 @@
-use Rattle.std.proofs.Common.{◌≡◌, ◌<◌, length, Option, Some, Ok, Err, refl, ap, subst, ◌∙◌}
+use Rattle.std.proofs.Common.{◌≡◌, ◌<◌, length, Option, Some, Ok, Err, refl, ap, subst, sym, ◌∙◌}
 use Rattle.std.specs.Prelude.{OnSome}
 use Rattle.std.proofs.lemmas.Result.{err_from_is_err_and}
 use Rattle.vx_plane.specs.Plane.{Page}
-use Rattle.vx_pbm.specs.Images.{Unread, with_page, images_left, Walks}
+use Rattle.vx_pbm.specs.Images.{Unread, images_of, with_page, images_left, Walks}
+use Rattle.vx_command_desk.specs.declared.walked.Walked.{Walked}
 use Rattle.vx_command_desk.specs.Setting.{texts_of}
-use Rattle.vx_command_desk.proofs.ScanActs.{all-walked, image-more, image-stops, none-yet, reader-halts}
+use Rattle.vx_command_desk.specs.Steps.{WalksScan}
+use Rattle.vx_command_desk.proofs.ScanActs.{all-walked, image-more, image-stops, memory-ends, none-yet, reader-halts}
 use Rattle.vx_command_desk.proofs.images.walk_scan.Goals as goal
 
 pub images-init : goal.images-init
@@ -20,11 +22,19 @@ returns-in-Err-clause-done g c next held =
 pub returns-in-Ok-None-clause-done : goal.returns-in-Ok-None-clause-done
 returns-in-Ok-None-clause-done g c =
     let Left : Option Page → Type 0 = λ found. Walks c.images.reader (Ok found) c.next.new.self in
-    all-walked c.acts_in_order.ensures (texts_of c.args.setting.now) c.args.word c.args.walked c.args.bytes.now _ _ c.images.now c.images.reader c.images.invariant.up_to (subst Left c.in-Ok-None.field-0-is c.in-Ok-None.ensures.images)
+    let Walked_to : Walked → Type 0 = λ walked. WalksScan (texts_of c.args.setting.now) c.args.word c.args.walked (images_of c.args.bytes.now) (g.S.Sink.taken c.args.out.now) (g.S.Sink.taken c.images.out) (Ok walked) in
+    subst Walked_to (sym c.in_ok-copied-in-Ok-None.ensures)
+    (all-walked c.acts_in_order.ensures (texts_of c.args.setting.now) c.args.word c.args.walked c.args.bytes.now _ _ c.images.now c.images.reader c.images.invariant.up_to (subst Left c.in-Ok-None.field-0-is c.in-Ok-None.ensures.images))
+
+pub returns-in_err-copied-in-Ok-None-clause-done : goal.returns-in_err-copied-in-Ok-None-clause-done
+returns-in_err-copied-in-Ok-None-clause-done g c =
+    let err = err_from_is_err_and c.from_residual.result c.from_residual.ensures.1 in
+    rw (err.1 ∙ ap Err err.2)
+    (memory-ends c.acts_in_order.ensures (texts_of c.args.setting.now) c.args.word c.args.walked c.args.bytes.now _ _ c.images.now c.images.reader c.images.invariant.up_to)
 
 pub returns-in_err-now-in-Ok-Some-clause-done : goal.returns-in_err-now-in-Ok-Some-clause-done
 returns-in_err-now-in-Ok-Some-clause-done g c =
-    let err = err_from_is_err_and c.from_residual.result c.from_residual.ensures.1 in
+    let err = err_from_is_err_and c.from_residual-in_err-now-in-Ok-Some.result c.from_residual-in_err-now-in-Ok-Some.ensures.1 in
     let Left : Option Page → Type 0 = λ found. Walks c.images.reader (Ok found) c.next.new.self in
     let left : images_left c.images.reader ≡ with_page c.in-Ok-Some.image (images_left c.next.new.self) = subst Left c.in-Ok-Some.field-0-is c.in-Ok-Some.ensures.images in
     rw (err.1 ∙ ap Err err.2) (image-stops c.acts_in_order.ensures (texts_of c.args.setting.now) c.args.word c.args.walked c.args.bytes.now _ _ c.images.now c.images.reader c.images.invariant.up_to c.in-Ok-Some.image c.next.new.self _ c.in_err-now-in-Ok-Some.field-0.0 left c.in_err-now-in-Ok-Some.ensures.done)

@@ -1,6 +1,6 @@
 use Rattle.std.proofs.Common.{◌∙◌, ℕ, List, ap}
 use Rattle.vx_bits.specs.Packed.{packed_page}
-use Rattle.vx_command_desk.proofs.images.copy_of.Goals as goal
+use Rattle.vx_command_desk.proofs.walked.copy_of.Goals as goal
 
 pub returns : goal.returns
 returns c =
