@@ -297,3 +297,7 @@ impl<'e> Center<'e> {
         self.election
     }
 }
+
+/// Lets a counting machine go. That this is safe is proved here; a crate that calls it needn't prove
+/// it again.
+pub fn drop_center(_center: Center<'_>) {}

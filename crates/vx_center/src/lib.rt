@@ -21,7 +21,7 @@ mod replying;
 mod rows;
 mod waiting;
 
-pub use center::{Center, Events};
+pub use center::{Center, Events, drop_center};
 pub use decided::Decided;
 pub use laws::{
     added_sheets_are_alone, added_sheets_fit, decisions_are_the_holders,
@@ -29,5 +29,5 @@ pub use laws::{
     replies_are_done_or_refuse, same_keys_are_equal, sheets_come_in_order, sheets_have_own_keys,
     sheets_have_own_places, sheets_stay,
 };
-pub use rows::{ExportSheet, ExportSheets, Final, Finals, SlotNames};
+pub use rows::{ExportSheet, ExportSheets, Final, Finals, SlotNames, drop_rows};
 pub use vx_events::{Decision, Event, Key, Options, Reply, WriteInName};

@@ -17,7 +17,7 @@ mod style;
 pub use choice::{Choice, Choices};
 pub use contest::{Contest, Contests};
 pub use dates::{are_digits, is_date, number_at};
-pub use election::Election;
+pub use election::{Election, drop_election};
 pub use indexes::Indexes;
 pub use named::{Named, NamedList};
 pub use reason::{Reason, ReasonSet};

@@ -73,3 +73,6 @@ fn shared<T: Send + Sync>() {}
 pub fn event_is_shared() {
     shared::<Event>()
 }
+
+/// Lets an event go. That this is safe is proved here; a crate that calls it needn't prove it again.
+pub fn drop_event(_event: Event) {}

@@ -13,7 +13,7 @@ mod key;
 mod options;
 
 pub use decision::{Decision, WriteInName};
-pub use event::{Event, event_is_shared};
+pub use event::{Event, drop_event, event_is_shared};
 pub use fitting::{fits, is_batch, is_decision, is_key, is_station};
 pub use key::Key;
 pub use options::Options;

@@ -17,7 +17,7 @@ mod reading;
 mod replaying;
 
 pub use fault::ReplayFault;
-pub use journal::Journal;
+pub use journal::{Journal, drop_journal};
 pub use keeping::{append_event, begin_journal, keep_event};
 pub use laws::{
     begun_journals_are_journals, fronts_are_journals, headers_begin_journals,

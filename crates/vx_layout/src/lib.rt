@@ -33,5 +33,5 @@ pub use laws::{
 };
 pub use lines::{TextLine, TextLines};
 pub use pages::{PagePlan, PagePlans};
-pub use plan::{CardPlan, CardPlans, card_plan_is_shared};
+pub use plan::{CardPlan, CardPlans, card_plan_is_shared, drop_plan, drop_plans};
 pub use planning::{plan_card, plan_cards};

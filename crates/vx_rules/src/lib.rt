@@ -8,5 +8,5 @@
 mod marks;
 mod rules;
 
-pub use marks::{ContestMarks, ContestMarksList, SheetMarks};
+pub use marks::{ContestMarks, ContestMarksList, SheetMarks, drop_marks};
 pub use rules::{is_blank, reason_word, reasons};

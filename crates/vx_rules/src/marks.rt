@@ -68,3 +68,7 @@ fn copy_contests(alloc: Global, list: &[ContestMarks]) -> Result<Vec<ContestMark
     }
     Ok(copy)
 }
+
+/// Lets what a sheet was read as go. That this is safe is proved here; a crate that calls it needn't
+/// prove it again.
+pub fn drop_marks(_sheet: SheetMarks) {}
