@@ -10,8 +10,11 @@
 //! whose name ends in `-wal`, until they are copied into it: both belong together.
 #![tactic(auto)]
 
+mod file;
 mod keeper;
 mod refusal;
+mod sealed;
+mod statements;
 mod table;
 
 pub use keeper::SqliteKeeper;
