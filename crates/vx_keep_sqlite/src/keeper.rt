@@ -5,6 +5,7 @@ ghost use Rattle.vx_io.specs.Outside.{Appends, CountsFaults, IsCountOf, IsRecord
 
 use crate::file::JournalFile;
 use crate::refusal::told;
+use sqlite::{File, FileStore};
 use std::alloc::AllocError;
 use std::marker::Model;
 use std::rt::HostRuntime;
@@ -16,7 +17,7 @@ use vx_io::{Keeper, KeeperError, count_fault};
 #[derive(Drop)]
 pub struct SqliteKeeper<'r> {
     rt: &'r HostRuntime,
-    file: JournalFile,
+    file: JournalFile<FileStore<File>>,
     faults: u64,
 }
 

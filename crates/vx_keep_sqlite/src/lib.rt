@@ -14,6 +14,7 @@ mod file;
 mod keeper;
 mod refusal;
 mod sealed;
+mod shelf;
 mod statements;
 mod table;
 

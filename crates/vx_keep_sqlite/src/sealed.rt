@@ -6,6 +6,7 @@ ghost use Rattle.sqlite_disk.specs.Disk.{Holds};
 ghost use Rattle.sqlite_disk.specs.Memory.{memory_bytes, memory_is_usable};
 ghost use Rattle.vx_keep_sqlite.specs.Sealed as told;
 
+use crate::shelf::Shelf;
 use os::{RangeLock, try_lock_range};
 use sqlite::{Connection, Error, ErrorCode, FileStore, Files, Options};
 use sqlite_disk::{Disk, Memory};
@@ -153,14 +154,17 @@ fn both_at(rt: &HostRuntime, real: &str) -> Result<Files<Memory>, Error>
 }
 
 /// A connection to the database that the file and its log hold. What it writes stays in memory.
-pub(crate) fn open_sealed(
-    rt: &HostRuntime,
-    path: &str,
-) -> Result<Connection<FileStore<Memory>>, Error> {
+fn open_sealed(rt: &HostRuntime, path: &str) -> Result<Connection<FileStore<Memory>>, Error> {
     let real = real_path(rt, path)?;
     let files = both_at(rt, real.as_str())?;
     match Connection::open_files(rt.alloc(), files, Options::new(0)) {
         Ok(connection) => Ok(connection),
         Err((error, _left)) => Err(error),
     }
+}
+
+/// The records that the file and its log hold.
+pub(crate) fn sealed_records(rt: &HostRuntime, path: &str) -> Result<Shelf, Error> {
+    let mut connection = open_sealed(rt, path)?;
+    Shelf::of(rt.alloc(), &mut connection)
 }

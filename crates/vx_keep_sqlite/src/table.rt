@@ -21,7 +21,7 @@ impl<S: Alter> Model for Table<S> {
 }
 
 /// Makes the table where it isn't there, and counts its records.
-fn begin<S: Alter>(connection: &mut Connection<S>) -> Result<i64, Error> {
+pub(crate) fn begin<S: Alter>(connection: &mut Connection<S>) -> Result<i64, Error> {
     make_table(connection)?;
     count_records(connection)
 }
@@ -40,7 +40,7 @@ impl<S: Alter + Drop> Table<S> {
 }
 
 /// A count of records, where it is one.
-fn count_of(records: i64) -> Result<u64, Error>
+pub(crate) fn count_of(records: i64) -> Result<u64, Error>
     ensures { IfOk result (λ count. pos count ≡ records) }
 {
     match u64::try_from(records) {
