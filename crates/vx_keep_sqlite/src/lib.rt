@@ -10,8 +10,12 @@
 //! whose name ends in `-wal`, until they are copied into it: both belong together.
 #![tactic(auto)]
 
+mod file;
 mod keeper;
 mod refusal;
+mod sealed;
+mod shelf;
+mod statements;
 mod table;
 
 pub use keeper::SqliteKeeper;
