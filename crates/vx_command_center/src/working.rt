@@ -18,7 +18,7 @@ use std::thread::Threads;
 use vx_base::{Bytes, OutOfMemory};
 use vx_election_model::Election;
 use vx_events::Event;
-use vx_journal::Journal;
+use vx_journal::{Journal, drop_journal};
 use vx_layout::{CardPlans, plans_show_each_option};
 use vx_shared::{
     Desk, Entries, Pass, SharedCenter, Work, make_all, passes_gain_their_calls, run_all,
@@ -122,12 +122,25 @@ pub fn run_items<R: Threads + Wait + Sync, G: Gate>(
 
 /// A center whose items have ended: the journal of all events that are kept now, the history of its calls, and
 /// the lines of the sheets that make no event.
-#[derive(Drop)]
 pub(crate) struct Ended<'e> {
     pub(crate) journal: Journal<'e>,
     pub(crate) history: Entries,
     pub(crate) text: Bytes,
 }
+
+/// Lets a center whose items have ended go.
+pub(crate) fn drop_ended(ended: Ended<'_>) {
+    let Ended {
+        journal,
+        history,
+        text: _text,
+    } = ended;
+    drop_journal(journal);
+    drop_entries(history);
+}
+
+/// Lets a history go.
+fn drop_entries(_history: Entries) {}
 
 /// How many events the items may have.
 fn possible_events(items: &[Item]) -> u64
