@@ -17,7 +17,7 @@ ghost use Rattle.vx_words.specs.declared.command.Command.{Command as CommandOf};
 ghost use Rattle.vx_words.specs.Words.{IsSound, Spells};
 ghost use Rattle.vx_app.specs.Outcome.{appends, inputs_of, outcome_of, takes_first, uses_keeper};
 ghost use Rattle.vx_app.specs.Counting.{IsCount};
-ghost use Rattle.vx_app.specs.Journals.{HoldsMore, IsFor};
+ghost use Rattle.vx_app.specs.Journals.{HoldsMore, IsFor, IsNamed, IsRunOver};
 ghost use Rattle.vx_app.specs.Runs.{NoRun, SpellsRun, is_run};
 
 use crate::centering::is_center;
@@ -282,6 +282,13 @@ pub fn run<R: Threads + Sync, I: Inputs, S: Sink, K: Keeper>(
         (records : List (List ℕ)) → K.held keeper.old ≡ Some records →
         (events : List Event) → replay_of election records ≡ Ok events →
         HoldsMore election events (K.held keeper.new) }
+    // So the call is a run, of which the laws on lists of runs speak.
+    ensures a_run { (files : Files) → I.held inputs.old ≡ Some files →
+        (command : CommandOf) → SpellsRun words.now command →
+        (election : Election) → IsFor command files election →
+        (records : List (List ℕ)) → K.held keeper.old ≡ Some records →
+        IsRunOver election records words.now command files
+        (S.taken out.old) (S.taken out.new) (K.held keeper.new) (answer_of result) }
     // An `export` that ends well has written the report of exactly the kept events: their sheets' marks as
     // they were read, with the last decisions applied, without any contest that has a reason and no decision.
     ensures exported { (files : Files) → I.held inputs.old ≡ Some files →
@@ -337,6 +344,36 @@ pub fn run_count<R: Threads + Sync, I: Inputs, S: Sink, K: Keeper, G: Gate>(
     ensures asked { (election batch : List ℕ) (workers : ℕ) (scans : List (List ℕ)) →
         Spells words.now (Command.Count election batch workers scans) →
         Asks I.Inputs (election ∷ scans) inputs.old inputs.new (is_ok (answer_of result)) }
+    // Of each two images that fit the front and the back of a card with some marks, as they lie or turned, in
+    // either order, the record of that sheet with those marks is kept, where its key is new.
+    ensures margin_of_count { (files : Files) → I.held inputs.old ≡ Some files →
+        (election batch : List ℕ) (workers : ℕ) (scans : List (List ℕ)) →
+        Spells words.now (Command.Count election batch workers scans) →
+        (records : List (List ℕ)) → K.held keeper.old ≡ Some records →
+        CountKeepsWhatFits election batch scans files records
+        (K.held keeper.old) (K.held keeper.new) (answer_of result) }
+    // Whatever the status, a journal of the election stays one, which keeps the events that it kept, and perhaps
+    // more behind them.
+    ensures journal_kept { (files : Files) → I.held inputs.old ≡ Some files →
+        (name batch : List ℕ) (workers : ℕ) (scans : List (List ℕ)) →
+        Spells words.now (Command.Count name batch workers scans) →
+        (election : Election) → IsNamed name files election →
+        (records : List (List ℕ)) → K.held keeper.old ≡ Some records →
+        (events : List Event) → replay_of election records ≡ Ok events →
+        HoldsMore election events (K.held keeper.new) }
+    ensures a_run { (files : Files) → I.held inputs.old ≡ Some files →
+        (name batch : List ℕ) (workers : ℕ) (scans : List (List ℕ)) →
+        Spells words.now (Command.Count name batch workers scans) →
+        (election : Election) → IsNamed name files election →
+        (records : List (List ℕ)) → K.held keeper.old ≡ Some records →
+        IsRunOver election records words.now (Command.Count name batch workers scans) files
+        (S.taken out.old) (S.taken out.new) (K.held keeper.new) (answer_of result) }
 {
+    fitting_sheets_are_kept();
+    count_keeps_journals();
+    decide_keeps_journals();
+    center_keeps_journals();
+    journals_stay();
+    fronts_are_journals();
     run_words(rt, alloc, words, inputs, out, keeper, gate)
 }
