@@ -1,5 +1,5 @@
 -- The prints of a sheet are counted, and stand in the export.
-use Rattle.std.proofs.Common.{◌≡◌, ◌<◌, ◌≤◌, ℕ, inl, Bool, true, false, List, [], ◌∷◌, ◌++◌, length, refl, sym, ap, ap₂, subst, ◌∙◌, arith}
+use Rattle.std.proofs.Common.{◌≡◌, ◌<◌, ◌≤◌, ℕ, inl, Bool, false, List, [], ◌∷◌, ◌++◌, length, refl, sym, ap, subst, ◌∙◌, arith}
 use Rattle.std.specs.Prelude.{Option, Some, None, Ok, Result, nat_lt, slice_get}
 use Rattle.std.proofs.lemmas.Bool.Decides.{nat_tests}
 use Rattle.vx_plane.specs.Plane.{Page}
@@ -18,7 +18,7 @@ use Rattle.vx_scan_model.specs.Fits.{CleanPrintsFit, Fits, no_marks}
 use Rattle.vx_sheet.specs.Margin.{FitsSheet, MarkedSheet, back_of, front_of}
 use Rattle.vx_center.specs.Replies.{event_limit}
 use Rattle.vx_command.specs.declared.halt.Halt.{Halt}
-use Rattle.vx_command.specs.Acts.{Answer, input_limit, input_of}
+use Rattle.vx_command.specs.Acts.{input_limit, input_of}
 use Rattle.vx_command.specs.Images.{images_and, images_in, unless_faulty_before}
 use Rattle.vx_command.specs.Texts.{broke_off}
 use Rattle.vx_command_count.specs.Margin.{key_at}

@@ -1,4 +1,4 @@
-use Rattle.std.proofs.Common.{Some, refl, subst, sym}
+use Rattle.std.proofs.Common.{refl, subst, sym}
 use Rattle.std.proofs.lemmas.Bool.{false≢true}
 use Rattle.vx_command.specs.Done.{Held, IsDone}
 use Rattle.vx_command.specs.Status.{answer_of}
