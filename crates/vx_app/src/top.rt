@@ -43,28 +43,31 @@ use vx_journal::{fronts_are_journals, journals_stay};
 use vx_words::{Command, UsageFault, parse, words_spell_one_command};
 use vx_workers::{Gate, OpenGate};
 
+/// Lets a command go.
+fn drop_command(_command: Command) {}
+
 /// Does a command; the workers of `count` go through the gate.
 fn obey<R: Threads + Sync, I: Inputs, S: Sink, K: Keeper, G: Gate>(
     rt: &R,
     alloc: Global,
-    command: Command,
+    command: &Command,
     inputs: &mut I,
     out: &mut S,
     keeper: &mut K,
     gate: &G,
 ) -> Result<(), Halt>
-    requires sound { (device : List ℕ) × IsSound device command }
-    requires is_run { is_run command ≡ true }
+    requires sound { (device : List ℕ) × IsSound device command.now }
+    requires is_run { is_run command.now ≡ true }
     ensures done { (files : Files) → I.held inputs.old ≡ Some files →
-        (records : List (List ℕ)) → (uses_keeper command ≡ true → K.held keeper.old ≡ Some records) →
-        IsDone (outcome_of command files records)
+        (records : List (List ℕ)) → (uses_keeper command.now ≡ true → K.held keeper.old ≡ Some records) →
+        IsDone (outcome_of command.now files records)
         (S.taken out.old) (S.taken out.new) (K.held keeper.old) (K.held keeper.new) result }
-    ensures nothing_written { writes_nothing (takes_first command) result ≡ true →
+    ensures nothing_written { writes_nothing (takes_first command.now) result ≡ true →
         S.taken out.new ≡ S.taken out.old }
     ensures devices { LeavesDevices I.Inputs S.Sink K.Keeper inputs.old inputs.new out.old out.new
         keeper.old keeper.new result }
-    ensures asked { Asks I.Inputs (inputs_of command) inputs.old inputs.new (is_ok result) }
-    ensures keeper_held { appends command ≡ false → K.held keeper.new ≡ K.held keeper.old }
+    ensures asked { Asks I.Inputs (inputs_of command.now) inputs.old inputs.new (is_ok result) }
+    ensures keeper_held { appends command.now ≡ false → K.held keeper.new ≡ K.held keeper.old }
 {
     asks_in_order::<I>();
     match command {
@@ -76,11 +79,15 @@ fn obey<R: Threads + Sync, I: Inputs, S: Sink, K: Keeper, G: Gate>(
         } => print(
             alloc,
             election.as_str(),
-            Ballot { card, kind, test },
+            Ballot {
+                card: *card,
+                kind: *kind,
+                test: *test,
+            },
             inputs,
             out,
         ),
-        Command::Read { election, scans } => read(alloc, election.as_str(), &scans, inputs, out),
+        Command::Read { election, scans } => read(alloc, election.as_str(), scans, inputs, out),
         Command::Check {
             election,
             scans,
@@ -103,8 +110,8 @@ fn obey<R: Threads + Sync, I: Inputs, S: Sink, K: Keeper, G: Gate>(
             alloc,
             election.as_str(),
             batch.as_str(),
-            workers,
-            &scans,
+            *workers,
+            scans,
             inputs,
             out,
             keeper,
@@ -132,10 +139,10 @@ fn obey<R: Threads + Sync, I: Inputs, S: Sink, K: Keeper, G: Gate>(
             out,
             keeper,
         ),
-        Command::Demo { seed, sheets } => demo(rt, alloc, seed, sheets, out),
+        Command::Demo { seed, sheets } => demo(rt, alloc, *seed, *sheets, out),
         Command::Center { .. } => unreachable!(),
         Command::Try { election, scans } => {
-            try_sheets(alloc, election.as_str(), &scans, inputs, out)
+            try_sheets(alloc, election.as_str(), scans, inputs, out)
         }
         Command::Cards { election } => cards(alloc, election.as_str(), inputs, out),
         Command::Results { election } => results(alloc, election.as_str(), inputs, out, keeper),
@@ -148,7 +155,7 @@ fn obey<R: Threads + Sync, I: Inputs, S: Sink, K: Keeper, G: Gate>(
             alloc,
             election.as_str(),
             seed.as_str(),
-            size,
+            *size,
             hand.as_str(),
             inputs,
             out,
@@ -162,7 +169,7 @@ fn obey<R: Threads + Sync, I: Inputs, S: Sink, K: Keeper, G: Gate>(
             alloc,
             election.as_str(),
             batch.as_str(),
-            &scans,
+            scans,
             inputs,
             out,
             keeper,
@@ -209,7 +216,11 @@ fn run_words<R: Threads + Sync, I: Inputs, S: Sink, K: Keeper, G: Gate>(
     match parse(alloc, words) {
         Err(UsageFault::OutOfMemory) => Status::Halted(Halt::NoMemory),
         Err(UsageFault::Usage) => Status::Usage,
-        Ok(command) => status_of(obey(rt, alloc, command, inputs, out, keeper, gate)),
+        Ok(command) => {
+            let done = obey(rt, alloc, &command, inputs, out, keeper, gate);
+            drop_command(command);
+            status_of(done)
+        }
     }
 }
 
