@@ -16,6 +16,7 @@ use std::alloc::Global;
 use std::sync::Wait;
 use std::thread::Threads;
 use vx_base::{Bytes, OutOfMemory};
+use vx_center::drop_center;
 use vx_election_model::Election;
 use vx_events::Event;
 use vx_journal::{Journal, drop_journal};
@@ -179,12 +180,22 @@ pub(crate) fn work_off<'e, R: Threads + Wait + Sync, G: Gate>(
     let calls = possible_events(items).max(1);
     let (shared, pass) = SharedCenter::new(alloc, center, items.len() as u32, calls)?;
     let (pass, answer) = run_items(rt, alloc, election, plans, &shared, pass, items, gate);
-    let text = answer?;
     passes_gain_their_calls();
-    let (center, history) = shared.close(pass);
-    Ok(Ended {
-        journal: Journal { center, is_new },
-        history,
-        text,
-    })
+    match answer {
+        Ok(text) => {
+            let (center, history) = shared.close(pass);
+            let journal = Journal { center, is_new };
+            Ok(Ended {
+                journal,
+                history,
+                text,
+            })
+        }
+        Err(no_memory) => {
+            let (center, history) = shared.close(pass);
+            drop_center(center);
+            drop_entries(history);
+            Err(no_memory)
+        }
+    }
 }
