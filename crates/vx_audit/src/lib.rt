@@ -22,7 +22,7 @@ mod units;
 mod words;
 
 pub use comparing::audit_text;
-pub use hand::{Hand, HandFault, HandLine};
+pub use hand::{Hand, HandFault, HandLine, drop_hand};
 pub use lines::read_hand;
 pub use reading::read_sized;
 pub use sample::{Places, draw_sample};

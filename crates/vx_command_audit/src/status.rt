@@ -7,7 +7,7 @@ use vx_command::Halt;
 use vx_tally::ReportFault;
 
 /// What a `totals` or an `audit` ends with. Words are counted from 0.
-#[derive(Debug, Drop)]
+#[derive(Drop)]
 pub enum AuditStatus {
     /// The text was written.
     Ok,

@@ -4,7 +4,8 @@ ghost use Rattle.vx_io.specs.Outside.{Files};
 ghost use Rattle.vx_command.specs.Asking as asking;
 ghost use Rattle.vx_command.specs.Devices.{TouchesInputsAndSink};
 ghost use Rattle.vx_command_audit.specs.Done.{IsAuditDone};
-ghost use Rattle.vx_command_audit.specs.Outcome.{asked_outcome};
+ghost use Rattle.vx_audit.specs.Sized.{IsSized};
+ghost use Rattle.vx_command_audit.specs.Outcome.{asked_outcome, audited, with_hand};
 ghost use Rattle.vx_command_audit.specs.Status.{answer_of, is_done, may_have_written};
 ghost use Rattle.vx_command_audit.specs.Words.{Asked, Audit, Totals, Asks, AsksNothing, names_of};
 
@@ -13,8 +14,10 @@ use crate::status::AuditStatus;
 use crate::taking::{take_hand, take_report};
 use crate::writing::{write_audit, write_totals};
 use std::alloc::Global;
+use vx_audit::drop_hand;
 use vx_command::asks_in_order;
 use vx_io::{Inputs, Sink, Words};
+use vx_tally::{Report, drop_report};
 use vx_words::{sample_seed, sample_size};
 
 /// Does the command `totals` of the report under a name.
@@ -28,7 +31,41 @@ fn totals<I: Inputs, S: Sink>(alloc: Global, name: &str, inputs: &mut I, out: &m
 {
     asks_in_order::<I>();
     match take_report(alloc, name, inputs) {
-        Ok(report) => write_totals(alloc, &report, out),
+        Ok(report) => {
+            let done = write_totals(alloc, &report, out);
+            drop_report(report);
+            done
+        }
+        Err(status) => status,
+    }
+}
+
+/// Takes what hands read of a report under its name, and writes the audit.
+fn audit_report<I: Inputs, S: Sink>(
+    alloc: Global,
+    report: &Report,
+    seed: [u8; 32],
+    size: u32,
+    hand: &str,
+    inputs: &mut I,
+    out: &mut S,
+) -> AuditStatus
+    requires { IsSized report.now }
+    ensures done { ForSome (I.held inputs.old) (λ files.
+        IsAuditDone (with_hand report.now (files hand.now) (audited seed size report.now))
+        (S.taken out.old) (S.taken out.new) result) }
+    ensures nothing_written { may_have_written result ≡ false → S.taken out.new ≡ S.taken out.old }
+    ensures devices { TouchesInputsAndSink I.Inputs S.Sink inputs.old inputs.new out.old out.new (answer_of result) }
+    ensures asked { asking.Asks I.Inputs (hand.now ∷ []) inputs.old inputs.new (is_done result) }
+    ensures no_usage { result ≢ AuditStatus.Usage }
+{
+    asks_in_order::<I>();
+    match take_hand(alloc, report, hand, inputs) {
+        Ok(hand) => {
+            let done = write_audit(alloc, report, &hand, seed, size, out);
+            drop_hand(hand);
+            done
+        }
         Err(status) => status,
     }
 }
@@ -56,10 +93,9 @@ fn audit<I: Inputs, S: Sink>(
         Ok(report) => report,
         Err(status) => return status,
     };
-    match take_hand(alloc, &report, hand, inputs) {
-        Ok(hand) => write_audit(alloc, &report, &hand, seed, size, out),
-        Err(status) => status,
-    }
+    let done = audit_report(alloc, &report, seed, size, hand, inputs, out);
+    drop_report(report);
+    done
 }
 
 /// Does the command `totals` or `audit`, whole: reads its words, takes and reads its inputs in their order, each

@@ -6,7 +6,7 @@ use vx_command::Halt;
 use vx_ranked::RankedFault;
 
 /// What a `ranked` ends with.
-#[derive(Debug, Drop)]
+#[derive(Drop)]
 pub enum RankedStatus {
     /// The rounds of all groups were written.
     Ok,

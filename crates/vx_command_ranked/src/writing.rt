@@ -19,7 +19,9 @@ use vx_command::{Halt, acts_in_order, write_text};
 use vx_election_model::Election;
 use vx_io::Sink;
 use vx_layout::CardPlans;
-use vx_ranked::{Group, RankedFault, ranked_text, read_groups_are_groups, read_ranked};
+use vx_ranked::{
+    Group, RankedFault, drop_groups, ranked_text, read_groups_are_groups, read_ranked,
+};
 
 /// What is written of groups.
 fn text_of(
@@ -81,7 +83,9 @@ pub(crate) fn write_rounds<S: Sink>(
     read_groups_are_groups();
     match read_ranked(alloc, election, plans, bytes) {
         Ok(groups) => {
-            write_groups(alloc, election, center, groups.as_slice(), out)?;
+            let done = write_groups(alloc, election, center, groups.as_slice(), out);
+            drop_groups(groups);
+            done?;
             Ok(None)
         }
         Err(RankedFault::OutOfMemory) => Err(Halt::NoMemory),

@@ -15,9 +15,9 @@ use std::alloc::Global;
 use vx_base::Bytes;
 use vx_center::Center;
 use vx_command::{Halt, acts_in_order, asks_in_order, steps_in_order, take_election, write_text};
-use vx_election_model::Election;
+use vx_election_model::{Election, drop_election};
 use vx_io::{Inputs, Keeper, Sink};
-use vx_journal::{journals_in_order, read_journal};
+use vx_journal::{drop_journal, journals_in_order, read_journal};
 use vx_results::results_text;
 
 /// The results of a journal's events.
@@ -68,7 +68,9 @@ fn results_of<S: Sink, K: Keeper>(
 {
     journals_in_order();
     let journal = read_journal(alloc, election, keeper)?;
-    write_results(alloc, election, &journal.center, out)
+    let done = write_results(alloc, election, &journal.center, out);
+    drop_journal(journal);
+    done
 }
 
 /// Does the command `results`: takes the election under its name, which is word 1, reads its journal, and
@@ -92,5 +94,7 @@ pub fn results<I: Inputs, S: Sink, K: Keeper>(
     asks_in_order::<I>();
     steps_in_order::<Election>();
     let given = take_election(alloc, inputs, election)?;
-    results_of(alloc, &given, out, keeper)
+    let done = results_of(alloc, &given, out, keeper);
+    drop_election(given);
+    done
 }

@@ -9,7 +9,7 @@ ghost use Rattle.vx_command_sample.specs.Outcome.{hand_halt, handed_outcome, rea
 
 use crate::writing::write_sample;
 use std::alloc::Global;
-use vx_audit::{Hand, HandFault, read_hand};
+use vx_audit::{Hand, HandFault, drop_hand, read_hand};
 use vx_command::{Halt, steps_in_order};
 use vx_io::Sink;
 use vx_tally::Report;
@@ -56,5 +56,7 @@ pub(crate) fn compare_bytes<S: Sink>(
 {
     steps_in_order::<Hand>();
     let hand = hand_in(alloc, report, bytes)?;
-    write_sample(alloc, report, &hand, seed, size, out)
+    let done = write_sample(alloc, report, &hand, seed, size, out);
+    drop_hand(hand);
+    done
 }

@@ -17,11 +17,11 @@ use vx_center::Center;
 use vx_command::{
     Halt, INPUT_LIMIT, acts_in_order, asks_in_order, steps_in_order, take_election, take_input,
 };
-use vx_election_model::Election;
+use vx_election_model::{Election, drop_election};
 use vx_io::{Inputs, Keeper, Sink};
-use vx_journal::{journals_in_order, read_journal};
+use vx_journal::{drop_journal, journals_in_order, read_journal};
 use vx_results::journal_report;
-use vx_tally::Report;
+use vx_tally::{Report, drop_report};
 use vx_words::sample_seed;
 
 /// Takes what hands read of a report under its name, which is word 4, and writes the comparison.
@@ -70,7 +70,9 @@ fn sample_events<I: Inputs, S: Sink>(
     asks_in_order::<I>();
     acts_in_order();
     let report = journal_report(alloc, election, center)?;
-    take_hand(alloc, &report, seed, size, hand, inputs, out)
+    let done = take_hand(alloc, &report, seed, size, hand, inputs, out);
+    drop_report(report);
+    done
 }
 
 /// Reads the journal and does the rest.
@@ -97,16 +99,10 @@ fn sample_journal<I: Inputs, S: Sink, K: Keeper>(
     asks_in_order::<I>();
     journals_in_order();
     let journal = read_journal(alloc, election, keeper)?;
-    sample_events(
-        alloc,
-        election,
-        &journal.center,
-        seed,
-        size,
-        hand,
-        inputs,
-        out,
-    )
+    let center = &journal.center;
+    let done = sample_events(alloc, election, center, seed, size, hand, inputs, out);
+    drop_journal(journal);
+    done
 }
 
 /// The bytes of a seed's word.
@@ -148,5 +144,7 @@ pub fn sample<I: Inputs, S: Sink, K: Keeper>(
     steps_in_order::<Election>();
     let bytes = bytes_of(seed);
     let given = take_election(alloc, inputs, election)?;
-    sample_journal(alloc, &given, bytes, size, hand, inputs, out, keeper)
+    let done = sample_journal(alloc, &given, bytes, size, hand, inputs, out, keeper);
+    drop_election(given);
+    done
 }

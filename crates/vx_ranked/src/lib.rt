@@ -24,7 +24,7 @@ mod splits;
 mod telling;
 
 pub use fault::RankedFault;
-pub use groups::{Group, Groups};
+pub use groups::{Group, Groups, drop_groups};
 pub use laws::{read_groups_are_groups, undecided_sheets_are_ranked_as_marked};
 pub use reading::read_ranked;
 pub use sheets::SheetRankings;

@@ -13,7 +13,7 @@ use crate::waiting::count_waiting;
 use std::alloc::Global;
 use vx_audit::totals_text;
 use vx_base::OutOfMemory;
-use vx_center::Center;
+use vx_center::{Center, drop_rows};
 use vx_cvr::report_rows;
 use vx_election_model::Election;
 use vx_tally::Report;
@@ -39,7 +39,9 @@ fn count(alloc: Global, election: &Election, center: &Center<'_>) -> Result<Coun
     rows_fit();
     let rows = report_rows(alloc, election, center)?;
     let waiting = count_waiting(election, center, rows.as_slice());
-    let report = report_of(alloc, election, rows.as_slice())?;
+    let made = report_of(alloc, election, rows.as_slice());
+    drop_rows(rows);
+    let report = made?;
     Ok(Counted { report, waiting })
 }
 

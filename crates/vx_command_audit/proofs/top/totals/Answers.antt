@@ -9,15 +9,15 @@ use Rattle.vx_command_audit.proofs.top.totals.Goals as goal
 pub returns-in-Ok-clause-done : goal.returns-in-Ok-clause-done
 returns-in-Ok-clause-done g c files told =
     let taken = g.S.Sink.taken c.args.out.now in
-    comes_done (asked_outcome (Totals c.args.name.now) files) (writes (totals_text c.in-Ok.report)) taken (g.S.Sink.taken c.write_totals.new.out)
-    c.write_totals.result (c.in-Ok.ensures.done files told taken (λ given. writes (totals_text given))) c.write_totals.ensures.done
+    comes_done (asked_outcome (Totals c.args.name.now) files) (writes (totals_text c.in-Ok.report)) taken (g.S.Sink.taken c.write_totals-done.new.out)
+    c.write_totals-done.result (c.in-Ok.ensures.done files told taken (λ given. writes (totals_text given))) c.write_totals-done.ensures.done
 
 pub returns-in-Err-clause-done : goal.returns-in-Err-clause-done
 returns-in-Err-clause-done g c files told =
     c.in-Err.ensures.done files told (g.S.Sink.taken c.args.out.now) (λ given. writes (totals_text given))
 
 pub returns-in-Ok-clause-nothing_written : goal.returns-in-Ok-clause-nothing_written
-returns-in-Ok-clause-nothing_written g c never = absurd (not-both _ c.write_totals.ensures.late never)
+returns-in-Ok-clause-nothing_written g c never = absurd (not-both _ c.write_totals-done.ensures.late never)
 
 pub returns-in-Err-clause-asked : goal.returns-in-Err-clause-asked
 returns-in-Err-clause-asked g c =

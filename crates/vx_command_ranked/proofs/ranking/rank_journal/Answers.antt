@@ -23,7 +23,7 @@ returns-clause-done g c files told records kept =
     let held = g.K.Keeper.held c.args.keeper.now in
     rw c.read_journal.ensures.held
     (comes_done (journal_outcome election plans file records) (rest c.in_ok-journal.journal) (g.S.Sink.taken c.args.out.now)
-    (g.S.Sink.taken c.args.out.now) (g.S.Sink.taken c.rank_file.new.out) held held held (status_of c.rank_file.result)
+    (g.S.Sink.taken c.args.out.now) (g.S.Sink.taken c.rank_file-done.new.out) held held held (status_of c.rank_file-done.result)
     (read c.journals_in_order.ensures election records rest (g.S.Sink.taken c.args.out.now) held c.in_ok-journal.journal
     (c.in_ok-journal.ensures.told records kept))
-    (c.rank_file.ensures.done files told held))
+    (c.rank_file-done.ensures.done files told held))

@@ -9,6 +9,6 @@ pub returns-clause-done : goal.returns-clause-done
 returns-clause-done g c files told records kept =
     c.steps_in_order.ensures.taken 1 (election_in (files c.args.election.now)) c.in_ok-given.given
     (λ (given : Election). once_read given records (λ journal. writing (results_text given journal.center.events))) (g.S.Sink.taken c.args.out.now)
-    (c.in_ok-given.ensures.told files told) (g.K.Keeper.held c.args.keeper.now) (g.S.Sink.taken c.results_of.new.out) (g.K.Keeper.held c.results_of.new.keeper)
-    c.results_of.result
-    (c.results_of.ensures.done records kept)
+    (c.in_ok-given.ensures.told files told) (g.K.Keeper.held c.args.keeper.now) (g.S.Sink.taken c.results_of-done.new.out) (g.K.Keeper.held c.results_of-done.new.keeper)
+    c.results_of-done.result
+    (c.results_of-done.ensures.done records kept)

@@ -9,9 +9,9 @@ use Rattle.vx_command_results.proofs.writing.results_of.Goals as goal
 pub returns-clause-done : goal.returns-clause-done
 returns-clause-done g c records told =
     let rest : Journal → Outcome = λ journal. writing (results_text c.args.election.now journal.center.events) in
-    let Done : Held → Type 0 = λ held. IsDone (once_read c.args.election.now records rest) (g.S.Sink.taken c.args.out.now) (g.S.Sink.taken c.write_results.new.out)
-    (g.K.Keeper.held c.args.keeper.now) held c.write_results.result in
+    let Done : Held → Type 0 = λ held. IsDone (once_read c.args.election.now records rest) (g.S.Sink.taken c.args.out.now) (g.S.Sink.taken c.write_results-done.new.out)
+    (g.K.Keeper.held c.args.keeper.now) held c.write_results-done.result in
     subst Done (sym c.read_journal.ensures.held)
     (c.journals_in_order.ensures.read c.args.election.now records c.in_ok-journal.journal rest (g.S.Sink.taken c.args.out.now) (g.K.Keeper.held c.args.keeper.now)
-    (c.in_ok-journal.ensures.told records told) (g.S.Sink.taken c.write_results.new.out) (g.K.Keeper.held c.args.keeper.now) c.write_results.result
-    (c.write_results.ensures.done (g.K.Keeper.held c.args.keeper.now)))
+    (c.in_ok-journal.ensures.told records told) (g.S.Sink.taken c.write_results-done.new.out) (g.K.Keeper.held c.args.keeper.now) c.write_results-done.result
+    (c.write_results-done.ensures.done (g.K.Keeper.held c.args.keeper.now)))

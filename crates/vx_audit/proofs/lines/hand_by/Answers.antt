@@ -2,7 +2,7 @@ use Rattle.std.proofs.Common.{◌∙◌, ap, sym, List, ℕ, length}
 use Rattle.std.proofs.lemmas.List.{nil_from_length}
 use Rattle.vx_base.proofs.Numbers.{equal-from_yes}
 use Rattle.vx_audit.specs.Hand.{hand_of, hand_behind, lines_of}
-use Rattle.vx_audit.proofs.lines.read_hand.Goals as goal
+use Rattle.vx_audit.proofs.lines.hand_by.Goals as goal
 
 pub returns : goal.returns
 unfolding hand_of

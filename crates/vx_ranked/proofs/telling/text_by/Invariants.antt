@@ -1,6 +1,6 @@
 use Rattle.std.proofs.Common.{◌≡◌, ◌++◌, drop, flat_map, string_bytes}
 use Rattle.vx_ranked.specs.Texts.{told_of}
-use Rattle.vx_ranked.proofs.telling.ranked_text.Given as goal
+use Rattle.vx_ranked.proofs.telling.text_by.Given as goal
 
 -- the text so far and the groups that are left
 abbrev pub invariant-loop-group : goal.invariant-loop-group

@@ -1,6 +1,6 @@
 use Rattle.std.proofs.Common.{◌≡◌, ◌+◌, ◌≤◌, [], length}
 use Rattle.vx_audit.specs.Hand.{hand_behind, lines_of}
-use Rattle.vx_audit.proofs.lines.read_hand.Given as goal
+use Rattle.vx_audit.proofs.lines.hand_by.Given as goal
 
 abbrev pub invariant-lines : goal.invariant-lines
 invariant-lines l = record {

@@ -2,7 +2,7 @@ use Rattle.std.proofs.Common.{string_bytes}
 use Rattle.std.specs.List.{flat_map}
 use Rattle.vx_ranked.specs.Texts.{told_of}
 use Rattle.vx_ranked.proofs.Gathered.{next-listed}
-use Rattle.vx_ranked.proofs.telling.ranked_text.Goals as goal
+use Rattle.vx_ranked.proofs.telling.text_by.Goals as goal
 
 pub loop-group-preserved : goal.loop-group-preserved
 loop-group-preserved c =
