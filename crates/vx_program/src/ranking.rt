@@ -1,11 +1,11 @@
 ghost use Rattle.std.specs.Prelude.{◌≡◌, ◌⊎◌};
-ghost use Rattle.vx_command_ranked.specs.Words.{NoRanked};
+ghost use Rattle.vx_ranked.specs.Words.{NoRanked};
 
 use crate::journal::{empty_journal, is_in_memory};
 use vx_command::Halt;
-use vx_command_ranked::{RankedStatus, run_ranked};
 use vx_io::{StdInputs, StdSink, Words};
 use vx_keep_sqlite::SqliteKeeper;
+use vx_ranked::{RankedStatus, run_ranked};
 
 /// Does the command `ranked` with the journal of this name, as `run_with` does the others.
 ///
