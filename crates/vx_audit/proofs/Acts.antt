@@ -17,11 +17,11 @@ use Rattle.vx_command.specs.Asking.{Asks}
 use Rattle.vx_command.specs.Devices.{is_keeper_fault, is_read_fault}
 use Rattle.vx_command.specs.Done.{Taken, IsDone, IsWritten, WritesTo, BreaksAt}
 use Rattle.vx_command.specs.Laws.{ActLaws, StepLaws}
-use Rattle.vx_command.specs.Steps.{GivesTaking, IsTakingHalt}
+use Rattle.vx_command.specs.Steps.{GivesTaking}
 use Rattle.vx_audit.specs.declared.status.AuditStatus.{AuditStatus}
 use Rattle.vx_audit.specs.declared.status.AuditStatus.TheVariants as audit
 use Rattle.vx_audit.specs.Done.{IsAuditDone, Comes}
-use Rattle.vx_audit.specs.Outcome.{AuditOutcome, as_command, ended, once_handed, once_read, once_taken, writes}
+use Rattle.vx_audit.specs.Outcome.{AuditOutcome, as_command, ended, once_handed, once_read, once_taken}
 use Rattle.vx_audit.specs.Status.{answer_of, hand_status, report_status, is_done, may_have_written, IsStop}
 
 -- the rest is done, so the whole is
@@ -112,10 +112,6 @@ module _ (laws : StepLaws (List ℕ)) (word : ℕ) (file : Option (List ℕ)) (r
     ends = given_ends word file rest bytes given;
   }
 
--- a text was written
-pub whole_written : (text : List ℕ) (a b : Taken) → IsWritten (writing text) a b (Ok tt) → IsAuditDone (writes text) a b audit.Ok
-whole_written text a b written = record { acts = written; ends = λ e. refl }
-
 -- a cause at which writing broke off may halt it
 breaks_stop : (cause : Halt) (acts : List Act) (text : List ℕ) (records : List (List ℕ)) → is_keeper_fault {A = Unit {0}} (Err cause) ≡ false
     → BreaksAt cause acts text records → IsStop cause
@@ -135,14 +131,6 @@ written_stops text a b cause other written =
       | inl whole ↦ (let same = whole.same_answer in absurd cc)
       | inr breaks ↦ breaks_stop cause done.left done.text done.records other breaks
     ]
-
--- so may one at which an input wasn't taken
-pub taking_stops : (word : ℕ) (cause : Halt) → IsTakingHalt word cause → IsStop cause
-taking_stops word (halt.NoInput other) is = tt
-taking_stops word (halt.TooLong other size) is = tt
-taking_stops word halt.ReadFault is = tt
-taking_stops word halt.NoMemory is = tt
-taking_stops word cause is = absurd is
 
 -- whatever broke off a writing, it may have written
 breaks_late : (status : AuditStatus) (cause : Halt) (acts : List Act) (text : List ℕ) (records : List (List ℕ))

@@ -5,10 +5,8 @@ use Rattle.std.specs.List.{flat_map}
 use Rattle.std.specs.Option.{option_to_list}
 use Rattle.std.proofs.lemmas.List.{take_more}
 use Rattle.std.proofs.lemmas.List.Concat.{flat_map-append}
-use Rattle.std.proofs.lemmas.Bool.{false≢true}
 use Rattle.vx_audit.specs.Ascending.{ids_at, joined}
-use Rattle.vx_audit.specs.Pairs.{further, listed}
-use Rattle.std.specs.Prelude.{codes}
+use Rattle.vx_audit.specs.Pairs.{further}
 
 -- there are none
 abbrev pub are_none : List (List ℕ) → Bool
@@ -57,19 +55,4 @@ module _ (ids : List (List ℕ)) (places : List ℕ) (i : ℕ) (within : i < len
           none = before.none ∙ ap are_none (sym same);
         }
 
--- all are joined
-joined-listed : (ids : List (List ℕ)) → false ≡ are_none ids → joined ids ≡ listed ids
-joined-listed [] e = absurd (false≢true e)
-joined-listed (id ∷ ids) e = refl
-
-none-listed : (ids : List (List ℕ)) → true ≡ are_none ids → joined ids ++ codes "-" ≡ listed ids
-none-listed [] e = refl
-none-listed (id ∷ ids) e = absurd (false≢true (sym e))
-
 module _ (ids : List (List ℕ)) (places : List ℕ) (bytes : List ℕ) (first : Bool) (all : IsJoined ids places bytes first) where
-  pub some-all : first ≡ false → bytes ≡ listed (ids_at ids places)
-  some-all e = all.text ∙ joined-listed (ids_at ids places) (sym e ∙ all.none)
-
-  pub none-all : (now : List ℕ) → first ≡ true → now ≡ bytes ++ codes "-" → now ≡ listed (ids_at ids places)
-  none-all now e step =
-      step ∙ ap (λ (front : List ℕ). front ++ codes "-") all.text ∙ none-listed (ids_at ids places) (sym e ∙ all.none)

@@ -21,9 +21,6 @@ gives-each P n (x ∷ xs) f =
           subst (λ m. P m y) at (f (suc i) y e)),
     )
 
-below : (n k : ℕ) → k < n → nat_le n k ≡ false
-below n k lt = grind (arith, nat_tests)
-
 above : (n k : ℕ) → n < k → nat_le (n + 1) k ≡ true
 above n k lt = grind (arith, nat_tests)
 

@@ -1,11 +1,11 @@
 -- Words that ask for totals or an audit ask for one thing alone.
-use Rattle.std.proofs.Common.{◌≡◌, ℕ, Bool, true, false, zero, suc, ◌+◌, ◌<◌, ◌≤◌, ◌^◌, List, [], ◌∷◌, length, Option, Some, None, Result, Ok, Err, refl, ap, sym, subst, ◌∙◌, arith}
+use Rattle.std.proofs.Common.{◌≡◌, ℕ, Bool, true, false, zero, suc, List, [], ◌∷◌, length, Option, Some, refl, ap, sym, subst, ◌∙◌, arith}
 use Rattle.std.specs.Prelude.{codes, slice_get, MatchBool}
 use Rattle.std.proofs.lemmas.Bool.{false≢true}
 use Rattle.std.proofs.lemmas.Fmt.{decimal_injective}
 use Rattle.vx_words.specs.Samples.{IsSeed, IsSize}
 use Rattle.vx_words.specs.Words.{IsArgument}
-use Rattle.vx_audit.specs.Words.{Asked, Totals, Audit, Asks, AsksNothing, HasAuditForm, SpellsAudit, SpellsTotals}
+use Rattle.vx_audit.specs.Words.{Asked, Totals, Audit, Asks, HasAuditForm, SpellsAudit, SpellsTotals}
 
 -- two words
 pub two-words : (words : List (List ℕ)) (a b : List ℕ) → length words ≡ 2 → slice_get words 0 ≡ Some a → slice_get words 1 ≡ Some b → words ≡ a ∷ b ∷ []
@@ -46,25 +46,10 @@ has-form words name report hand n first second last is argument other =
       hand_is_argument = other;
     }
 
-second_of : List (List ℕ) → List ℕ
-second_of [] = []
-second_of (x ∷ []) = []
-second_of (x ∷ y ∷ words) = y
-
--- the words of a `totals` name one report
-pub totals-once : (words : List (List ℕ)) (a b : List ℕ) → SpellsTotals words a → SpellsTotals words b → a ≡ b
-unfolding second_of
-totals-once words a b one other = ap second_of (sym one.words_are ∙ other.words_are)
-
 -- they are no `audit`
 pub totals-no_audit : (words : List (List ℕ)) (report : List ℕ) → SpellsTotals words report → HasAuditForm words → ⊥
 totals-no_audit words report totals form =
     let lengths = ap length (sym totals.words_are ∙ form.words_are) in omega (arith, lengths)
-
--- what they ask for is told
-pub totals-asked : (words : List (List ℕ)) (report : List ℕ) → SpellsTotals words report → (asked : Asked) → Asks words asked → asked ≡ Totals report
-totals-asked words report spells (Totals other) asks = ap Totals (totals-once words other report asks spells)
-totals-asked words report spells (Audit other seed size hand) asks = absurd (totals-no_audit words report spells asks.form)
 
 word_at : ℕ → List (List ℕ) → List ℕ
 word_at n [] = []
@@ -128,17 +113,3 @@ module _ (words : List (List ℕ)) (report seed_word size_word hand : List ℕ) 
       let sizes : own_size ≡ size = same-size own_size size (subst (λ (word : List ℕ). IsSize word own_size) (size-named asks.form) asks.is_size) is_size in
       let hands : read ≡ hand = sym asks.hand_is ∙ hand-named asks.form in
       cc
-
-  -- without a seed they are none
-  pub no-seed : ((seed : List ℕ) → IsSeed seed_word seed → ⊥) → (other seed : List ℕ) (size : ℕ) (read : List ℕ) → SpellsAudit words other seed size read → ⊥
-  no-seed none other seed size read spells = none seed (subst (λ (word : List ℕ). IsSeed word seed) (seed-named spells.form) spells.is_seed)
-
-  -- nor without a size
-  pub no-size : ((size : ℕ) → IsSize size_word size → ⊥) → (other seed : List ℕ) (size : ℕ) (read : List ℕ) → SpellsAudit words other seed size read → ⊥
-  no-size none other seed size read spells = none size (subst (λ (word : List ℕ). IsSize word size) (size-named spells.form) spells.is_size)
-
--- nothing is asked for
-pub asks-nothing : (words : List (List ℕ)) → ((report : List ℕ) → SpellsTotals words report → ⊥)
-    → ((report seed : List ℕ) (size : ℕ) (hand : List ℕ) → SpellsAudit words report seed size hand → ⊥) → AsksNothing words
-asks-nothing words none no_audit (Totals report) asks = none report asks
-asks-nothing words none no_audit (Audit report seed size hand) asks = no_audit report seed size hand asks

@@ -49,10 +49,6 @@ pub is-false : (b : Bool) → (b ≡ true → ⊥) → b ≡ false
 is-false true h = absurd (h refl)
 is-false false h = refl
 
-pub is-true : (b : Bool) → (b ≡ false → ⊥) → b ≡ true
-is-true true h = refl
-is-true false h = absurd (h refl)
-
 pub not-both : (b : Bool) → b ≡ true → b ≡ false → ⊥
 not-both true h g = absurd cc
 not-both false h g = absurd cc

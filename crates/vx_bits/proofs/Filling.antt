@@ -55,9 +55,6 @@ masked_here rows k start x mask dark h e bit =
 pub masked_elsewhere : (rows : List ℕ) (k start x byte : ℕ) → start + x / 8 ≢ k → packed_pixel (set rows k byte) start x ≡ packed_pixel rows start x
 masked_elsewhere rows k start x byte ne = ap (λ b. bit_at b (7 - x % 8) == 1) (get_or-set_other rows k (start + x / 8) byte 0 ne)
 
-join : (old a b c : Bool) → (old || a) || b ≡ old || c → (old || a) || b ≡ old || c
-join old a b c h = h
-
 within : (old : Bool) (from to k n i first last : ℕ) → n ≡ 8 * k + i → i < 8 → from / 8 ≤ k → 8 * k < to → first ≡ from - 8 * k → last ≡ min (to - 8 * k) 8 → (old || (nat_le from n && nat_lt n (min to (8 * k)))) || (nat_le first i && nat_lt i last) ≡ old || (nat_le from n && nat_lt n (min to (8 * (k + 1))))
 within true from to k n i first last a b c d e f = refl
 within false from to k n i first last a b c d e f = grind arith

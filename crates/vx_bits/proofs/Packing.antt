@@ -1,5 +1,5 @@
 -- Laws of packed pixels.
-use Rattle.std.proofs.Common.{◌≡◌, ℕ, zero, suc, ◌+◌, ◌-◌, ◌*◌, ◌/◌, ◌%◌, ◌<◌, ◌≤◌, ◌≢◌, ◌⊎◌, ◌==◌, List, [], map, length, get_or, set, take, drop, replicate, bit_and, ◌^◌, ◌++◌, ◌∷◌, div-mul-le_self, Bool, true, false, ℤ, pos, negsuc, ◌≤ℤ◌, nat_abs, refl, ap, ap₂, sym, subst, ◌∙◌, arith, get_or-set_same, get_or-set_other, inl, inr}
+use Rattle.std.proofs.Common.{◌≡◌, ℕ, zero, suc, ◌+◌, ◌-◌, ◌*◌, ◌/◌, ◌%◌, ◌<◌, ◌≤◌, ◌≢◌, ◌⊎◌, ◌==◌, List, [], map, length, get_or, set, take, drop, bit_and, ◌^◌, ◌++◌, ◌∷◌, div-mul-le_self, Bool, true, false, ℤ, pos, negsuc, ◌≤ℤ◌, nat_abs, refl, ap, ap₂, sym, subst, ◌∙◌, arith, get_or-set_same, get_or-set_other, inl, inr}
 use Rattle.std.specs.Int.{bit_at}
 use Rattle.std.specs.List.{range_with_len}
 use Rattle.std.proofs.lemmas.Bool.{cases_eq, cases_lt}
@@ -7,8 +7,8 @@ use Rattle.std.proofs.lemmas.Int.{ints}
 use Rattle.std.proofs.lemmas.List.{get_or-take, get_or-drop, get_or_past, length-take-le}
 use Rattle.std.proofs.lemmas.List.FromFn.{length-map-range_with_len, get_or-map-range_with_len, map-range_with_len_more, fill_by_all}
 use Rattle.std.proofs.lemmas.Nat.{same_from_place}
-use Rattle.std.proofs.lemmas.Nat.Bits.{bit_at-zero, bit_at-lt, bit_at_and, bit_at_mask_inside, bit_at_mask_below, and_high_mask, ones_shl}
-use Rattle.vx_plane.specs.Plane.{Page, page_of, dark_at, nowhere, with_pixel}
+use Rattle.std.proofs.lemmas.Nat.Bits.{bit_at-lt, bit_at_and, bit_at_mask_inside, bit_at_mask_below, and_high_mask, ones_shl}
+use Rattle.vx_plane.specs.Plane.{Page, page_of, dark_at, with_pixel}
 use Rattle.vx_plane.specs.Count.{one_if}
 use Rattle.vx_plane.proofs.Counts.{one_if-below}
 use Rattle.vx_plane.proofs.Pages.{map-same, row_at, page_of-same, page_of-dark_at, dark_at-inside, dark_at-beside, dark_at-under, with_pixel-here, with_pixel-elsewhere}
@@ -70,18 +70,6 @@ packed-put_at width height x y size before rows after whole dark page sized old 
     let down : height ≡ page.height = ap (λ (p : Page). p.height) e in
     ap (packed_page width height) new
     ∙ packed-put width height x y before after dark page e (omega arith) (omega arith) (rw sized at same) (rw (sized, old) at others)
-
-zeros : (n i : ℕ) → get_or {A = ℕ} (replicate n 0) i 0 ≡ 0
-zeros zero i = refl
-zeros (suc n) zero = refl
-zeros (suc n) (suc i) = zeros n i
-
--- rows of zeros are a light page
-pub packed-light : (width height n : ℕ) → packed_page width height (replicate n 0) ≡ page_of width height nowhere
-packed-light width height n =
-    page_of-same width height _ nowhere (λ x y l h.
-    ap (λ b. bit_at b (7 - x % 8) == 1) (zeros n (y * stride_of width + x / 8))
-    ∙ ap (λ (b : ℕ). b == 1) (bit_at-zero (7 - x % 8)))
 
 -- a place beside or under packed rows is light
 pub packed-outside : (width height : ℕ) (bytes : List ℕ) (page : Page) (u v : ℤ) → packed_page width height bytes ≡ page → pos 0 ≤ℤ u → pos 0 ≤ℤ v → (width ≤ nat_abs u) ⊎ (height ≤ nat_abs v) → dark_at page u v ≡ false

@@ -1,17 +1,16 @@
 -- How many there are at most: options, contests, events.
-use Rattle.std.proofs.Common.{◌≡◌, ℕ, zero, suc, ◌+◌, ◌-◌, ◌%◌, ◌<◌, ◌≤◌, ◌⊎◌, inl, inr, Bool, true, false, cond, ◌==◌, List, [], ◌∷◌, length, take, map, get_or, refl, sym, ap, ◌∙◌, subst, arith, length-take}
-use Rattle.std.specs.Prelude.{◌&&◌, All, Option, Some, None, nat_lt, nat_le, slice_get, find}
+use Rattle.std.proofs.Common.{◌≡◌, ℕ, suc, ◌+◌, ◌-◌, ◌%◌, ◌<◌, ◌≤◌, ◌⊎◌, inl, inr, Bool, true, false, cond, ◌==◌, List, [], ◌∷◌, length, take, refl, sym, ap, ◌∙◌, arith, length-take}
+use Rattle.std.specs.Prelude.{◌&&◌, Option, Some, None, nat_lt, nat_le, slice_get, find}
 use Rattle.std.specs.List.{list_all}
-use Rattle.std.proofs.lemmas.Option.{same_Some, slice_get_within, get_or_from_slice_get}
+use Rattle.std.proofs.lemmas.Option.{same_Some, slice_get_within}
 use Rattle.std.proofs.lemmas.Bool.Decides.{nat_tests}
-use Rattle.vx_base.proofs.Booleans.{and-left, and-right, chosen-none, either-le}
-use Rattle.vx_base.proofs.Numbers.{equal-from_yes, below-yes, below-from_yes, at_most-yes, at_most-from_yes}
+use Rattle.vx_base.proofs.Booleans.{and-left, and-right, chosen-none}
+use Rattle.vx_base.proofs.Numbers.{equal-from_yes, below-from_yes, at_most-from_yes}
 use Rattle.vx_election_model.specs.declared.contest.Contest.{Contest}
-use Rattle.vx_election_model.specs.declared.choice.Choice.{Choice}
 use Rattle.vx_election_model.specs.declared.election.Election.{Election}
 use Rattle.vx_election_model.specs.Lists.{card_count}
 use Rattle.vx_election_model.specs.Options.{options_of}
-use Rattle.vx_election_model.specs.Valid.{IsContest, HasChoices, HasAnswers, HasCandidates, IsValid}
+use Rattle.vx_election_model.specs.Valid.{IsValid}
 use Rattle.vx_rules.specs.declared.marks.ContestMarks.{ContestMarks}
 use Rattle.vx_rules.specs.declared.marks.SheetMarks.{SheetMarks}
 use Rattle.vx_events.specs.declared.event.Event.{Event}
@@ -34,17 +33,6 @@ ascending-room least n (number ∷ numbers) up none room =
 
 pub ascending-few : (n : ℕ) (numbers : List ℕ) → is_ascending numbers ≡ true → find (nat_le n) numbers ≡ None → length numbers ≤ n
 ascending-few n numbers up none = let room = ascending-room 0 n numbers up none (omega arith) in omega arith
-
-few-choices : (is_yes_no : Bool) (contest : Contest) → HasChoices is_yes_no contest → length contest.choices ≤ 100
-few-choices true contest has = let two = ap length has.answers.2 in omega (arith, two)
-few-choices false contest has = has.few
-
--- a valid contest has at most 150 options
-pub few-options : (election : Election) (number : ℕ) (contest : Contest) → IsValid election → slice_get election.contests number ≡ Some contest → options_of contest ≤ 150
-few-options election number contest valid there =
-    let is = subst (IsContest (length election.parties) (length election.districts)) (get_or_from_slice_get election.contests number contest contest there)
-    (valid.contests.each number contest (slice_get_within election.contests number contest there)) in
-    omega (arith, few-choices contest.is_yes_no contest is.choices, is.seats.1, either-le contest.write_ins contest.seats 0 50 is.seats.1 (omega arith))
 
 contest-below : (election : Election) (marks : ContestMarks) → is_read election marks ≡ true → marks.contest < length election.contests
 contest-below election marks read = by (slice_get election.contests marks.contest) refl

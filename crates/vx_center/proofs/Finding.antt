@@ -1,25 +1,20 @@
 -- How a sheet is found: by its place, and by its name.
-use Rattle.std.proofs.Common.{◌≡◌, ◌≢◌, ℕ, zero, suc, ◌+◌, ◌<◌, ◌≤◌, ◌⊎◌, inl, inr, Bool, true, false, cond, ◌==◌, List, [], ◌∷◌, ◌++◌, length, map, replicate, refl, sym, ap, ap₂, ◌∙◌, subst, arith}
-use Rattle.std.specs.Prelude.{◌&&◌, Option, Some, None, IfNone, IsSome, MatchOption, is_some, slice_get, position, nat_eq, bytes_eq}
-use Rattle.std.specs.List.{position_from}
+use Rattle.std.proofs.Common.{◌≡◌, ℕ, zero, suc, ◌<◌, ◌≤◌, ◌⊎◌, inl, inr, Bool, true, false, ◌==◌, List, [], ◌∷◌, length, map, refl, sym, ap, ◌∙◌, subst, arith}
+use Rattle.std.specs.Prelude.{◌&&◌, Option, Some, None, IfNone, IsSome, MatchOption, is_some, slice_get, position, nat_eq}
 use Rattle.std.specs.Map.{keys_of}
 use Rattle.std.specs.Cmp.Lexicographic.{pointwise}
-use Rattle.std.specs.Borrow.{Bor}
-use Rattle.std.specs.Slice.{IsItemAt}
-use Rattle.std.specs.Option.{option_copied}
 use Rattle.std.proofs.lemmas.List.{length-map}
-use Rattle.std.proofs.lemmas.Option.{same_Some, slice_get_read, slice_get_past, slice_get_within}
+use Rattle.std.proofs.lemmas.Option.{same_Some, slice_get_within}
 use Rattle.std.proofs.lemmas.Slice.Eq.{bytes_eq-Decides}
 use Rattle.vx_base.proofs.Booleans.{and-both, and-left, and-right}
 use Rattle.vx_base.proofs.Lists.{map-map}
 use Rattle.vx_base.proofs.Numbers.{equal-yes, equal-from_yes, at_most-from_yes}
-use Rattle.vx_json.specs.Reading.{is_within}
 use Rattle.vx_election_model.specs.declared.election.Election.{Election}
 use Rattle.vx_rules.specs.declared.marks.SheetMarks.{SheetMarks}
 use Rattle.vx_events.specs.declared.event.Event.{Event}
-use Rattle.vx_events.specs.declared.event.Event.TheVariants.{Add, Claim, Release, Decide}
+use Rattle.vx_events.specs.declared.event.Event.TheVariants.{Add}
 use Rattle.vx_events.specs.declared.key.Key.{Key}
-use Rattle.vx_events.specs.Fits.{Fits, is_batch, is_key, is_sheet}
+use Rattle.vx_events.specs.Fits.{is_key, is_sheet}
 use Rattle.vx_center.specs.declared.center.Found.{Found}
 use Rattle.vx_center.specs.declared.name.SheetName.{SheetName}
 use Rattle.vx_center.specs.Sheets.{Added, same_key, has_key, sheets_in, place_in, sheet_in}
@@ -29,7 +24,7 @@ use Rattle.vx_center.specs.Histories.{IsHistory}
 use Rattle.vx_center.specs.States.{Entry, entry_of, named_entry, name_of_key, padded, IsKept, IsAt, IsFound, IsUnknown}
 use Rattle.vx_center.proofs.Places.{position-is, position_from-map, position_from-same}
 use Rattle.vx_center.proofs.Adding.{event-of, few-sheets}
-use Rattle.vx_center.proofs.Keys.{same-self, same-equal, padded-equal, other-apart}
+use Rattle.vx_center.proofs.Keys.{same-equal, padded-equal}
 use Rattle.vx_center.proofs.Following.{look-up, NotAdded, IsAdded}
 
 -- what stands in a map comes from what stands there
@@ -151,11 +146,6 @@ found-by election kept key other place sheet entry found is = by (look-up kept k
           ruled = ap (decided_of kept) keyed ∙ ap (λ (e : Entry). e.decided) is.known;
         }
 
--- what `get` lends is what stands there
-pub lent : {X : Type 0} (found : Option (Bor X)) (xs : List X) (i : ℕ) → IsItemAt xs i found → option_copied found ≡ slice_get xs i
-lent None xs i h = sym (slice_get_past xs i h.3)
-lent (Some x) xs i h = sym (slice_get_read xs (length xs) i x.now refl h.3.0 h.1)
-
 pub placed : (kept : List Event) (key : Key) → IsAdded kept key → IsSome (place_in kept key)
 placed kept key is = ap is_some is.place
 
@@ -194,12 +184,6 @@ found-answers election kept key place at None h = by (look-up kept key)
         let there = subst (λ n. slice_get (sheets_in kept) n ≡ Some one.added) index one.there in
         absurd cc
 found-answers election kept key place at (Some one) h = found-by election kept key one.key.now place one.sheet.now one.entry.now at h
-
--- nothing stands behind a place that isn't in a map
-pub none-from_map : {X Y : Type 0} (f : X → Y) (xs : List X) (i : ℕ) → slice_get (map f xs) i ≡ None → slice_get xs i ≡ None
-none-from_map f [] i h = refl
-none-from_map f (x ∷ xs) zero h = absurd cc
-none-from_map f (x ∷ xs) (suc i) h = none-from_map f xs i h
 
 -- a place is below the number of events
 pub place-below : (kept : List Event) (key : Key) (place : ℕ) → place_in kept key ≡ Some place → place < length kept

@@ -1,30 +1,25 @@
 -- What lasts over whole runs.
-use Rattle.std.proofs.Common.{◌≡◌, ◌≢◌, ℕ, ◌⊎◌, inl, inr, Bool, true, false, cond, ◌==◌, List, [], ◌∷◌, ◌++◌, length, take, refl, sym, ap, ap₂, ◌∙◌}
-use Rattle.std.specs.Prelude.{◌&&◌, ◌||◌, Option, Some, None, not, find, slice_get}
-use Rattle.std.specs.List.{flat_map, list_any}
+use Rattle.std.proofs.Common.{◌≡◌, ℕ, ◌⊎◌, inl, inr, Bool, true, false, cond, ◌==◌, List, [], ◌∷◌, ◌++◌, length, take, refl, ap, ◌∙◌}
+use Rattle.std.specs.Prelude.{Option, Some, None, find, slice_get}
 use Rattle.std.proofs.lemmas.List.Concat.{flat_map-append}
 use Rattle.vx_base.proofs.Lists.{find-front}
 use Rattle.vx_base.proofs.Numbers.{equal-from_yes}
 use Rattle.vx_election_model.specs.declared.contest.Contest.{Contest}
 use Rattle.vx_election_model.specs.declared.election.Election.{Election}
 use Rattle.vx_grid.specs.declared.state.State.{State}
-use Rattle.vx_rules.specs.declared.marks.ContestMarks.{ContestMarks}
 use Rattle.vx_rules.specs.declared.marks.SheetMarks.{SheetMarks}
 use Rattle.vx_rules.specs.Reasons.{is_blank_sheet}
 use Rattle.vx_events.specs.declared.decision.Decision.{Decision}
-use Rattle.vx_events.specs.declared.event.Event.{Event}
 use Rattle.vx_events.specs.declared.event.Event.TheVariants.{Claim, Release, Decide}
 use Rattle.vx_events.specs.declared.key.Key.{Key}
 use Rattle.vx_refusals.specs.declared.reply.Reply.{Reply}
-use Rattle.vx_refusals.specs.declared.reply.Reply.TheVariants.{Done, NoSheet, NotHeld, HeldBy}
-use Rattle.vx_center.specs.declared.decided.Decided.{Decided}
+use Rattle.vx_refusals.specs.declared.reply.Reply.TheVariants.{Done, HeldBy}
 use Rattle.vx_center.specs.Sheets.{Added, has_key, added_by, sheets_in, sheet_of, sheet_in}
 use Rattle.vx_center.specs.Holders.{holder_of}
 use Rattle.vx_center.specs.Decisions.{decided_by, decided_of, decisions_of, decisions_on}
-use Rattle.vx_center.specs.Replies.{claim_reply, if_held, on_sheet, decide_reply, reply_of, reply_with_room, next_of, is_done}
-use Rattle.vx_center.specs.Waiting.{is_decided, is_exported, exports_with, exports}
+use Rattle.vx_center.specs.Replies.{claim_reply, if_held, on_sheet, decide_reply, reply_of, is_done}
+use Rattle.vx_center.specs.Waiting.{exports_with, exports}
 use Rattle.vx_center.specs.Laws.{SheetsStay, ExportsStay, ClaimsAreFree, ReleasesAreTheHolders, DecisionsAreTheHolders}
-use Rattle.vx_center.specs.Histories.{IsHistory}
 use Rattle.vx_center.proofs.Adding.{sheets-push}
 use Rattle.vx_center.proofs.Following.{with-room, decided-push}
 
@@ -41,11 +36,6 @@ sheets-last election kept event key sheet h = by (is_done (reply_of election kep
     by : (b : Bool) → sheet_in (cond b (kept ++ event ∷ []) kept) key ≡ Some sheet
     by true = ap (λ (sheets : List Added). sheet_of (find (has_key key) sheets)) (sheets-push kept event) ∙ sheet-front key (sheets_in kept) (added_by (length kept) event) sheet h
     by false = h
-
--- what is decided stays decided
-decided-last : (decisions more : List Decision) → is_decided decisions ≡ true → is_decided (decisions ++ more) ≡ true
-decided-last [] more h = absurd cc
-decided-last (decision ∷ decisions) more h = h
 
 exported-last : (contest : Option Contest) (election : Election) (sheet_blank : Bool) (states : List State) (decisions more : List Decision)
     → exports_with election sheet_blank decisions states contest ≡ true → exports_with election sheet_blank (decisions ++ more) states contest ≡ true

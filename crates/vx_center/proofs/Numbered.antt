@@ -1,19 +1,13 @@
 -- Options by their numbers, and decisions of one contest.
-use Rattle.std.proofs.Common.{◌≡◌, ℕ, zero, suc, ◌+◌, ◌<◌, ◌≤◌, Bool, true, false, cond, ◌==◌, List, [], ◌∷◌, ◌++◌, length, take, drop, get_or, refl, sym, ap, ap₂, ◌∙◌, arith}
-use Rattle.std.specs.Prelude.{◌&&◌, ◌||◌, Option, Some, None, nat_eq, nat_le, slice_get, fold}
-use Rattle.std.specs.List.{flat_map, list_any}
-use Rattle.std.proofs.lemmas.List.Sums.{fold-append}
-use Rattle.std.proofs.lemmas.List.Concat.{flat_map-append}
-use Rattle.std.proofs.lemmas.Bool.{cond-true, cond-false}
+use Rattle.std.proofs.Common.{◌≡◌, ℕ, zero, suc, ◌+◌, ◌<◌, ◌≤◌, Bool, true, false, cond, ◌==◌, List, [], ◌∷◌, ◌++◌, refl, ap, ap₂, ◌∙◌, arith}
+use Rattle.std.specs.Prelude.{◌||◌, Option, Some, None, nat_eq, slice_get}
+use Rattle.std.specs.List.{list_any}
 use Rattle.vx_base.proofs.Booleans.{and-both}
-use Rattle.vx_base.proofs.Lists.{flat_map-take_more}
 use Rattle.vx_base.proofs.Numbers.{equal-yes, equal-no, at_most-yes}
 use Rattle.vx_grid.specs.declared.state.State.{State}
-use Rattle.vx_events.specs.declared.decision.Decision.{Decision}
-use Rattle.vx_events.specs.declared.decision.WriteInName.{WriteInName}
-use Rattle.vx_events.specs.Ascending.{ascends_from, is_ascending}
+use Rattle.vx_events.specs.Ascending.{ascends_from}
 use Rattle.vx_center.specs.declared.decided.Decided.{Decided}
-use Rattle.vx_center.specs.Decisions.{of_contest, decisions_on, ruling_after, ruling_of, name_after, name_of}
+use Rattle.vx_center.specs.Decisions.{decisions_on}
 use Rattle.vx_rules.specs.Reasons.{is_marked}
 use Rattle.vx_center.specs.Finals.{options_from, marked_options}
 use Rattle.vx_center.specs.Waiting.{is_decided}
@@ -71,19 +65,6 @@ decided-any contest (one ∷ decided) = by (one.contest == contest) (decided-any
         → is_decided (cond b (one.decision ∷ []) [] ++ decisions_on contest decided) ≡ (b || list_any (λ (one : Decided). one.contest == contest) decided)
     by true rest = refl
     by false rest = rest
-
--- one decision more
-pub ruling-more : (contest : ℕ) (decided : List Decided) (i : ℕ) (one : Decided) → slice_get decided i ≡ Some one
-    → ruling_of (decisions_on contest (take (i + 1) decided)) ≡ fold ruling_after (ruling_of (decisions_on contest (take i decided))) (of_contest contest one)
-ruling-more contest decided i one there =
-    ap ruling_of (flat_map-take_more (of_contest contest) decided i one there)
-    ∙ fold-append ruling_after None (decisions_on contest (take i decided)) (of_contest contest one)
-
-pub name-more : (slot contest : ℕ) (decided : List Decided) (i : ℕ) (one : Decided) → slice_get decided i ≡ Some one
-    → name_of slot (decisions_on contest (take (i + 1) decided)) ≡ fold (name_after slot) (name_of slot (decisions_on contest (take i decided))) (of_contest contest one)
-name-more slot contest decided i one there =
-    ap (name_of slot) (flat_map-take_more (of_contest contest) decided i one there)
-    ∙ fold-append (name_after slot) None (decisions_on contest (take i decided)) (of_contest contest one)
 
 -- an option is among the marked ones where it was read as marked
 pub option-marked : (states : List State) (option : ℕ) → list_any (nat_eq option) (marked_options states) ≡ passes is_marked (slice_get states option)

@@ -5,7 +5,6 @@ use Rattle.std.proofs.lemmas.Int.{ints}
 use Rattle.std.proofs.lemmas.Bool.Decides.{nat_tests}
 use Rattle.std.proofs.lemmas.Option.{get_or_from_slice_get, slice_get_within}
 use Rattle.vx_base.specs.Results.{◌>>=◌}
-use Rattle.vx_base.proofs.Booleans.{is-false}
 use Rattle.vx_plane.specs.Plane.{Page}
 use Rattle.vx_grid.specs.declared.paper.Paper.{Paper}
 use Rattle.vx_grid.specs.declared.paper.Paper.TheVariants.{Letter, Legal}
@@ -26,7 +25,7 @@ use Rattle.vx_scan_model.specs.Certificate.{PlacesAreTested}
 use Rattle.vx_refusals.specs.declared.checking.CheckFault.{CheckFault}
 use Rattle.vx_refusals.specs.declared.checking.CheckFault.TheVariants.{MarkAt, StepAt}
 use Rattle.vx_check.specs.Tests.{Tested, passes, in_order, paper_tested, corner_tested, countable, light_deficit, mark_tested, near_tested, step_tested, place_tested, closing_tested, border_tested}
-use Rattle.vx_check.proofs.Orders.{both-passed, after-passed, after-failed, passes-so, so-passes, not-passes, in_order-passes, in_order-passed}
+use Rattle.vx_check.proofs.Orders.{both-passed, after-passed, after-failed, passes-so, so-passes, in_order-passes, in_order-passed}
 
 -- the bounds of an allowed frame
 pub allowed-small : (paper : Paper) (page : Page) → is_allowed paper page ≡ true → (page.width ≤ 4096) × (page.height ≤ 4096)
@@ -160,21 +159,6 @@ module _ (tests : PlacesAreTested) (framed : AcceptedAreFramed) (page : Page) wh
       let in_reach : is_in countable p ≡ true = (tests.region countable p).1 (within-countable p (framed page 4096 p wide high accepted)) in
       ap (λ (b : Bool). cond b (passes (is_accepted page p) (MarkAt k p (deficit_of page p))) (Err (MarkAt k p light_deficit))) in_reach
       ∙ so-passes (is_accepted page p) (MarkAt k p (deficit_of page p)) ((tests.accepted page p).1 accepted)
-
-  -- each answer of the test of a mark
-  pub mark-far : (k : ℕ) (p : Point) → is_in countable p ≡ false → mark_tested page k p ≡ Err (MarkAt k p light_deficit)
-  mark-far k p far = ap (λ (b : Bool). cond b (passes (is_accepted page p) (MarkAt k p (deficit_of page p))) (Err (MarkAt k p light_deficit))) far
-
-  mark-counted : (k : ℕ) (p : Point) → is_in countable p ≡ true → mark_tested page k p ≡ passes (is_accepted page p) (MarkAt k p (deficit_of page p))
-  mark-counted k p there = ap (λ (b : Bool). cond b (passes (is_accepted page p) (MarkAt k p (deficit_of page p))) (Err (MarkAt k p light_deficit))) there
-
-  pub mark-there : (k : ℕ) (p : Point) → is_in countable p ≡ true → IsAccepted page p → mark_tested page k p ≡ Ok tt
-  mark-there k p there accepted = mark-counted k p there ∙ so-passes (is_accepted page p) (MarkAt k p (deficit_of page p)) ((tests.accepted page p).1 accepted)
-
-  pub mark-wrong : (k : ℕ) (p : Point) → is_in countable p ≡ true → (IsAccepted page p → ⊥) → mark_tested page k p ≡ Err (MarkAt k p (deficit_of page p))
-  mark-wrong k p there wrong =
-      mark-counted k p there
-      ∙ not-passes (is_accepted page p) (MarkAt k p (deficit_of page p)) (is-false (is_accepted page p) (λ h. wrong ((tests.accepted page p).0 h)))
 
   pub near-is : (k : ℕ) (predicted p : Point) → near_tested k predicted p ≡ Ok tt → IsNear predicted p
   near-is k predicted p h = (tests.region (near predicted) p).0 (passes-so (is_in (near predicted) p) _ h)

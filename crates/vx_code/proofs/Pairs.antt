@@ -13,10 +13,6 @@ use Rattle.vx_code.specs.declared.code.CodeFault.TheVariants.{BadPair}
 use Rattle.vx_code.specs.Bits.{bits_of_number}
 use Rattle.vx_code.specs.Code.{pair_of, bit_of, shown_by, bits_unless, bits_shown_by, IsShown}
 
--- the boxes of bits
-pub boxes_of_bits : List Bool → List Bool
-boxes_of_bits bits = flat_map pair_of bits
-
 -- bits with the same boxes are the same
 pub same_bits : (xs ys : List Bool) → flat_map pair_of xs ≡ flat_map pair_of ys → xs ≡ ys
 same_bits [] [] e = refl

@@ -1,12 +1,12 @@
 -- Lines of a text are cut where the characters at their ends say so.
-use Rattle.std.proofs.Common.{◌≡◌, ◌<◌, ◌+◌, ◌-◌, ◌*◌, ◌/◌, ℕ, zero, suc, Bool, true, false, not, ◌&&◌, List, [], ◌∷◌, length, take, drop, get_or, chars, refl, sym, ap, ap₂, ◌∙◌, arith, length-take, length-drop}
+use Rattle.std.proofs.Common.{◌≡◌, ◌<◌, ◌+◌, ◌-◌, ◌*◌, ℕ, zero, suc, Bool, true, false, not, ◌&&◌, List, [], ◌∷◌, length, take, drop, chars, refl, sym, ap, ap₂, ◌∙◌, arith, length-take, length-drop}
 use Rattle.std.specs.Prelude.{slice_index}
 use Rattle.std.specs.Str.{IsUtf8}
 use Rattle.std.proofs.lemmas.List.{get_or-take, get_or-drop}
 use Rattle.std.proofs.lemmas.Str.{chars-encodes, scalars-chars}
 use Rattle.std.proofs.lemmas.Bool.{and_parts, and_from}
 use lib.Utf8.{scalar, scalars}
-use Rattle.vx_layout.specs.Lines.{line_of, lines_of, size_of}
+use Rattle.vx_layout.specs.Lines.{line_of, lines_of}
 use Rattle.vx_command_cards.specs.Drawn.{first_of, last_of, is_blank, is_cut}
 use Rattle.vx_command_cards.specs.Texts.{cut_at, cut_line}
 
@@ -60,10 +60,6 @@ cut-is text k is more =
 -- behind each line but the last there are characters
 pub behind-line : (text : List ℕ) (k : ℕ) → k < lines_of text - 1 → 29 * (k + 1) < length (chars text)
 behind-line text k low = omega arith
-
--- so many lines aren't the last
-pub lines-before : (text : List ℕ) (count : ℕ) → count ≡ (length (chars text) - 1) / 29 → count ≡ lines_of text - 1
-lines-before text count is = omega arith
 
 -- a line is cut as the characters say
 pub cut-from : (text characters : List ℕ) (k : ℕ) (b : Bool) → IsUtf8 text → characters ≡ chars text → k < lines_of text - 1 → b ≡ (not (is_blank (slice_index characters (29 * (k + 1) - 1))) && not (is_blank (slice_index characters (29 * (k + 1))))) → is_cut text k ≡ b

@@ -1,10 +1,9 @@
 -- Lines that a text and a count get.
-use Rattle.std.proofs.Common.{◌≡◌, ◌≤◌, ◌+◌, ℕ, List, [], ◌∷◌, ◌++◌, length, take, Some, refl, sym, ap, subst, ◌∙◌, append_assoc, append-nil, length-append, add-zero, arith}
-use Rattle.std.specs.Prelude.{slice_get, OnOk, Result}
+use Rattle.std.proofs.Common.{◌≡◌, ◌≤◌, ◌+◌, ℕ, List, [], ◌++◌, length, take, sym, ap, subst, ◌∙◌, append_assoc, append-nil, length-append, add-zero, arith}
+use Rattle.std.specs.Prelude.{OnOk, Result}
 use Rattle.std.specs.List.{flat_map, range_with_len}
 use Rattle.std.proofs.lemmas.List.{take_all}
 use Rattle.std.proofs.lemmas.List.Concat.{flat_map-append}
-use Rattle.vx_base.proofs.Lists.{flat_map-take_more}
 use Rattle.vx_base.proofs.Ranges.{flat_map-range_more}
 use Rattle.vx_command_cards.specs.Lines.{GotLines, ended, text_of}
 
@@ -24,11 +23,6 @@ lines_then first further a b c m n o p q = record {
 pub lines_are : (some all : List (List ℕ)) (a b : List ℕ) (m n : ℕ) → some ≡ all → GotLines some a b m n → GotLines all a b m n
 lines_are some all a b m n is got = let Got : List (List ℕ) → Type 0 = λ lines. GotLines lines a b m n in subst Got is got
 
--- those of one element more
-pub lines_more : {X : Type 0} (f : X → List (List ℕ)) (xs : List X) (i : ℕ) (x : X) (a b c : List ℕ) (m n o : ℕ) → slice_get xs i ≡ Some x → GotLines (flat_map f (take i xs)) a b m n → GotLines (f x) b c n o → GotLines (flat_map f (take (i + 1) xs)) a c m o
-lines_more f xs i x a b c m n o there p q =
-    lines_are (flat_map f (take i xs) ++ f x) (flat_map f (take (i + 1) xs)) a c m o (sym (flat_map-take_more f xs i x there)) (lines_then (flat_map f (take i xs)) (f x) a b c m n o p q)
-
 -- those of one number more
 pub lines_on : (f : ℕ → List (List ℕ)) (i : ℕ) (a b c : List ℕ) (m n o : ℕ) → GotLines (flat_map f (range_with_len 0 i)) a b m n → GotLines (f i) b c n o → GotLines (flat_map f (range_with_len 0 (i + 1))) a c m o
 lines_on f i a b c m n o p q =
@@ -38,10 +32,6 @@ lines_on f i a b c m n o p q =
 pub lines_up_to : (f : ℕ → List (List ℕ)) (i all : ℕ) (a b : List ℕ) (m n : ℕ) → i ≡ all → GotLines (flat_map f (range_with_len 0 i)) a b m n → GotLines (flat_map f (range_with_len 0 all)) a b m n
 lines_up_to f i all a b m n is got =
     lines_are (flat_map f (range_with_len 0 i)) (flat_map f (range_with_len 0 all)) a b m n (ap (λ (k : ℕ). flat_map f (range_with_len 0 k)) is) got
-
--- one line
-pub one_line : (line a b : List ℕ) (m : ℕ) → b ≡ a ++ ended line → GotLines (line ∷ []) a b m (m + 1)
-one_line line a b m is = record { got = is ∙ ap (λ (text : List ℕ). a ++ text) (sym (append-nil (ended line))); counted = refl }
 
 -- the same of a step that may run out of memory
 pub ok_lines_are : {F : Type 0} (r : Result (Unit {0}) F) (some all : List (List ℕ)) (a b : List ℕ) (m n : ℕ) → some ≡ all → OnOk r (GotLines some a b m n) → OnOk r (GotLines all a b m n)

@@ -1,5 +1,5 @@
 -- The acts of a center whose items have ended, one after another.
-use Rattle.std.proofs.Common.{◌≡◌, ◌⊎◌, inl, inr, ℕ, ◌+◌, ◌<◌, ◌≤◌, true, false, List, [], ◌∷◌, length, drop, get_or, Ok, Err, refl, sym, ap, subst, ◌∙◌}
+use Rattle.std.proofs.Common.{◌≡◌, ◌⊎◌, inl, inr, ℕ, ◌+◌, ◌<◌, ◌≤◌, false, List, [], ◌∷◌, length, drop, get_or, Ok, Err, refl, sym, ap, subst, ◌∙◌}
 use Rattle.std.proofs.lemmas.List.{drop_more, drop_all, map-append}
 use Rattle.vx_events.specs.declared.event.Event.{Event}
 use Rattle.vx_records.specs.Records.{record_of}
@@ -17,8 +17,6 @@ use Rattle.vx_command_center.specs.Runs.{is_refusal}
 
 -- acts that are done up to some place, where they begin with others
 module _ (laws : ActLaws) (acts : List Act) (rest : Outcome) (a b c : Taken) (h k m : Held) where
-  pub then_done : IsDone (work acts) a b h k (Ok tt) → (answer : Answer) → IsDone rest b c k m answer → IsDone (after acts rest) a c h m answer
-  then_done first answer done = laws.done acts rest a b h k first c m answer done
 
 -- the call in a place, and those behind it
 here : (history : List Entry) (i : ℕ) (call : Entry) → i < length history → call ≡ get_or history i call → drop i history ≡ call ∷ drop (i + 1) history

@@ -1,9 +1,8 @@
 -- Items that are taken one after another.
-use Rattle.std.proofs.Common.{◌≡◌, inl, inr, ℕ, ◌+◌, ◌<◌, ◌≤◌, Bool, true, false, List, [], ◌∷◌, ◌++◌, length, drop, get_or, Option, Result, Ok, Err, refl, sym, ap, subst, ◌∙◌, append_assoc, append-nil, arith}
+use Rattle.std.proofs.Common.{◌≡◌, inr, ℕ, ◌+◌, ◌<◌, ◌≤◌, true, List, [], ◌∷◌, ◌++◌, length, drop, get_or, Option, Result, Ok, Err, refl, sym, ap, subst, ◌∙◌, append_assoc, append-nil, arith}
 use Rattle.std.proofs.lemmas.List.{drop_more, drop_all}
 use Rattle.std.proofs.lemmas.List.Sums.{sum-map, sum_by-append, sum_by-cons}
 use Rattle.std.specs.List.{sum_by}
-use Rattle.vx_base.specs.Refusals.{Gives, Unless}
 use Rattle.vx_base.specs.Results.{◌>>=◌}
 use Rattle.vx_io.specs.Outside.{Files}
 use Rattle.vx_election_model.specs.declared.election.Election.{Election}
@@ -12,43 +11,21 @@ use Rattle.vx_command.specs.declared.halt.Halt.{Halt}
 use Rattle.vx_command.specs.declared.halt.Halt.TheVariants.{NoMemory}
 use Rattle.vx_command.specs.Acts.{Outcome, Take, after, input_of, taking}
 use Rattle.vx_command.specs.Done.{Taken, BreaksAt, IsDone, IsWritten, WritesTo}
-use Rattle.vx_command.specs.Laws.{ActLaws, StepLaws}
+use Rattle.vx_command.specs.Laws.{StepLaws}
 use Rattle.vx_command.specs.Steps.{GivesTaking, is_no_memory}
 use Rattle.vx_command_center.specs.declared.item.Item.{Item}
 use Rattle.vx_command_center.specs.Items.{possible_in_all, possible_of}
-use Rattle.vx_command_center.specs.Outcome.{item_in, items_outcome, items_taken, limit_of, name_in, taken_item, within_limit}
+use Rattle.vx_command_center.specs.Outcome.{items_outcome, items_taken, limit_of, name_in, taken_item}
 use Rattle.vx_command_center.specs.Taking.{BreaksBefore, TakesItems}
 
 -- an item by the bytes that were taken for it
 module _ (election : Election) (word before : ℕ) (item : ItemWord) (file : Option (List ℕ)) where
-  -- the input wasn't taken
-  pub input_missing : (cause : Halt) → GivesTaking word (Err cause) (input_of word (limit_of item) file) → GivesTaking word (Err cause) (taken_item election word before item file)
-  input_missing cause (inl is) = inl (ap (λ (given : Result (List ℕ) Halt). given >>= item_in election word item >>= within_limit word before) is)
-  input_missing cause (inr broke) = inr broke
 
   module _ (bytes : List ℕ) (given : input_of word (limit_of item) file ≡ Ok bytes) where
-    with_bytes : taken_item election word before item file ≡ (item_in election word item bytes >>= within_limit word before)
-    with_bytes = ap (λ (some : Result (List ℕ) Halt). some >>= item_in election word item >>= within_limit word before) given
 
     no_memory : (cause : Halt) → is_no_memory cause ≡ true → BreaksAt cause (Take word ∷ []) [] []
     no_memory NoMemory is = (refl, refl)
     no_memory cause is = absurd cc
-
-    -- its bytes are none
-    pub item_missing : (cause : Halt) → Gives is_no_memory (Err cause) (item_in election word item bytes) → GivesTaking word (Err cause) (taken_item election word before item file)
-    item_missing cause gives = by (is_no_memory cause) refl gives
-      where
-        by : (b : Bool) → is_no_memory cause ≡ b → Unless b (item_in election word item bytes ≡ Err cause) → GivesTaking word (Err cause) (taken_item election word before item file)
-        by true free gives = inr (no_memory cause free)
-        by false other is = inl (with_bytes ∙ ap (λ (some : Result Item Halt). some >>= within_limit word before) is)
-
-    -- they are an item, which may be one too many
-    pub item_given : (taken : Item) → item_in election word item bytes ≡ Ok taken → (result : Result Item Halt) → result ≡ within_limit word before taken → GivesTaking word result (taken_item election word before item file)
-    item_given taken is result answers = by result (with_bytes ∙ ap (λ (some : Result Item Halt). some >>= within_limit word before) is ∙ sym answers)
-      where
-        by : (r : Result Item Halt) → taken_item election word before item file ≡ r → GivesTaking word r (taken_item election word before item file)
-        by (Ok item) same = same
-        by (Err cause) same = inl same
 
 -- none is taken where the command halts before the first
 pub none_taken : (laws : StepLaws Item) (election : Election) (files : Files) (words : List ItemWord) → 1 ≤ length words → (cause : Halt) → BreaksBefore cause → TakesItems election files words (Err cause)
@@ -127,12 +104,6 @@ module _ (election : Election) (files : Files) (words : List ItemWord) where
       -- it isn't
       pub has_stopped : (cause : Halt) → GivesTaking word (Err cause) given_by → (rest : List Item → Outcome) (a : Taken) → IsWritten (items_outcome election files 4 0 words rest) a a (Err cause)
       has_stopped cause gives rest a held = here.comes rest a held a held (Err cause) (laws.not_taken word given_by cause (next rest) a gives held)
-
-      -- it is, and there is no memory for it
-      pub has_no_room : ActLaws → (taken : Item) → given_by ≡ Ok taken → (rest : List Item → Outcome) (a : Taken) → IsWritten (items_outcome election files 4 0 words rest) a a (Err NoMemory)
-      has_no_room acts taken given rest a held =
-          here.comes rest a held a held (Err NoMemory)
-          (laws.taken word given_by taken (next rest) a given held a held (Err NoMemory) (acts.no_memory (next rest taken) a held))
 
     -- all are taken
     pub has_all : length words ≤ i → TakesItems election files words (Ok items)

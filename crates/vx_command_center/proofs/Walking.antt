@@ -1,5 +1,5 @@
 -- A scan's sheets, one after another.
-use Rattle.std.proofs.Common.{◌≡◌, ℕ, ◌+◌, ◌*◌, ◌/◌, ◌≤◌, Bool, true, false, cond, List, [], ◌∷◌, ◌++◌, length, Result, Ok, Err, refl, sym, ap, subst, ◌∙◌, arith, append_assoc, length-append}
+use Rattle.std.proofs.Common.{◌≡◌, ℕ, ◌+◌, ◌*◌, ◌/◌, ◌≤◌, List, [], ◌∷◌, ◌++◌, length, Result, Ok, Err, refl, sym, ap, subst, ◌∙◌, arith, append_assoc, length-append}
 use Rattle.std.proofs.lemmas.List.{append-nil}
 use Rattle.vx_plane.specs.Plane.{Page}
 use Rattle.vx_election_model.specs.declared.election.Election.{Election}
@@ -7,12 +7,10 @@ use Rattle.vx_events.specs.declared.event.Event.{Event}
 use Rattle.vx_pbm.specs.Images.{Images, with_page}
 use Rattle.vx_rules.specs.declared.marks.SheetMarks.{SheetMarks}
 use Rattle.vx_shared.specs.Calls.{Known}
-use Rattle.vx_shared.specs.Gained.{HasMade, HasMadeFront, MakesAlso}
+use Rattle.vx_shared.specs.Gained.{HasMade, MakesAlso}
 use Rattle.vx_shared.specs.Laws.{NothingIsMade}
 use Rattle.vx_sheet.specs.declared.came.Came.{Came}
-use Rattle.vx_sheet.specs.declared.came.Came.TheVariants.{Single}
 use Rattle.vx_sheet.specs.Events.{event_of}
-use Rattle.vx_sheet.specs.Lines.{lines_of}
 use Rattle.vx_command_center.specs.Sheets.{event_if, events_from, events_in, events_made, lines_from, lines_in, lines_unless, read_of, sheets_from}
 
 few_made : (made : Result Event Came) → length (events_made made) ≤ 1
@@ -117,53 +115,4 @@ next_few election batch pass pages before number first second left later now tex
     let room = walked.room in
     omega (arith, long, room)
 
--- all events were made where none is left to make
-made_all : (pass now : Known) (made rest all : List Event) → HasMade pass made now → all ≡ made ++ rest → rest ≡ [] → HasMade pass all now
-made_all pass now made rest all has is none =
-    subst (λ (l : List Event). HasMade pass l now) (sym (is ∙ (ap (λ (l : List Event). made ++ l) none ∙ append-nil made))) has
-
--- at the end
-pub walk_made : (election : Election) (batch : List ℕ) (pass : Known) (pages : List Page) (before : List ℕ) (number : ℕ) (left : List Page) (now : Known) (text : List ℕ)
-    → IsWalked election batch pass pages before number left now text → events_from batch number (sheets_from election number left) ≡ []
-    → HasMade pass (events_in election batch pages) now
-walk_made election batch pass pages before number left now text walked none =
-    made_all pass now walked.made_so (events_from batch number (sheets_from election number left)) (events_in election batch pages) walked.made walked.events none
-
--- the lines of what is left are the last
-pub walk_told : (election : Election) (batch : List ℕ) (pass : Known) (pages : List Page) (before : List ℕ) (number : ℕ) (left : List Page) (now : Known) (text text_then : List ℕ)
-    → IsWalked election batch pass pages before number left now text
-    → text_then ≡ text ++ lines_from election batch number (sheets_from election number left)
-    → text_then ≡ before ++ lines_in election batch pages
-walk_told election batch pass pages before number left now text text_then walked told =
-    let rest : List ℕ = lines_from election batch number (sheets_from election number left) in
-    told ∙ (ap (λ (l : List ℕ). l ++ rest) walked.text_is ∙ (append_assoc before walked.told_so rest ∙ ap (λ (l : List ℕ). before ++ l) (sym walked.lines)))
-
--- a front of the events, wherever the walk breaks off
-pub walk_fronts : (election : Election) (batch : List ℕ) (pass : Known) (pages : List Page) (before : List ℕ) (number : ℕ) (left : List Page) (now : Known) (text : List ℕ)
-    → IsWalked election batch pass pages before number left now text → HasMadeFront pass (events_in election batch pages) now
-walk_fronts election batch pass pages before number left now text walked = record {
-  front = walked.made_so;
-  begins = (events_from batch number (sheets_from election number left), sym walked.events);
-  made = walked.made;
 }
-
--- no image is left
-pub none_events : (election : Election) (batch : List ℕ) (number : ℕ) (left : List Page) → left ≡ [] → events_from batch number (sheets_from election number left) ≡ []
-none_events election batch number left none = ap (λ (l : List Page). events_from batch number (sheets_from election number l)) none
-
-pub none_lines : (election : Election) (batch : List ℕ) (number : ℕ) (left : List Page) (text : List ℕ) → left ≡ []
-    → text ≡ text ++ lines_from election batch number (sheets_from election number left)
-none_lines election batch number left text none =
-    sym (ap (λ (l : List Page). text ++ lines_from election batch number (sheets_from election number l)) none ∙ append-nil text)
-
--- one image is left
-pub single_events : (election : Election) (batch : List ℕ) (number : ℕ) (single : Page) (left : List Page) → left ≡ single ∷ []
-    → events_from batch number (sheets_from election number left) ≡ []
-single_events election batch number single left one = ap (λ (l : List Page). events_from batch number (sheets_from election number l)) one
-
-pub single_lines : (election : Election) (batch : List ℕ) (number : ℕ) (single : Page) (left : List Page) (text text_then : List ℕ) → left ≡ single ∷ []
-    → text_then ≡ text ++ lines_of election batch number Single
-    → text_then ≡ text ++ lines_from election batch number (sheets_from election number left)
-single_lines election batch number single left text text_then one told =
-    told ∙ (ap (λ (l : List ℕ). text ++ l) (sym (append-nil (lines_of election batch number Single)))
-    ∙ ap (λ (l : List Page). text ++ lines_from election batch number (sheets_from election number l)) (sym one))

@@ -10,11 +10,6 @@ abbrev pub NamedTo : ℕ → List BubbleName → List Bubble → ℕ → Type 0
 NamedTo first names bubbles place =
     other_name first names bubbles ≡ other_name (first + place) (drop place names) (drop place bubbles)
 
-pub names-none : (first : ℕ) (names : List BubbleName) (bubbles : List Bubble) → NamedTo first names bubbles 0
-names-none first names bubbles =
-    let same : first ≡ first + 0 = omega arith in
-    ap (λ (line : ℕ). other_name line names bubbles) same
-
 module _ (first : ℕ) (names : List BubbleName) (bubbles : List Bubble) (place : ℕ) (before : NamedTo first names bubbles place) (name : BubbleName) where
   pub names-more : drop place names ≡ name ∷ drop (place + 1) names → is_named name (drop place bubbles) ≡ true → NamedTo first names bubbles (place + 1)
   names-more some is =

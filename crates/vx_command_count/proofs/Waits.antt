@@ -1,12 +1,11 @@
 -- The image that waits is the first of its bitmap.
-use Rattle.std.proofs.Common.{◌≡◌, ℕ, Bool, true, false, List, [], ◌∷◌, take, refl, ap, subst}
+use Rattle.std.proofs.Common.{◌≡◌, ℕ, Bool, true, false, List, [], take, refl, ap, subst}
 use Rattle.std.proofs.lemmas.List.Elements.{All-take}
 use Rattle.std.specs.Prelude.{All, MatchBool, Option, None, Some, Ok, Err}
 use Rattle.vx_plane.specs.Plane.{Page}
 use Rattle.vx_pbm.specs.declared.fault.PbmFault.{PbmFault}
 use Rattle.vx_pbm.specs.Faults.{is_no_memory}
-use Rattle.vx_pbm.specs.Images.{Unread, whole, next_of, Images, ended, images_left, images_of, Walks, IsWholePage, ReadsBack, ImagesAreWhole}
-use Rattle.vx_pbm.specs.Raw.{p4_of}
+use Rattle.vx_pbm.specs.Images.{Unread, whole, next_of, Images, ended, images_left, images_of, Walks, IsWholePage, ImagesAreWhole}
 use Rattle.vx_command_count.specs.Gathering.{waits}
 
 -- the first image of bytes
@@ -35,10 +34,6 @@ fault-first bytes fault new known walks = by (is_no_memory fault) known walks
     by : (b : Bool) → b ≡ false → MatchBool b (images_left new ≡ images_left (whole bytes)) (images_left (whole bytes) ≡ ended (Some fault)) → first_in (images_left (whole bytes)) ≡ []
     by true known walks = absurd cc
     by false known walks = ap first_in walks
-
--- what is written of a whole page has that page first
-pub written-first : ReadsBack → (page : Page) → IsWholePage page → first_of (p4_of page) ≡ page ∷ []
-written-first back page is = ap first_in (back page is)
 
 -- it is a whole page
 pub whole-first : ImagesAreWhole → (bytes : List ℕ) (found : List Page) → first_of bytes ≡ found → All IsWholePage found

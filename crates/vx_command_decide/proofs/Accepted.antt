@@ -4,8 +4,6 @@ use Rattle.std.proofs.lemmas.Bool.{cond-true, cond-false}
 use Rattle.vx_election_model.specs.declared.election.Election.{Election}
 use Rattle.vx_events.specs.declared.event.Event.{Event}
 use Rattle.vx_refusals.specs.declared.decision.DecisionFault.TheVariants.{Refused}
-use Rattle.vx_refusals.specs.declared.reply.Reply.{Reply}
-use Rattle.vx_refusals.specs.declared.reply.Reply.TheVariants.{Done}
 use Rattle.vx_center.specs.Replies.{is_done, next_of}
 use Rattle.vx_records.specs.Records.{record_of}
 use Rattle.vx_command.specs.declared.halt.Halt.{Halt}
@@ -18,8 +16,8 @@ use Rattle.vx_journal.specs.declared.journal.Journal.{Journal}
 use Rattle.vx_journal.specs.Keeping.{keep_acts, reply_in}
 use Rattle.vx_journal.specs.Steps.{IsRecorded}
 use Rattle.vx_script.specs.Script.{event_in, lines_of}
-use Rattle.vx_command_decide.specs.Lines.{Accepts, Decides, TakesLine, event_outcome}
-use Rattle.vx_command_decide.specs.Outcome.{accepted, done_line, line_acts, lines_outcome, said}
+use Rattle.vx_command_decide.specs.Lines.{Accepts, Decides, event_outcome}
+use Rattle.vx_command_decide.specs.Outcome.{accepted, done_line, line_acts, said}
 
 -- a break-off is no answer of a command that has written nothing
 broken_late : (cause : Halt) (left : List Act) (text : List ℕ) (records : List (List ℕ)) → BreaksAt cause left text records → writes_nothing {A = Unit {0}} false (Err cause) ≡ false
@@ -109,12 +107,6 @@ module _ (election : Election) (kept kept_now : List Event) (number : ℕ) (line
 
 -- a line among others
 module _ (election : Election) (kept kept_now : List Event) (number : ℕ) (taken taken_now : Taken) (held held_now : Held) where
-  pub takes : (line : List ℕ) (answer : Answer) → (line ≡ [] → ⊥) → Decides election kept kept_now number line taken taken_now held held_now answer → TakesLine election kept kept_now number line taken taken_now held held_now answer
-  takes [] answer some decided = absurd (some refl)
-  takes (b ∷ line) (Ok done) some decided = λ lines taken_then held_then answer so.
-      let So : List Event → Type 0 = λ events. IsDone (lines_outcome election events (number + 1) lines) taken_now taken_then held_now held_then answer in
-      decided.comes (λ event. lines_outcome election (kept ++ event ∷ []) (number + 1) lines) taken_then held_then answer (subst So decided.kept_is so)
-  takes (b ∷ line) (Err cause) some decided = λ lines. decided (λ event. lines_outcome election (kept ++ event ∷ []) (number + 1) lines)
 
 -- the first line of a text, and some others
 pub front_line : (text line : List ℕ) (behind : Option (Bor (List ℕ))) → MatchOption behind (lines_of text ≡ line ∷ []) (λ rest. lines_of text ≡ line ∷ lines_of rest.now) → (lines : List (List ℕ)) × (lines_of text ≡ line ∷ lines)

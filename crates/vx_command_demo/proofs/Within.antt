@@ -1,5 +1,5 @@
 -- How large sums may become.
-use Rattle.std.proofs.Common.{ℕ, ◌+◌, ◌*◌, ◌≤◌, ◌<◌, length, arith}
+use Rattle.std.proofs.Common.{ℕ, ◌≤◌, ◌<◌, length, arith}
 use Rattle.std.proofs.lemmas.Int.{ints}
 use Rattle.vx_election_model.specs.declared.election.Election.{Election}
 use Rattle.vx_election_model.specs.Valid.{IsValid}
@@ -8,7 +8,7 @@ use Rattle.vx_scan_model.specs.declared.reading.PageReading.{PageReading}
 use Rattle.vx_scan_model.specs.Named.{NamedStandOnGrid}
 use Rattle.vx_page.specs.Named.{IsOfPlan}
 use Rattle.vx_command_demo.specs.declared.sums.ReasonSums.{ReasonSums}
-use Rattle.vx_command_demo.specs.Adding.{AreReasonSums, IsCounted, both_reasons, nothing}
+use Rattle.vx_command_demo.specs.Adding.{AreReasonSums, IsCounted, nothing}
 
 -- at most so often, and so at most more often
 pub reasons-more : (few most : ℕ) (sums : ReasonSums) → few ≤ most → AreReasonSums few sums → AreReasonSums most sums
@@ -20,13 +20,6 @@ reasons-more few most sums le within = record {
   write_in = omega (arith, within.write_in, le);
 }
 
-pub reasons-both : (one other : ℕ) (a b : ReasonSums) → AreReasonSums (one * 500) a → AreReasonSums (other * 500) b → AreReasonSums ((one + other) * 500) (both_reasons a b)
-reasons-both one other a b within too = record {
-  overvote = omega (arith, within.overvote, too.overvote);
-  undervote = omega (arith, within.undervote, too.undervote);
-  marginal = omega (arith, within.marginal, too.marginal);
-  blank = omega (arith, within.blank, too.blank);
-  write_in = omega (arith, within.write_in, too.write_in);
 }
 
 -- nothing was counted

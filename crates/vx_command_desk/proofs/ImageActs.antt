@@ -1,14 +1,12 @@
 -- An image that waits for its second, or is the second of one that waits.
-use Rattle.std.proofs.Common.{◌≡◌, ℕ, ◌+◌, [], ◌∷◌, ◌++◌, Option, None, Some, Ok, Err, sym, subst}
+use Rattle.std.proofs.Common.{ℕ, ◌+◌, [], ◌∷◌, Option, None, Some, Ok, Err}
 use Rattle.vx_plane.specs.Plane.{Page}
 use Rattle.vx_command.specs.declared.halt.Halt.{Halt}
-use Rattle.vx_command.specs.declared.halt.Halt.TheVariants.{NoMemory}
 use Rattle.vx_command.specs.Acts.{Write, writing}
 use Rattle.vx_command.specs.Done.{Taken, IsWritten}
 use Rattle.vx_command.specs.Laws.{ActLaws}
 use Rattle.vx_command_desk.specs.declared.walked.Walked.{Walked}
 use Rattle.vx_command_desk.specs.Outcome.{SheetTexts, with_images}
-use Rattle.vx_command_desk.specs.Setting.{waits}
 use Rattle.vx_command_desk.specs.Steps.{WalksImage}
 
 -- so many sheets, and what waits
@@ -16,16 +14,8 @@ abbrev pub walked_so : ℕ → Option Page → Walked
 walked_so sheets waiting = record { sheets = sheets; waiting = waiting }
 
 module _ (text : SheetTexts) (sheets : ℕ) (image : Page) where
-  -- a copy of the image waits
-  pub image-waits : (page : Page) (a : Taken) → page ≡ image → WalksImage text (walked_so sheets None) image a a (Ok (walked_so sheets (Some page)))
-  image-waits page a same =
-      let Waits : Page → Type 0 = λ some. WalksImage text (walked_so sheets None) image a a (Ok (walked_so sheets (Some some))) in
-      subst Waits (sym same) (λ images rest held taken_then held_then answer done. done)
 
   module _ (laws : ActLaws) where
-    -- there was no memory for it
-    pub image-without-memory : (waiting : Option Page) (a : Taken) → WalksImage text (walked_so sheets waiting) image a a (Err NoMemory)
-    image-without-memory waiting a = λ images rest held. laws.no_memory (with_images text sheets (waits waiting ++ image ∷ images) rest) a held
 
     module _ (first : Page) (a b : Taken) where
       -- it is the second of a sheet, whose text was written

@@ -14,7 +14,7 @@ use Rattle.vx_command.specs.Acts.{Act, Answer, Take, Write, Outcome, writing, af
 use Rattle.vx_command.specs.Devices.{is_keeper_fault}
 use Rattle.vx_command.specs.Done.{Taken, IsDone, IsWritten, WritesTo, BreaksAt}
 use Rattle.vx_command.specs.Laws.{ActLaws, StepLaws}
-use Rattle.vx_command.specs.Steps.{GivesTaking, IsTakingHalt}
+use Rattle.vx_command.specs.Steps.{GivesTaking}
 use Rattle.vx_command_gray.specs.declared.status.GrayStatus.{GrayStatus}
 use Rattle.vx_command_gray.specs.declared.status.GrayStatus.TheVariants as gray
 use Rattle.vx_command_gray.specs.Done.{IsGrayDone, Comes, WritesScan, WritesFirst}
@@ -177,14 +177,6 @@ written_stops text a b cause other written =
       | inl whole ↦ (let same = whole.same_answer in absurd cc)
       | inr breaks ↦ breaks_stop cause done.left done.text done.records other breaks
     ]
-
--- so may one at which an input wasn't taken
-pub taking_stops : (word : ℕ) (cause : Halt) → IsTakingHalt word cause → IsStop cause
-taking_stops word (halt.NoInput other) is = tt
-taking_stops word (halt.TooLong other size) is = tt
-taking_stops word halt.ReadFault is = tt
-taking_stops word halt.NoMemory is = tt
-taking_stops word cause is = absurd is
 
 -- the words from one on begin with it
 pub word_on : (words : List (List ℕ)) (word : ℕ) (name : List ℕ) → slice_get words word ≡ Some name → drop word words ≡ name ∷ drop (word + 1) words

@@ -1,6 +1,6 @@
 -- Pages that are written one after another.
-use Rattle.std.proofs.Common.{◌≡◌, ◌+◌, ◌<◌, ◌≤◌, ℕ, List, [], ◌∷◌, length, drop, get_or, Option, Result, Ok, Err, sym, ap, subst, ◌∙◌}
-use Rattle.std.proofs.lemmas.List.{drop_more, drop_all}
+use Rattle.std.proofs.Common.{◌≡◌, ◌+◌, ◌<◌, ℕ, List, [], ◌∷◌, length, drop, get_or, Ok, Err, sym, ap, subst, ◌∙◌}
+use Rattle.std.proofs.lemmas.List.{drop_more}
 use Rattle.vx_election_model.specs.declared.election.Election.{Election}
 use Rattle.vx_layout.specs.declared.pages.PagePlan.{PagePlan}
 use Rattle.vx_command.specs.declared.halt.Halt.{Halt}
@@ -31,9 +31,3 @@ module _ (laws : ActLaws) (election : Election) (ballot : Ballot) (plans : List 
       before held c held (Err cause)
       (subst Done (sym (from_here plan inside is))
       (laws.broken (Write (page_text election ballot plan) ∷ []) (pages_outcome election ballot (drop (i + 1) plans)) b c held held cause (written held)))
-
-  -- all pages are written
-  pub pages_written : (a b : Taken) → length plans ≤ i → WritesTo (pages_outcome election ballot plans) (pages_outcome election ballot (drop i plans)) a b → IsWritten (pages_outcome election ballot plans) a b (Ok tt)
-  pages_written a b past before held =
-      let Done : List PagePlan → Type 0 = λ left. IsDone (pages_outcome election ballot left) b b held held (Ok tt) in
-      before held b held (Ok tt) (subst Done (sym (drop_all i plans past)) (laws.ended (Ok tt) b held))

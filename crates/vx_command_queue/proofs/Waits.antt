@@ -1,5 +1,5 @@
 -- The lines of the queue are those of what waits.
-use Rattle.std.proofs.Common.{◌≡◌, ◌⊎◌, inl, inr, ℕ, zero, suc, ◌+◌, ◌%◌, ◌<◌, ◌≤◌, Bool, true, false, cond, List, [], ◌∷◌, ◌++◌, map, refl, sym, ap, ap₂, ◌∙◌, arith}
+use Rattle.std.proofs.Common.{◌≡◌, ◌⊎◌, inl, inr, ℕ, zero, suc, ◌+◌, ◌%◌, ◌≤◌, Bool, true, false, cond, List, [], ◌∷◌, ◌++◌, map, refl, sym, ap, ap₂, ◌∙◌, arith}
 use Rattle.std.specs.Prelude.{◌&&◌, ◌==◌, not, filter, nat_le, nat_lt, slice_get, length, Option, Some, None}
 use Rattle.std.specs.List.{flat_map, list_all}
 use Rattle.std.proofs.lemmas.List.{map-append}
@@ -20,7 +20,7 @@ use Rattle.vx_center.specs.Sheets.{Added, sheets_in}
 use Rattle.vx_center.specs.Waiting.{exports}
 use Rattle.vx_rules.specs.Reasons.{is_blank_sheet}
 use Rattle.vx_journal.specs.Laws.{TextsAreOfJournals}
-use Rattle.vx_command_queue.specs.Laws.{ListsWhatWaits, OfSheet, QueuesListWhatWaits, QueuesWriteWhatWaits, WaitsOnce, line_at, line_of_waiting, waiting_on}
+use Rattle.vx_command_queue.specs.Laws.{OfSheet, QueuesListWhatWaits, QueuesWriteWhatWaits, WaitsOnce, line_at, line_of_waiting, waiting_on}
 use Rattle.vx_command_queue.specs.Queue.{contest_lines, queue_text, sheet_lines, wait_lines}
 
 -- what a sheet that fits says of its contests: they ascend, and each is one of the election's
@@ -108,12 +108,6 @@ module _ (election : Election) (kept : List Event) (added : Added) where
           }
       by true (suc place) go at = lower one least (marks.contest + 1) (go place one at) (omega (arith, first))
       by false place go at = lower one least (marks.contest + 1) (go place one at) (omega (arith, first))
-
-  -- two of a sheet
-  Once : List OfSheet → Type 0
-  Once list =
-      (place further : ℕ) (one other : OfSheet) → slice_get list place ≡ Some one → slice_get list further ≡ Some other
-      → one.marks.contest ≡ other.marks.contest → place ≡ further
 
   once-on : (contests : List ContestMarks) (least : ℕ) → ascends_from least (contests_of contests) ≡ true → (place further : ℕ) (one other : OfSheet)
       → slice_get (map with-sheet (filter waits contests)) place ≡ Some one → slice_get (map with-sheet (filter waits contests)) further ≡ Some other

@@ -26,10 +26,6 @@ sums-more page row k at many dark sums so_far here more inside within counted = 
 pub sums-at : (page : Page) (m n : ℕ) (sums : List ℕ) → BeginsWithSums page m sums → m ≡ n → BeginsWithSums page n sums
 sums-at page m n sums so_far same = rw (← same) so_far
 
--- no sums yet
-pub sums-none : (page : Page) (n : ℕ) (sums : List ℕ) → n ≡ 0 → BeginsWithSums page n sums
-sums-none page n sums none = record { each = λ row k l h. absurd (omega arith) }
-
 -- the sum at a column
 pub sum-at : (page : Page) (row block : ℕ) (sums : List ℕ) → BeginsWithSums page (page.height * blocks_of page) sums → row < page.height → 0 < block → 1024 * block ≤ page.width → get_or sums (row * blocks_of page + (block - 1)) 0 ≡ count_in (pos 0) (pos row) (1024 * block) 1 (dark_at page)
 sum-at page row block sums all down some across =

@@ -30,10 +30,6 @@ one-more name at next a b c before asked more =
           (Asked-append a b c (map (BytesFrom name) before.places) (BytesFrom name at ∷ []) before.asked asked);
     }
 
--- none was asked for yet
-pub none-yet : (name : List ℕ) (told : Questions) → AsksPieces name 0 told told
-none-yet name told = record { places = []; behind = refl; asked = Asked-nil told }
-
 -- the size was asked for, and then pieces
 pub size-then : (name : List ℕ) (to : ℕ) (a b c : Questions) → Asked a b (SizeOf name ∷ []) → AsksPieces name to b c → AsksFor name a c
 size-then name to a b c size pieces =
@@ -42,7 +38,3 @@ size-then name to a b c size pieces =
       taking = record { places = pieces.places; to = to; behind = pieces.behind; are = refl };
       asked = Asked-append a b c (SizeOf name ∷ []) (map (BytesFrom name) pieces.places) size pieces.asked;
     }
-
--- the size alone was asked for
-pub size-alone : (name : List ℕ) (a b : Questions) → Asked a b (SizeOf name ∷ []) → AsksFor name a b
-size-alone name a b size = size-then name 0 a b b size (none-yet name b)

@@ -81,10 +81,6 @@ CountsFaults-after failed a b c p q = subst (λ (n : ℕ). CountsFaults failed n
 pub CountsFaults-before : (failed : Bool) (a b c : ℕ) → CountsFaults failed a b → CountsFaults false b c → CountsFaults failed a c
 CountsFaults-before failed a b c p q = subst (λ (n : ℕ). CountsFaults failed a n) (sym (q.still refl)) p
 
--- a call that hands an answer on counts what it counted
-pub CountsFaults-passed : (inner outer : Bool) (a b : ℕ) → inner ≡ outer → CountsFaults inner a b → CountsFaults outer a b
-CountsFaults-passed inner outer a b e p = subst (λ (failed : Bool). CountsFaults failed a b) e p
-
 -- a front, and then more of the same text
 take_further : (text : List ℕ) (at count : ℕ) → take at text ++ take count (drop at text) ≡ take (at + count) text
 take_further text at count =

@@ -1,9 +1,7 @@
 -- The plans of all cards as a list are those of which each is its card's plan.
-use Rattle.std.proofs.Common.{◌≡◌, ℕ, zero, suc, ◌+◌, ◌<◌, ⊎_elim, List, [], ◌∷◌, ◌++◌, length, length-append, get_or, Ok, Err, refl, sym, ap, subst, ◌∙◌, arith}
+use Rattle.std.proofs.Common.{◌≡◌, ℕ, zero, suc, ◌+◌, ◌<◌, List, [], ◌∷◌, length, get_or, Ok, Err, refl, ap, subst, ◌∙◌, arith}
 use Rattle.std.specs.Prelude.{Result}
 use Rattle.std.specs.List.{range_with_len}
-use Rattle.std.proofs.lemmas.Bool.{cases_lt}
-use Rattle.std.proofs.lemmas.List.{get_or_append_left, get_or_push}
 use Rattle.vx_base.specs.Results.{◌>>=◌}
 use Rattle.vx_base.proofs.Results.{bind_ok}
 use Rattle.vx_election_model.specs.declared.election.Election.{Election}
@@ -72,16 +70,6 @@ from-stops election from (suc count) (suc k) card [] fault at less are stop = ab
 from-stops election from (suc count) (suc k) card (plan ∷ plans) fault at less are stop =
     rw (first-of election from k plan plans are, from-stops election (from + 1) count k card plans fault (omega (arith, at)) (omega (arith, less)) (rest-of election from k plan plans are) stop)
 
--- one plan more
-pub from-more : (election : Election) (card : ℕ) (plans : List CardPlan) (plan : CardPlan) → ArePlansFrom election 0 card plans → plan_of election card ≡ Ok plan → ArePlansFrom election 0 (card + 1) (plans ++ plan ∷ [])
-from-more election card plans plan are is = record {
-  all = omega (arith, length-append plans (plan ∷ []), are.all);
-  each = λ k d less.
-      ⊎_elim
-      (λ before. are.each k d before ∙ ap Ok (sym (get_or_append_left plans (plan ∷ []) d k (omega (arith, before, are.all)))))
-      (λ last. let at : 0 + k ≡ card = omega (arith, last, less) in
-      ap (plan_of election) at ∙ is ∙ ap Ok (sym (get_or_push plans plan d k (omega (arith, at, are.all)))))
-      (cases_lt k card);
 }
 
 -- all plans, or the first fault

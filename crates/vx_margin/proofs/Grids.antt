@@ -86,14 +86,6 @@ line-mean d c p k m o a x y z e all slope mean near room =
       high = omega (arith, ints, f, g, h, i, within.high, room);
     }
 
--- the same for numbers that are these
-mean-of : (d c m : ℕ) (x y z fx fy fz : ℤ) → fx ≡ x → fy ≡ y → fz ≡ z → IsWithin m (times 33 fz -ℤ (times d fx +ℤ times c fy)) → IsWithin m (times 33 z -ℤ (times d x +ℤ times c y))
-mean-of d c m x y z fx fy fz e f g h =
-    let is_x : times d fx ≡ times d x = ap (times d) e in
-    let is_y : times c fy ≡ times c y = ap (times c) f in
-    let is_z : times 33 fz ≡ times 33 z = ap (times 33) g in
-    record { low = omega (arith, ints, h.low, is_x, is_y, is_z); high = omega (arith, ints, h.high, is_x, is_y, is_z) }
-
 -- a mean of exact places, and of what they are moved by
 added-mean : (d c m : ℕ) (x y z fx fy fz : ℤ) → times 33 z ≡ (times d x +ℤ times c y) +ℤ pos 0 → IsWithin m (times 33 fz -ℤ (times d fx +ℤ times c fy))
     → IsWithin m (times 33 (z +ℤ fz) -ℤ (times d (x +ℤ fx) +ℤ times c (y +ℤ fy)))

@@ -11,18 +11,11 @@ use Rattle.vx_mark_model.specs.Following.{is_in_row, leader_of}
 use Rattle.vx_fit.specs.Fit.{left_mark, right_mark}
 use Rattle.vx_margin.specs.Marks.{IsBorderPoint}
 
--- where the marks of each side stand
-top-mark : (last k : ℕ) → k < 34 → mark_of last k ≡ (k, 0)
-top-mark last k h = grind (arith, nat_tests)
-
 right-mark : (last k : ℕ) → 34 ≤ k → k < 34 + last → mark_of last k ≡ (33, k - 33)
 right-mark last k h g = grind (arith, nat_tests)
 
 left-mark : (last k : ℕ) → 34 + last ≤ k → k < 34 + 2 * last → mark_of last k ≡ (0, k - (33 + last))
 left-mark last k h g = grind (arith, nat_tests)
-
-bottom-mark : (last k : ℕ) → 34 + 2 * last ≤ k → mark_of last k ≡ (k - (33 + 2 * last), last)
-bottom-mark last k h = grind (arith, nat_tests)
 
 -- a mark of a row stands right of the one that leads to it
 pub mark-right : (last k : ℕ) → 40 ≤ last → 0 < k → is_in_row last k ≡ true

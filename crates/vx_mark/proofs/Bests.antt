@@ -193,8 +193,3 @@ found-best page predicted v rows found r end h = record {
   near = h.seen.0;
   best = λ q good near better. h.best q good (all-seen page predicted q v rows r end good near) better;
 }
-
--- what a deficit has to stay below is at most 21
-pub bound-most : (page : Page) (predicted : Point) (cap u v : ℕ) (best : Option Found) → cap ≤ 21 → IsBestSeen page predicted cap u v best → bound_of cap best ≤ 21
-bound-most page predicted cap u v None most h = most
-bound-most page predicted cap u v (Some found) most h = omega (arith, h.deficit, h.accepted.deficit)

@@ -5,7 +5,6 @@ use Rattle.std.proofs.lemmas.Bool.{cases_eq, cases_lt, ne_eqb, eq-eqb}
 use Rattle.std.proofs.lemmas.List.{take_more, drop_more, map-append, append-nil, get_or_at, get_or_append_left, get_or_past, length-append}
 use Rattle.std.proofs.lemmas.List.Elements.{filter-append}
 use Rattle.std.proofs.lemmas.Nat.{same_from_place}
-use Rattle.std.proofs.Math.Nat.{div-lt_iff_lt-mul}
 use Rattle.vx_plane.specs.Plane.{Page, page_of, dark_at, nowhere, with_pixel}
 use Rattle.vx_plane.proofs.Pages.{page_of-same, dark_at-inside, with_pixel-here, with_pixel-elsewhere}
 use Rattle.vx_pbm.specs.declared.fault.PbmFault.{PbmFault}
@@ -13,10 +12,6 @@ use Rattle.vx_pbm.specs.declared.fault.PbmFault.TheVariants.{Truncated, BadPixel
 use Rattle.vx_pbm.specs.declared.header.Header.{Header}
 use Rattle.vx_pbm.specs.Header.{is_space, header_at}
 use Rattle.vx_pbm.specs.Raster.{is_pixel, raster_end, pixels_in, listed, in_size, plain_raster, plain_image}
-
--- a pixel's row is within the frame
-pub row_within : (index width height : ℕ) → 0 < width → index < height * width → index / width < height
-row_within index width height some inside = (div-lt_iff_lt-mul {k = width} {x = index} {y = height} some).1 inside
 
 second : {X : Type 0} (t u : Bool) (x y z : X) → t ≡ false → u ≡ true → cond t x (cond u y z) ≡ y
 second t u x y z a b = rw (a, b) refl

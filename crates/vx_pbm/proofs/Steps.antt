@@ -20,9 +20,6 @@ chosen_2 t u x y z a b = rw (a, b) refl
 chosen_3 : {X : Type 0} (t u v : Bool) (x y z w : X) → t ≡ false → u ≡ false → v ≡ true → cond t x (cond u y (cond v z w)) ≡ z
 chosen_3 t u v x y z w a b c = rw (a, b, c) refl
 
-chosen_4 : {X : Type 0} (t u v : Bool) (x y z w : X) → t ≡ false → u ≡ false → v ≡ false → cond t x (cond u y (cond v z w)) ≡ w
-chosen_4 t u v x y z w a b c = rw (a, b, c) refl
-
 pub and_false : (t u : Bool) → u ≡ false → (t && u) ≡ false
 and_false true u e = e
 and_false false u e = refl

@@ -2,7 +2,7 @@
 use Rattle.std.proofs.Common.{◌≡◌, ℕ, ◌+◌, ◌*◌, ◌≤◌, le_trans, mul-le-mul, Bool, true, false, not, ◌||◌, ℤ, pos, ◌+ℤ◌, ◌≤ℤ◌, ◌<ℤ◌, refl, ap, sym, ◌∙◌, arith}
 use Rattle.vx_plane.specs.Plane.{Pixels, union}
 use Rattle.vx_plane.specs.Count.{one_if, sum_from, count_in, outside_of}
-use Rattle.vx_plane.proofs.Sums.{sum_from-same, sum_from-le, sum_from-parts, sum_from-more, sum_from-moved, sum_from-add, sum_from-same_number, sum_from-orders, sum_from-member}
+use Rattle.vx_plane.proofs.Sums.{sum_from-same, sum_from-le, sum_from-parts, sum_from-more, sum_from-moved, sum_from-add, sum_from-same_number, sum_from-orders}
 
 -- the number of places of the set in one row
 abbrev pub row_count : ℤ → ℤ → ℕ → Pixels → ℕ
@@ -60,11 +60,6 @@ unfolding count_in
 count_in-moved left top du dv width height set =
     sum_from-moved top dv height (λ v. sum_from (left +ℤ du) width (λ u. one_if (set u v)))
     ∙ sum_from-same top height _ _ (λ v l h. sum_from-moved left du width (λ u. one_if (set u (v +ℤ dv))))
-
--- a rectangle turned over its diagonal
-pub count_in-turned : (left top : ℤ) (width height : ℕ) (set : Pixels) → count_in left top width height set ≡ count_in top left height width (λ u v. set v u)
-unfolding count_in
-count_in-turned left top width height set = sum_from-orders left top width height (λ u v. one_if (set u v))
 
 -- nothing in the rectangle counts 0
 pub count_in-none : (left top : ℤ) (width height : ℕ) (set : Pixels) → ((u v : ℤ) → left ≤ℤ u → u <ℤ (left +ℤ pos width) → top ≤ℤ v → v <ℤ (top +ℤ pos height) → set u v ≡ false) → count_in left top width height set ≡ 0
@@ -147,14 +142,6 @@ count_in-union_apart left top width height a b apart =
 not_one : (b : Bool) → one_if b ≤ 0 → b ≡ false
 not_one true h = absurd (omega arith)
 not_one false h = refl
-
--- where nothing is counted, no place of the rectangle is in the set
-pub count_in-zero : (left top : ℤ) (width height : ℕ) (set : Pixels) → count_in left top width height set ≡ 0 → (u v : ℤ) → left ≤ℤ u → u <ℤ (left +ℤ pos width) → top ≤ℤ v → v <ℤ (top +ℤ pos height) → set u v ≡ false
-unfolding count_in
-count_in-zero left top width height set e u v p q l h =
-    let inner : one_if (set u v) ≤ sum_from left width (λ w. one_if (set w v)) = sum_from-member left width (λ w. one_if (set w v)) u p q in
-    let outer : sum_from left width (λ w. one_if (set w v)) ≤ count_in left top width height set = sum_from-member top height (λ y. sum_from left width (λ w. one_if (set w y))) v l h in
-    not_one (set u v) (omega arith)
 
 -- a rectangle of one place
 pub count_in-one : (u v : ℤ) (set : Pixels) → count_in u v 1 1 set ≡ one_if (set u v)

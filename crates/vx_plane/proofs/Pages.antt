@@ -145,10 +145,6 @@ rectangle-outside left top width height u v h = grind (arith, ints)
 pub rectangle-row_more : (left top : ℤ) (width height : ℕ) (u v : ℤ) → rectangle left top width (height + 1) u v ≡ rectangle left top width height u v || rectangle left (top +ℤ pos height) width 1 u v
 rectangle-row_more left top width height u v = grind (arith, ints)
 
--- one column more is the rectangle and its new column
-pub rectangle-column_more : (left top : ℤ) (width height : ℕ) (u v : ℤ) → rectangle left top (width + 1) height u v ≡ rectangle left top width height u v || rectangle (left +ℤ pos width) top 1 height u v
-rectangle-column_more left top width height u v = grind (arith, ints)
-
 -- a rectangle of one place
 pub rectangle-one : (x y u v : ℤ) → rectangle x y 1 1 u v ≡ int_eq u x && int_eq v y
 rectangle-one x y u v = grind (arith, ints)
@@ -161,9 +157,6 @@ put false false = refl
 
 no_rows : (left top : ℤ) (width : ℕ) (u v : ℤ) → rectangle left top width 0 u v ≡ false
 no_rows left top width u v = grind (arith, ints)
-
-no_columns : (left top : ℤ) (height : ℕ) (u v : ℤ) → rectangle left top 0 height u v ≡ false
-no_columns left top height u v = grind (arith, ints)
 
 -- a place of the plane inside the frame is dark where the set says so
 pub dark_at-in_frame : (width height : ℕ) (set : Pixels) (u v : ℤ) → pos 0 ≤ℤ u → u <ℤ pos width → pos 0 ≤ℤ v → v <ℤ pos height → dark_at (page_of width height set) u v ≡ set u v
@@ -181,35 +174,15 @@ dark_at-out_of_frame width height set (pos u) (pos v) h =
 dark_at-out_of_frame width height set (pos u) (negsuc v) h = refl
 dark_at-out_of_frame width height set (negsuc u) v h = refl
 
--- one pixel made dark is a rectangle of one place, painted
-pub painted-one : (page : Page) (x y : ℕ) → page_of page.width page.height (with_pixel (dark_at page) (pos x) (pos y) true) ≡ painted page (rectangle (pos x) (pos y) 1 1)
-painted-one page x y =
-    page_of-same page.width page.height _ _ (λ u v l h.
-    put (int_eq (pos u) (pos x) && int_eq (pos v) (pos y)) (dark_at page (pos u) (pos v))
-    ∙ ap (λ (t : Bool). dark_at page (pos u) (pos v) || t) (sym (rectangle-one (pos x) (pos y) (pos u) (pos v))))
-
 -- painting one row more of a rectangle
 pub painted-row_more : (page : Page) (left top : ℤ) (width height : ℕ) → painted page (rectangle left top width (height + 1)) ≡ painted (painted page (rectangle left top width height)) (rectangle left (top +ℤ pos height) width 1)
 painted-row_more page left top width height =
     painted-same page _ (union (rectangle left top width height) (rectangle left (top +ℤ pos height) width 1)) (λ x y l h. rectangle-row_more left top width height (pos x) (pos y))
     ∙ painted-union page (rectangle left top width height) (rectangle left (top +ℤ pos height) width 1)
 
--- painting one column more of a rectangle
-pub painted-column_more : (page : Page) (left top : ℤ) (width height : ℕ) → painted page (rectangle left top (width + 1) height) ≡ painted (painted page (rectangle left top width height)) (rectangle (left +ℤ pos width) top 1 height)
-painted-column_more page left top width height =
-    painted-same page _ (union (rectangle left top width height) (rectangle (left +ℤ pos width) top 1 height)) (λ x y l h. rectangle-column_more left top width height (pos x) (pos y))
-    ∙ painted-union page (rectangle left top width height) (rectangle (left +ℤ pos width) top 1 height)
-
 -- a rectangle without rows or without columns paints nothing
 pub painted-no_rows : (page : Page) (left top : ℤ) (width : ℕ) → page ≡ page_of page.width page.height (dark_at page) → painted page (rectangle left top width 0) ≡ page
 painted-no_rows page left top width whole = painted-none page _ whole (λ x y l h. no_rows left top width (pos x) (pos y))
-
-pub painted-no_columns : (page : Page) (left top : ℤ) (height : ℕ) → page ≡ page_of page.width page.height (dark_at page) → painted page (rectangle left top 0 height) ≡ page
-painted-no_columns page left top height whole = painted-none page _ whole (λ x y l h. no_columns left top height (pos x) (pos y))
-
--- a painted page is made of its dark places
-pub painted-whole : (page : Page) (shape : Pixels) → painted page shape ≡ page_of page.width page.height (dark_at (painted page shape))
-painted-whole page shape = sym (page_of-dark_at page.width page.height (union (dark_at page) shape))
 
 at : (a b : ℕ) → int_eq (pos a) (pos b) ≡ true → a ≡ b
 at a b h = let e : pos a ≡ pos b = (Decides-int_eq (pos a) (pos b)).0 h in cc
@@ -228,10 +201,6 @@ with_pixel-here set x y dark =
 
 pub with_pixel-elsewhere : (set : Pixels) (x y u v : ℕ) (dark : Bool) → (u ≡ x → v ≡ y → ⊥) → with_pixel set (pos x) (pos y) dark (pos u) (pos v) ≡ set (pos u) (pos v)
 with_pixel-elsewhere set x y u v dark apart = elsewhere (int_eq (pos u) (pos x)) (int_eq (pos v) (pos y)) dark (set (pos u) (pos v)) (λ a b. apart (at u x a) (at v y b))
-
--- no element has no place
-pub any_of-none : {A : Type 0} (set : A → Pixels) (u v : ℤ) → any_of [] set u v ≡ false
-any_of-none set u v = refl
 
 -- the places of two lists, one after the other
 pub any_of-append : {A : Type 0} (xs ys : List A) (set : A → Pixels) (u v : ℤ) → any_of (xs ++ ys) set u v ≡ any_of xs set u v || any_of ys set u v

@@ -1,6 +1,6 @@
 -- Laws of sums over a run of whole numbers.
 use Rattle.std.proofs.Common.{◌≡◌, ℕ, zero, suc, ◌+◌, ◌*◌, ◌≤◌, ℤ, pos, ◌+ℤ◌, ◌≤ℤ◌, ◌<ℤ◌, refl, ap, sym, ◌∙◌, arith}
-use Rattle.std.proofs.lemmas.Int.{ints, by_lt_z}
+use Rattle.std.proofs.lemmas.Int.{ints}
 use Rattle.vx_plane.specs.Count.{sum_from}
 
 one_on : (low : ℤ) (n : ℕ) → (low +ℤ pos 1) +ℤ pos n ≡ low +ℤ pos (suc n)
@@ -63,11 +63,3 @@ sum_from-orders left top width zero f = sym (sum_from-same_number left width 0 �
 sum_from-orders left top width (suc height) f =
     let rest : sum_from (top +ℤ pos 1) height (λ v. sum_from left width (λ u. f u v)) ≡ sum_from left width (λ u. sum_from (top +ℤ pos 1) height (λ v. f u v)) = sum_from-orders left (top +ℤ pos 1) width height f in
     ap (λ k. sum_from left width (λ u. f u top) + k) rest ∙ sym (sum_from-add left width (λ u. f u top) (λ u. sum_from (top +ℤ pos 1) height (λ v. f u v)))
-
--- one summand is at most the sum
-pub sum_from-member : (low : ℤ) (n : ℕ) (f : ℤ → ℕ) (z : ℤ) → low ≤ℤ z → z <ℤ (low +ℤ pos n) → f z ≤ sum_from low n f
-sum_from-member low zero f z above below = absurd (omega (arith, ints))
-sum_from-member low (suc n) f z above below =
-    by_lt_z low z
-    (λ later. let rest : f z ≤ sum_from (low +ℤ pos 1) n f = sum_from-member (low +ℤ pos 1) n f z (omega (arith, ints)) (omega (arith, ints)) in omega arith)
-    (λ here. let at : z ≡ low = omega (arith, ints) in let same : f z ≡ f low = ap f at in omega arith)

@@ -1,5 +1,5 @@
 -- How a `ranked` goes from act to act.
-use Rattle.std.proofs.Common.{◌≡◌, ℕ, Bool, true, false, List, [], ◌∷◌, ◌++◌, Option, Some, None, Result, Ok, Err, inl, inr, refl, sym, ap, subst, ◌∙◌}
+use Rattle.std.proofs.Common.{◌≡◌, ℕ, true, List, [], ◌∷◌, ◌++◌, None, Result, Ok, Err, inl, inr, refl, sym, ap, subst, ◌∙◌}
 use Rattle.vx_election_model.specs.declared.election.Election.{Election}
 use Rattle.vx_events.specs.declared.event.Event.{Event}
 use Rattle.vx_layout.specs.declared.plan.CardPlan.{CardPlan}
@@ -14,15 +14,11 @@ use Rattle.vx_journal.specs.declared.journal.Journal.{Journal}
 use Rattle.vx_journal.specs.Keeping.{journal_in}
 use Rattle.vx_journal.specs.Laws.{ReadLaws}
 use Rattle.vx_journal.specs.Steps.{GivesReading, once_read as command_once_read}
-use Rattle.vx_ranked.specs.declared.fault.RankedFault.{RankedFault}
-use Rattle.vx_ranked.specs.declared.groups.Group.{Group}
-use Rattle.vx_ranked.specs.Reading.{groups_in_bytes}
-use Rattle.vx_ranked.specs.Texts.{ranked_text}
 use Rattle.vx_ranked.specs.declared.status.RankedStatus.{RankedStatus}
 use Rattle.vx_ranked.specs.declared.status.RankedStatus.TheVariants as status
 use Rattle.vx_ranked.specs.Done.{IsRankedDone, IsRankedWritten}
-use Rattle.vx_ranked.specs.Outcome.{RankedOutcome, as_command, goes_on, taking, once_grouped, once_read, writing, groups_outcome}
-use Rattle.vx_ranked.specs.Status.{answer_of, may_have_written, status_of}
+use Rattle.vx_ranked.specs.Outcome.{RankedOutcome, as_command, goes_on, taking, once_read, writing}
+use Rattle.vx_ranked.specs.Status.{answer_of, may_have_written}
 
 -- a `ranked` has come to the rest of its acts
 pub record Comes (whole rest : RankedOutcome) (a b : Taken) (h k : Held) : Type 0 where
@@ -109,10 +105,6 @@ module _ (laws : ReadLaws) (election : Election) (records : List (List ℕ)) (re
 pub written : (text : List ℕ) (a b : Taken) → IsWritten (command_writing text) a b (Ok tt) → IsRankedWritten (writing text) a b status.Ok
 written text a b done held = record { acts = done held; ends = λ e. refl }
 
-pub broken : (text : List ℕ) (a b : Taken) (cause : Halt) → IsWritten (command_writing text) a b (Err cause)
-    → IsRankedWritten (writing text) a b (status.Halted cause)
-broken text a b cause done held = halts (writing text) a b held held cause (done held)
-
 -- the only act of a writing
 only_act : (text : List ℕ) (done acts : List Act) (act : Act) → Write text ∷ [] ≡ done ++ act ∷ acts → act ≡ Write text
 only_act text [] acts act is = cc
@@ -154,33 +146,5 @@ late text a b cause written =
     ]
 
 module _ (election : Election) (plans : List CardPlan) (kept : List Event) (bytes : List ℕ) (a b : Taken) where
-  -- the groups of a file are known, or the file is refused
-  grouped : (groups : List Group) → groups_in_bytes election plans bytes ≡ Ok groups
-      → groups_outcome election plans kept bytes ≡ writing (ranked_text election kept groups)
-  grouped groups is = ap (λ (r : Result (List Group) RankedFault). once_grouped r (λ (some : List Group). writing (ranked_text election kept some))) is
-
-  pub groups_written : (groups : List Group) → groups_in_bytes election plans bytes ≡ Ok groups
-      → IsWritten (command_writing (ranked_text election kept groups)) a b (Ok tt) → IsRankedWritten (groups_outcome election plans kept bytes) a b status.Ok
-  groups_written groups is done =
-      subst (λ (o : RankedOutcome). IsRankedWritten o a b status.Ok) (sym (grouped groups is)) (written (ranked_text election kept groups) a b done)
-
-  pub groups_broken : (groups : List Group) (cause : Halt) → groups_in_bytes election plans bytes ≡ Ok groups
-      → IsWritten (command_writing (ranked_text election kept groups)) a b (Err cause)
-      → IsRankedWritten (groups_outcome election plans kept bytes) a b (status.Halted cause)
-  groups_broken groups cause is done =
-      subst (λ (o : RankedOutcome). IsRankedWritten o a b (status.Halted cause)) (sym (grouped groups is))
-      (broken (ranked_text election kept groups) a b cause done)
 
 module _ (laws : ActLaws) (election : Election) (plans : List CardPlan) (kept : List Event) (bytes : List ℕ) (a : Taken) where
-  pub file_refused : (fault : RankedFault) → groups_in_bytes election plans bytes ≡ Err fault
-      → IsRankedWritten (groups_outcome election plans kept bytes) a a (status.Ranked fault)
-  file_refused fault is held =
-      let refused : groups_outcome election plans kept bytes ≡ record { acts = []; ends = status.Ranked fault } =
-      ap (λ (r : Result (List Group) RankedFault). once_grouped r (λ (some : List Group). writing (ranked_text election kept some))) is in
-      subst (λ (o : RankedOutcome). IsRankedDone o a a held held (status.Ranked fault)) (sym refused)
-      (record { acts = laws.ended (Ok tt) a held; ends = λ e. refl })
-
-  pub no_memory : IsRankedWritten (groups_outcome election plans kept bytes) a a (status.Halted halt.NoMemory)
-  no_memory held =
-      halts (groups_outcome election plans kept bytes) a a held held halt.NoMemory
-      (laws.no_memory (as_command (groups_outcome election plans kept bytes)) a held)

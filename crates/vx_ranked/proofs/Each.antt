@@ -1,11 +1,9 @@
 -- A turn of a loop over the elements of a list that are read one after another.
-use Rattle.std.proofs.Common.{◌≡◌, ℕ, ◌+◌, ◌<◌, List, [], ◌∷◌, ◌++◌, length, map, drop, get_or, Result, Ok, Err, sym, ap, subst, ◌∙◌}
+use Rattle.std.proofs.Common.{◌≡◌, ℕ, ◌+◌, ◌<◌, List, ◌∷◌, length, map, drop, get_or, Result, sym, ap, ◌∙◌}
 use Rattle.std.proofs.lemmas.List.{at_drop_more}
 use Rattle.serde_json.specs.Data.{Data}
 use Rattle.vx_base.specs.Results.{◌>>=◌}
 use Rattle.vx_ranked.specs.declared.fault.RankedFault.{RankedFault}
-use Rattle.vx_base.specs.Refusals.{Unless, Gives}
-use Rattle.vx_ranked.specs.Faults.{is_no_memory}
 use Rattle.vx_ranked.specs.Reading.{with_next, each_of}
 
 module _ {A V : Type 0} (read : List A → Data → Result A RankedFault) (view : V → Data) (found : List A) (values : List V) (i : ℕ) (item : V)
@@ -17,20 +15,3 @@ module _ {A V : Type 0} (read : List A → Data → Result A RankedFault) (view 
       (sym is)
 
   module _ (total : Result (List A) RankedFault) (so_far : each_of read found (map view (drop i values)) ≡ total) where
-    -- the item is read, and what is left is read behind it
-    pub next-turn : (more : List A) → with_next read found (view item) ≡ Ok more → each_of read more (map view (drop (i + 1) values)) ≡ total
-    next-turn more gives =
-        sym (ap (λ (r : Result (List A) RankedFault). r >>= λ more. each_of read more (map view (drop (i + 1) values))) gives) ∙ sym rest ∙ so_far
-
-    pub each-turn : (one : A) → read found (view item) ≡ Ok one → each_of read (found ++ one ∷ []) (map view (drop (i + 1) values)) ≡ total
-    each-turn one gives = next-turn (found ++ one ∷ []) (ap (λ (r : Result A RankedFault). r >>= λ one. Ok (found ++ one ∷ [])) gives)
-
-    -- the item is refused, and so is all
-    pub next-refused : (fault : RankedFault) → with_next read found (view item) ≡ Err fault → total ≡ Err fault
-    next-refused fault gives =
-        sym so_far ∙ rest ∙ ap (λ (r : Result (List A) RankedFault). r >>= λ more. each_of read more (map view (drop (i + 1) values))) gives
-
--- an answer that hands a refusal on, where all is refused so
-pub hands-on : {A : Type 0} (result : Result A RankedFault) (fault : RankedFault) (total : Result A RankedFault) → result ≡ Err fault
-    → Unless (is_no_memory fault) (total ≡ Err fault) → Gives is_no_memory result total
-hands-on {A} result fault total is h = subst (λ (r : Result A RankedFault). Gives is_no_memory r total) (sym is) h

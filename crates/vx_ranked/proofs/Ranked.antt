@@ -1,5 +1,5 @@
 -- Ranks that are walked over.
-use Rattle.std.proofs.Common.{◌≡◌, ℕ, ◌+◌, ◌<◌, suc, arith, Bool, true, false, cond, not, List, [], ◌∷◌, ◌++◌, length, map, drop, take, get_or, Option, Some, None, refl, sym, ap, subst, ◌∙◌}
+use Rattle.std.proofs.Common.{◌≡◌, ℕ, ◌+◌, ◌<◌, suc, arith, Bool, true, false, cond, not, List, [], ◌∷◌, length, map, drop, take, get_or, Option, refl, sym, ap, subst, ◌∙◌}
 use Rattle.std.specs.Prelude.{fold}
 use Rattle.std.specs.List.{flat_map, before_first, prefix_len}
 use Rattle.std.proofs.lemmas.List.{at_drop_more}
@@ -37,9 +37,6 @@ module _ (finals : List Final) (contests : List ℕ) (ranking : List ℕ) (i con
   rest =
       ap (λ (one : ℕ). listed ranking (map (final_on finals) (one ∷ drop (i + 1) contests))) is
       ∙ sym (at_drop_more (λ (left : List ℕ). listed ranking (map (final_on finals) left)) contests i contest lt) ∙ so_far
-
-  pub turn-ends : ends_list (final_on finals contest) ≡ true → ranking ≡ total
-  turn-ends ends = sym (list-ends ranking (final_on finals contest) (map (final_on finals) (drop (i + 1) contests)) ends) ∙ rest
 
   pub turn-goes : ends_list (final_on finals contest) ≡ false → listed (fold joined ranking (named_by (final_on finals contest))) (map (final_on finals) (drop (i + 1) contests)) ≡ total
   turn-goes goes = sym (list-goes ranking (final_on finals contest) (map (final_on finals) (drop (i + 1) contests)) goes) ∙ rest

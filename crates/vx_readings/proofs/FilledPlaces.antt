@@ -15,14 +15,6 @@ pub record FilledTo (words rest : List (List ℕ)) (places : List Point) (k : �
   pub all : all_as place_in words ≡ option_map (λ (more : List Point). take k places ++ more) (all_as place_in rest)
   pub count : length words ≡ k + length rest
 
-mapped-same : (spelled : Option (List Point)) → spelled ≡ option_map (λ (more : List Point). more) spelled
-mapped-same None = refl
-mapped-same (Some more) = refl
-
--- none is filled in yet
-pub filled-none : (words : List (List ℕ)) (places : List Point) → FilledTo words words places 0
-filled-none words places = record { all = mapped-same (all_as place_in words); count = omega arith }
-
 -- the border of some places
 abbrev bordered : Paper → List Point → MarkPlaces
 bordered paper places = record { paper = paper; places = places }

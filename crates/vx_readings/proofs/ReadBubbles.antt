@@ -51,17 +51,6 @@ pub record BubblesTo (first : LinesLeft) (said : SaidBubbles) (left : LinesLeft)
       bubbles_in 0 first.number first.lines ≡ then_others said (bubbles_in (left.number - first.number) left.number left.lines)
   pub low : first.number ≤ left.number
 
-same-others : (others : Result (SaidBubbles × LinesLeft) ReadingsFault) → others ≡ then_others no_bubbles others
-same-others (Err fault) = refl
-same-others (Ok more) = refl
-
--- none was read yet
-pub bubbles-none : (first : LinesLeft) → BubblesTo first no_bubbles first
-bubbles-none first = record {
-  comes =
-      ap (λ (n : ℕ). bubbles_in n first.number first.lines) (let none : 0 ≡ first.number - first.number = omega arith in none)
-      ∙ same-others (bubbles_in (first.number - first.number) first.number first.lines);
-  low = omega arith;
 }
 
 next-fault : (bubble number : ℕ) (lines : List (List ℕ)) (fault : ReadingsFault) → next_line (bubble_or_end bubble) number lines ≡ Err fault

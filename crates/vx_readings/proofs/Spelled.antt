@@ -1,6 +1,6 @@
 -- Numbers that words spell.
 use Rattle.std.proofs.Common.{◌≡◌, ◌<◌, ◌≤◌, ◌≢◌, ◌^◌, ℕ, zero, suc, Bool, true, false, List, [], ◌∷◌, length, drop, get_or, cond, arith, refl, sym, ap, ◌∙◌}
-use Rattle.std.specs.Prelude.{Option, Some, None, MatchOption}
+use Rattle.std.specs.Prelude.{Option, Some, None}
 use Rattle.std.specs.Fmt.{decimal}
 use Rattle.std.specs.Str.{bytes_eq}
 use Rattle.std.proofs.lemmas.Fmt.{decimal_injective}
@@ -43,10 +43,6 @@ number_in-decimal n small = number_below-found (2 ^ 32) n (decimal n) small (ome
 pub number_in-none : (word : List ℕ) → ((n : ℕ) → n < 2 ^ 32 → word ≢ decimal n) → number_in word ≡ None
 unfolding number_in
 number_in-none word never = number_below-none (2 ^ 32) word never
-
-pub number_in-read : (word : List ℕ) (result : Option ℕ) → MatchOption result ((n : ℕ) → n ≤ 4294967295 → word ≢ decimal n) (λ n. (n ≤ 4294967295) × (word ≡ decimal n)) → result ≡ number_in word
-number_in-read word None never = sym (number_in-none word (λ n small is. never n (omega arith) is))
-number_in-read word (Some n) spelled = sym (ap number_in spelled.1 ∙ number_in-decimal n (omega (arith, spelled.0)))
 
 -- a number with a sign
 pub signed_in-empty : (word : List ℕ) → length word ≡ 0 → signed_in word ≡ None

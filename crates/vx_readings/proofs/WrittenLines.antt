@@ -23,7 +23,7 @@ use Rattle.vx_code.specs.declared.code.PageCode.{PageCode}
 use Rattle.vx_readings.specs.Lines.{kind_in, state_in, turned_in, head_in, place_of_parts, place_in, all_as, border_by}
 use Rattle.vx_readings.specs.Numbers.{negative_of, positive_of, signed_in}
 use Rattle.vx_readings.specs.ReadingText.{place_word, state_word, turned_words}
-use Rattle.vx_readings.specs.Words.{◌>>=◌, number_first, named_number}
+use Rattle.vx_readings.specs.Words.{◌>>=◌, named_number}
 use Rattle.vx_readings.proofs.Spelled.{number_in-decimal, signed_in-plain}
 use Rattle.vx_readings.proofs.Lacking.{lacks, lacks-both, decimal-lacks, IsWord, AreWords, parts-first, parts-last}
 
@@ -32,9 +32,6 @@ pub named-read : (name : List ℕ) (n : ℕ) (words : List (List ℕ)) → n < 2
 unfolding named_number
 named-read name n words small =
     rw ((bytes_eq-Decides name name).1 refl) (ap (option_map (λ (value : ℕ). (value, words))) (number_in-decimal n small))
-
-pub number-read : (n : ℕ) (words : List (List ℕ)) → n < 2 ^ 32 → number_first (decimal n ∷ words) ≡ Some (n, words)
-number-read n words small = ap (option_map (λ (value : ℕ). (value, words))) (number_in-decimal n small)
 
 -- kinds, states, turned pages
 pub kind-read : (kind : Kind) (test : Bool) → kind_in (kind_word kind test) ≡ Some (kind, test)

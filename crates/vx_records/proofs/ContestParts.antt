@@ -1,32 +1,31 @@
 -- The contests of a sheet as a part of a text, in the bytes that a record has left.
-use Rattle.std.proofs.Common.{◌≡◌, ℕ, zero, suc, ◌+◌, ◌-◌, ◌≤◌, ◌<◌, ◌^◌, ◌/◌, ◌%◌, Bool, true, false, cond, List, [], ◌∷◌, ◌++◌, length, map, refl, ap, sym, subst, ◌∙◌, inl, inr, arith, min, length-append, append-nil, append_assoc}
-use Rattle.std.specs.Prelude.{Result, Ok, Err, ◌⊎◌, ◌&&◌, ◌||◌, ◌==◌, not, nat_le, nat_lt}
-use Rattle.std.specs.List.{list_all, flat_map}
+use Rattle.std.proofs.Common.{◌≡◌, ℕ, zero, suc, ◌+◌, ◌-◌, ◌≤◌, ◌<◌, ◌^◌, ◌/◌, ◌%◌, Bool, true, false, cond, List, [], ◌∷◌, ◌++◌, length, map, refl, ap, sym, subst, ◌∙◌, inl, inr, arith, min, length-append, append_assoc}
+use Rattle.std.specs.Prelude.{◌⊎◌, ◌&&◌, ◌||◌, ◌==◌, nat_le, nat_lt}
+use Rattle.std.specs.List.{list_all}
 use Rattle.std.specs.Fmt.{decimal}
-use Rattle.std.proofs.lemmas.Fmt.{decimal_digit, decimal_step, decimal_nonempty, length-decimal-le}
-use Rattle.std.proofs.lemmas.Bool.{cases_lt, cond_both, eqb-true, eqb-false, leb-true, le-leb, lt-leb, lt-ltb, ltb-true, eq-eqb, ne_eqb}
-use Rattle.vx_base.specs.Results.{◌>>=◌}
+use Rattle.std.proofs.lemmas.Fmt.{decimal_step, decimal_nonempty, length-decimal-le}
+use Rattle.std.proofs.lemmas.Bool.{cases_lt, cond_both, eqb-true, leb-true, le-leb, lt-ltb, ltb-true, ne_eqb}
 use Rattle.vx_base.proofs.Booleans.{and-left, and-right, and-both, or-cases}
 use Rattle.vx_json.specs.Reading.{is_within}
 use Rattle.vx_grid.specs.declared.state.State.{State}
 use Rattle.vx_grid.specs.declared.state.State.TheVariants.{Marked, Marginal, Clear}
 use Rattle.vx_rules.specs.declared.marks.ContestMarks.{ContestMarks}
-use Rattle.vx_events.specs.Ascending.{ascends_from, is_ascending}
+use Rattle.vx_events.specs.Ascending.{ascends_from}
 use Rattle.vx_events.specs.Fits.{contests_of}
 use Rattle.vx_records.specs.declared.numbers.Numbers.TheVariants.{Between}
 use Rattle.vx_records.specs.declared.sheets.Room.{Room}
 use Rattle.vx_records.specs.Records.{marks_word, spaced, state_letter}
 use Rattle.vx_records.specs.Held.{is_marked}
 use Rattle.vx_records.specs.Letters.{is_state_letter}
-use Rattle.vx_records.specs.Parts.{Found, Read, found, stop, done, word_in, followed_by, letters_in, each_in}
+use Rattle.vx_records.specs.Parts.{Read, stop, done, word_in, followed_by, each_in}
 use Rattle.vx_records.specs.Numbers.{number_in}
 use Rattle.vx_records.specs.Reading.{state_of, states_in, most_contest, contest_in, next_room}
-use Rattle.vx_records.proofs.Grammar.{Part, Both, Some_text, StopsAt, StopsAt-any, StopsAt-none, any, none, then_in, then_part}
+use Rattle.vx_records.proofs.Grammar.{Part, Both, Some_text, StopsAt-any, any, none, then_in, then_part}
 use Rattle.vx_records.proofs.Steps.{Spelled, Mapped, map_in, map_part, same_texts, followed_part, Guarded, guarded_part}
-use Rattle.vx_records.proofs.Runs.{Word, word_part, AreLetters, Letters, letters_part, no_letter}
+use Rattle.vx_records.proofs.Runs.{Word, word_part, Letters, letters_part, no_letter}
 use Rattle.vx_records.proofs.Range.{within, within_low, within_high}
 use Rattle.vx_records.proofs.NumberPart.{no_digit}
-use Rattle.vx_records.proofs.OptionParts.{Within, within_part}
+use Rattle.vx_records.proofs.OptionParts.{within_part}
 use Rattle.vx_records.proofs.Items.{Items, no_more, one_more, Head, items_part}
 
 -- letters and states
@@ -39,9 +38,6 @@ letter_is : (s : State) → is_state_letter (state_letter s) ≡ true
 letter_is Marked = refl
 letter_is Marginal = refl
 letter_is Clear = refl
-
-state_g : (b : ℕ) → b ≡ 109 → state_letter (state_of b) ≡ b
-state_g b e = subst (λ (n : ℕ). state_letter (state_of n) ≡ n) (sym e) refl
 
 state_at : (b n : ℕ) → b ≡ n → state_letter (state_of n) ≡ n → state_letter (state_of b) ≡ b
 state_at b n e h = subst (λ (k : ℕ). state_letter (state_of k) ≡ k) (sym e) h
@@ -368,6 +364,3 @@ pub contests_part : (room : ℕ) → Part (Spelled (Listed (record { least = 0; 
 contests_part room = same_texts (contests_of_items 500 (record { least = 0; room = room }))
     (λ list u h. items_to 500 (record { least = 0; room = room }) list u h)
     (λ list u h. subst (Items Contest next_room 500 (record { least = 0; room = room }) list) (sym h.text) (items_back 500 (record { least = 0; room = room }) list (omega arith) h.is))
-
-pub marks_stop : (room : ℕ) (list : List ContestMarks) → Listed (record { least = 0; room = room }) list → length (marks_text list) ≤ room
-marks_stop room list h = h.short

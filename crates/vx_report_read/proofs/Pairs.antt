@@ -63,11 +63,6 @@ module _ {X Y : Type 0} (R : Y → Y → Type 0) (f : X → Y) where
 abbrev AreOthers : ExportSheet → ExportSheet → Type 0
 AreOthers one other = bytes_eq (sheet_name one.key) (sheet_name other.key) ≡ false
 
-all-turned : (row : ExportSheet) (rows : List ExportSheet) → AllByRecursion (AreOthers row) rows
-    → AllByRecursion (λ (other : ExportSheet). AreOthers other row) rows
-all-turned row rows all = each-weaker (AreOthers row) (λ (other : ExportSheet). AreOthers other row) rows
-    (λ other is. turned (sheet_name row.key) (sheet_name other.key) is) all
-
 pairs-placed : (row : ExportSheet) (rows : List ExportSheet) → AllByRecursion (AreOthers row) rows → Pairs AreOthers rows → Pairs AreOthers (placed row rows)
 pairs-placed row [] all pairs = (tt, tt)
 pairs-placed row (other ∷ others) all pairs = by (key_order other.key row.key) (pairs-placed row others all.1 pairs.1)

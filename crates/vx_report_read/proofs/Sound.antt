@@ -82,10 +82,6 @@ module _ (P : List ℕ → Type 0) where
     MembersAreSound no_members n = ⊤
     MembersAreSound (member k d ms) n = IsSound d n × MembersAreSound ms n
 
-  pub AreSound-map : {X : Type 0} (make : X → Data) (n : ℕ) (xs : List X) → ((x : X) → IsSound (make x) n) → AreSound (items_of (map make xs)) n
-  AreSound-map make n [] each = tt
-  AreSound-map make n (x ∷ xs) each = (each x, AreSound-map make n xs each)
-
   pub AreSound-map_all : {X : Type 0} (Q : X → Type 0) (make : X → Data) (n : ℕ) (xs : List X) → AllByRecursion Q xs → ((x : X) → Q x → IsSound (make x) n)
       → AreSound (items_of (map make xs)) n
   AreSound-map_all Q make n [] all each = tt

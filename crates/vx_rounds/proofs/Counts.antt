@@ -24,15 +24,6 @@ count_by-map {X = X} {Y = Y} p f (x ∷ xs) =
     ∙ ap (λ n. cond (p (f x)) 1 0 + n) (count_by-map p f xs)
     ∙ sym (sum_by-cons (λ (z : X). cond (p (f z)) 1 0) x xs)
 
--- counts by tests that say the same
-pub count_by-same : {X : Type 0} (p q : X → Bool) → ((x : X) → p x ≡ q x) → (xs : List X) → count_by p xs ≡ count_by q xs
-count_by-same p q each [] = refl
-count_by-same {X = X} p q each (x ∷ xs) =
-    sum_by-cons (λ (y : X). cond (p y) 1 0) x xs
-    ∙ ap (λ (b : Bool). cond b 1 0 + count_by p xs) (each x)
-    ∙ ap (λ n. cond (q x) 1 0 + n) (count_by-same p q each xs)
-    ∙ sym (sum_by-cons (λ (y : X). cond (q y) 1 0) x xs)
-
 -- what all pass is counted whole
 pub count_by-all : {X : Type 0} (xs : List X) → count_by (λ (x : X). true) xs ≡ length xs
 count_by-all [] = refl

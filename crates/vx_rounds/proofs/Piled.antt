@@ -125,13 +125,6 @@ laid-then rankings stands a b c xs ys h k = record {
   exhausted = omega (arith, h.exhausted, k.exhausted, sum_by-append (λ (ranking : List ℕ). cond (is_exhausted stands ranking) 1 0) xs ys);
 }
 
--- no ballot came
-pub laid-none : (rankings : List (List ℕ)) (stands : ℕ → Bool) (a : Piles) → Laid rankings stands a a []
-laid-none rankings stands a = record {
-  standing = refl;
-  counted = λ c h test. omega arith;
-  placed = λ c h each. each;
-  exhausted = omega arith;
 }
 
 -- what is laid while the same candidates stand

@@ -1,14 +1,13 @@
 -- The first round's piles: all candidates stand.
 use Rattle.std.proofs.Common.{◌≡◌, ◌^◌, ◌<◌, ℕ, zero, suc, Bool, true, false, List, [], length, get_or, replicate, refl, ap, sym, ◌∙◌, subst, arith}
-use Rattle.std.specs.Prelude.{◌&&◌, All, count_by, sum_by, nat_lt, slice_index_or}
+use Rattle.std.specs.Prelude.{◌&&◌, All, count_by, nat_lt, slice_index_or}
 use Rattle.std.proofs.lemmas.Bool.Decides.{nat_tests}
 use Rattle.std.proofs.lemmas.List.Elements.{All-nil}
-use Rattle.std.proofs.lemmas.List.Folds.{sum_by-replicate}
 use Rattle.vx_base.proofs.Numbers.{below-yes, below-no}
 use Rattle.vx_rounds.specs.declared.piles.PiledBallot.{PiledBallot}
 use Rattle.vx_rounds.specs.declared.piles.Piles.{Piles}
 use Rattle.vx_rounds.specs.Rounds.{is_for, is_exhausted}
-use Rattle.vx_rounds.specs.Piles.{pile_at, stands_in, count_on, left_on, left_in, LiesFor, HasPiles, Laid, ArePiled}
+use Rattle.vx_rounds.specs.Piles.{pile_at, stands_in, count_on, LiesFor, HasPiles, Laid, ArePiled}
 use Rattle.vx_rounds.proofs.Piled.{same-stands}
 
 empty_pile : (n c : ℕ) → ◌≡◌ {A = List PiledBallot} (get_or (replicate n []) c []) []
@@ -26,13 +25,6 @@ pub all-stand : (n : ℕ) (piles : Piles) → piles.standing.items ≡ replicate
 all-stand n piles e =
     let at : (λ (c : ℕ). slice_index_or (replicate n true) c false) ≡ (λ (c : ℕ). nat_lt c n) = λ i c. standing_at n c i in
     ap {B = ℕ → Bool} (λ (bits : List Bool) (c : ℕ). slice_index_or bits c false) e ∙ at
-
--- no one can be asked yet
-pub none-left : (n : ℕ) (rankings : List (List ℕ)) (piles : Piles) → piles.piles.items ≡ replicate n [] → left_in rankings piles ≡ 0
-none-left n rankings piles e =
-    let h = sum_by-replicate (left_on rankings) n [] in
-    let k = ap (λ (ps : List (List PiledBallot)). sum_by (left_on rankings) ps) e in
-    k ∙ h ∙ omega arith
 
 length_all : (n : ℕ) → length (replicate n true) ≡ n
 length_all zero = refl

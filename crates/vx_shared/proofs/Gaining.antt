@@ -1,6 +1,6 @@
 -- What a call adds to what a pass has gained.
 use Rattle.std.proofs.Common.{◌≡◌, ℕ, zero, suc, ◌+◌, ◌-◌, ◌<◌, ◌≤◌, Bool, true, false, List, [], ◌∷◌, ◌++◌, length, take, drop, get_or, refl, ap, sym, ◌∙◌, subst, arith, append_assoc, length-append}
-use Rattle.std.proofs.lemmas.List.{append-nil, take_more, take-append-drop}
+use Rattle.std.proofs.lemmas.List.{take_more, take-append-drop}
 use Rattle.std.specs.Prelude.{Result, Ok, Err, OnOk, OnErr, is_err}
 use Rattle.std.specs.declared.alloc.AllocError.{AllocError}
 use mathlib.Core.List.{IsPrefix}
@@ -86,10 +86,6 @@ made_more old now then events event place reply made some called =
 pub call_makes : (before now : Known) (event : Event) (place : ℕ) (reply : Reply) → 0 < before.calls → HasCalled before event place reply now
     → MakesAlso before (event ∷ []) now
 call_makes before now event place reply some called = record { behind = λ old front made. made_more old before now front event place reply made some called }
-
--- no events were made
-pub also_none : (old : Known) → MakesAlso old [] old
-also_none old = record { behind = λ older front made. subst (λ (l : List Event). HasMade older l old) (sym (append-nil front)) made }
 
 -- events, and then others
 pub also_then : (old now then : Known) (xs ys : List Event) → MakesAlso old xs now → MakesAlso now ys then → MakesAlso old (xs ++ ys) then

@@ -44,11 +44,6 @@ take_all : {A : Type 0} (xs ys : List A) → take (length xs) (xs ++ ys) ≡ xs
 take_all [] ys = refl
 take_all (z ∷ zs) ys = ap (λ (l : List _). z ∷ l) (take_all zs ys)
 
-at_longer : {A : Type 0} (xs ys : List A) (y : A) (place : ℕ) → slice_get xs place ≡ Some y → slice_get (xs ++ ys) place ≡ Some y
-at_longer [] ys y place e = absurd (cc e)
-at_longer (z ∷ zs) ys y zero e = e
-at_longer (z ∷ zs) ys y (suc place) e = at_longer zs ys y place e
-
 -- a history with one more call
 pub legal_more : (start : Kept) (history : List Entry) (event : Event) (reply : Reply) → IsLegal start history
     → reply ≡ reply_of start.election (start.events ++ done_events history) event → IsLegal start (history ++ entry event reply ∷ [])
@@ -66,12 +61,6 @@ legal_more start history event reply legal is = record {
       (sym (take_before history (entry event reply ∷ []) call place there)) (legal.replies place call there)));
 }
 
--- the beginning of a history is legal
-pub legal_front : (start : Kept) (xs ys : List Entry) → IsLegal start (xs ++ ys) → IsLegal start xs
-legal_front start xs ys legal = record {
-  replies = (λ place call at.
-      subst (λ (l : List Entry). call.reply ≡ reply_of start.election (start.events ++ done_events l) call.event)
-      (take_before xs ys call place at) (legal.replies place call (at_longer xs ys call place at)));
 }
 
 -- what the turn protects, after a call

@@ -10,9 +10,6 @@ module _ {A : Type 0} where
   pub prefix_more : (xs ys zs : List A) → IsPrefix xs ys → IsPrefix xs (ys ++ zs)
   prefix_more xs ys zs pre = (pre.0 ++ zs, sym (append_assoc xs pre.0 zs) ∙ ap (λ (l : List A). l ++ zs) pre.1)
 
-  pub prefix_end : (xs zs : List A) → IsPrefix xs (xs ++ zs)
-  prefix_end xs zs = (zs, refl)
-
   pub prefix_then : (xs ys zs : List A) → IsPrefix xs ys → IsPrefix ys zs → IsPrefix xs zs
   prefix_then xs ys zs one two =
       (one.0 ++ two.0, sym (append_assoc xs one.0 two.0) ∙ (ap (λ (l : List A). l ++ two.0) one.1 ∙ two.1))

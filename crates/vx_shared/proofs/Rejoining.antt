@@ -173,18 +173,6 @@ one_ends old now events text (Err e) made is front = record {
   };
 }
 
--- where a half has ended, its pass belongs where it did
-gained_of : (old now : Known) (lists : Lists) → HasRun old lists now → now.of ≡ old.of
-gained_of old now lists run = run.gained.of
-
-pub ended_of : (old now : Known) (lists : Lists) (text : List ℕ) (answer : Result (List ℕ) AllocError) → HasEnded old lists text now answer → now.of ≡ old.of
-ended_of old now lists text answer ended = let fronts = ended_fronts old now lists text answer ended in gained_of old now fronts.fronts fronts.run
-
--- what was answered of all items
-pub ran : (old now : Known) (lists : Lists) (text : List ℕ) (answer : Result (List ℕ) AllocError) → HasEnded old lists text now answer → IfOk answer (λ (told : List ℕ). HasRun old lists now)
-ran old now lists text (Ok told) ended = ended.run.0
-ran old now lists text (Err e) ended = tt
-
 pub told : (old now : Known) (lists : Lists) (text : List ℕ) (answer : Result (List ℕ) AllocError) → HasEnded old lists text now answer → IfOk answer (λ (said : List ℕ). said ≡ text)
 told old now lists text (Ok said) ended = ended.run.1
 told old now lists text (Err e) ended = tt

@@ -1,7 +1,7 @@
 -- Each step at the table keeps the rule.
 use Rattle.std.proofs.Common.{◌≡◌, ◌≢◌, ℕ, ◌+◌, ◌<◌, ◌≤◌, List, [], ◌∷◌, length, set, sym, ap, ◌∙◌, subst, ⊎_elim, arith, Option}
 use mathlib.Core.Logic.{dite}
-use mathlib.Core.Option.{none, some, some-ne-none, some-injective}
+use mathlib.Core.Option.{none, some}
 use mathlib.Core.Option as maybe
 use native.Mathlib.Decide.{ℕ_discrete}
 use lib.ListN.{get_elem?}
@@ -14,7 +14,7 @@ use Rattle.vx_shared.specs.declared.seats.Role.{Role}
 use Rattle.vx_shared.specs.declared.seats.Role.TheVariants.{Idle, Waiting, Turn, Committed, Joined}
 use Rattle.vx_shared.specs.Legal.{Stored}
 use Rattle.vx_shared.specs.Marks.{is_marked}
-use Rattle.vx_shared.specs.Seats.{wrapped, stands, fronts, joined_marks, stands_in, fronts_in, shares_of, calls_of, made_at, total, slot}
+use Rattle.vx_shared.specs.Seats.{wrapped, stands, joined_marks, stands_in, fronts_in, shares_of, calls_of, made_at, total, slot}
 use Rattle.vx_shared.specs.Rule.{StandsAt, Agrees, Ruled}
 use Rattle.vx_shared.specs.Plays.{posed}
 use Rattle.vx_shared.proofs.Totals.{total_set, total_le}
@@ -62,13 +62,6 @@ stands_one (Waiting n) = omega arith
 stands_one (Turn n base) = omega arith
 stands_one (Committed n) = omega arith
 stands_one (Joined theirs own from) = omega arith
-
-pub fronts_stand : (role : Role) → fronts role ≤ stands role
-fronts_stand Idle = omega arith
-fronts_stand (Waiting n) = omega arith
-fronts_stand (Turn n base) = omega arith
-fronts_stand (Committed n) = omega arith
-fronts_stand (Joined theirs own from) = omega arith
 
 pub stand_shares : (origin : Origin) (log : List Entry) (serving ticket : ℕ) (v : View) → Agrees origin log serving ticket v → stands v.role ≤ v.shares
 stand_shares origin log serving ticket v a = dite (ℕ_discrete v.shares 0)

@@ -51,8 +51,3 @@ total_only f (x ∷ xs) zero v at none =
 total_only f (x ∷ xs) (suc i) v at none =
     let z : f x ≡ 0 = none 0 x (λ h. omega arith) refl in
     let e = total_only f xs i v at (λ j w ne bt. none (suc j) w (λ h. ne (omega arith)) bt) in omega arith
-
--- a sum of sums
-pub total_both : (f g h : View → ℕ) (l : List View) → ((v : View) → h v ≡ f v + g v) → total h l ≡ total f l + total g l
-total_both f g h [] each = refl
-total_both f g h (x ∷ xs) each = let a = each x in let b = total_both f g h xs each in omega arith

@@ -1,6 +1,5 @@
 -- How a scan shows the columns of the paper in its margins.
-use Rattle.std.proofs.Common.{◌≡◌, ◌≢◌, ℕ, ◌+◌, ◌-◌, ◌*◌, ◌/◌, ◌%◌, ◌^◌, ◌<◌, ◌≤◌, ◌==◌, max, Bool, true, false, List, [], ◌∷◌, ◌++◌, length, get_or, ℤ, pos, nat_abs, ◌+ℤ◌, ◌-ℤ◌, ◌*ℤ◌, ◌≤ℤ◌, ◌<ℤ◌, refl, ap, sym, ◌∙◌, inl, inr, arith, add-one, pow-suc, length-append}
-use Rattle.std.proofs.lemmas.List.{get_or_append_left, get_or_at}
+use Rattle.std.proofs.Common.{◌≡◌, ◌≢◌, ℕ, ◌+◌, ◌-◌, ◌*◌, ◌%◌, ◌^◌, ◌<◌, ◌≤◌, ◌==◌, max, Bool, true, false, List, length, ℤ, pos, nat_abs, ◌+ℤ◌, ◌-ℤ◌, ◌*ℤ◌, ◌≤ℤ◌, ◌<ℤ◌, refl, ap, sym, ◌∙◌, inl, inr, arith, add-one, pow-suc}
 use Rattle.std.specs.Int.{bit_at, from_bool}
 use Rattle.std.proofs.lemmas.Int.{ints}
 use Rattle.std.proofs.lemmas.Bool.{cases_lt, cases_eq}
@@ -53,10 +52,6 @@ short-shown shear x short few =
 pub short-slight : (shear : Shear) → IsShort shear → IsSlant (slant_of shear)
 short-slight shear short = record { a = short.a; b = short.b; p = omega arith; q = omega arith }
 
--- within a few is within many
-pub widened : (m n : ℕ) (z : ℤ) → m ≤ n → IsWithin m z → IsWithin n z
-widened m n z less h = record { low = omega (arith, ints, h.low); high = omega (arith, ints, h.high) }
-
 -- columns of eight show rows that are at most one apart
 pub shown-near : (shear : Shear) (k i j : ℕ) → IsShort shear → i < 8 → j < 8
     → IsWithin 1 (shown (slant_of shear) (8 * k + i) -ℤ shown (slant_of shear) (8 * k + j))
@@ -73,20 +68,6 @@ pub record IsGreatestOf (s : Slant) (k n greatest : ℕ) : Type 0 where
   pub one : (i : ℕ) × (i < 8) × (pos greatest ≡ shown s (8 * k + i))
   pub above : 0 < greatest
   pub below : greatest < 272
-
-pub first-greatest : (s : Slant) (k row : ℕ) → pos row ≡ shown s (8 * k) → 0 < row → row < 272 → IsGreatestOf s k 1 row
-first-greatest s k row is above below =
-    let at : 8 * k + 0 ≡ 8 * k = omega arith in
-    let here : pos row ≡ shown s (8 * k + 0) = is ∙ ap (shown s) (sym at) in
-    record {
-      most = λ i other few there.
-          let first : 8 * k + i ≡ 8 * k = omega arith in
-          let same : pos other ≡ pos row = there ∙ ap (shown s) first ∙ sym is in
-          omega (arith, ints, same);
-      one = (0, omega arith, here);
-      above = above;
-      below = below;
-    }
 
 pub more-greatest : (s : Slant) (k n greatest row : ℕ) → n < 8 → IsGreatestOf s k n greatest → pos row ≡ shown s (8 * k + n) → 0 < row → row < 272
     → IsGreatestOf s k (n + 1) (max greatest row)
@@ -110,9 +91,6 @@ more-greatest s k n greatest row few is there above below = record {
 pub record HaveBits (s : Slant) (k row n bits : ℕ) : Type 0 where
   pub few : bits < 2 ^ n
   pub each : (i there : ℕ) → i < n → pos there ≡ shown s (8 * k + i) → bit_at bits (n - 1 - i) ≡ one_if (there == row)
-
-pub no-bits : (s : Slant) (k row : ℕ) → HaveBits s k row 0 0
-no-bits s k row = record { few = omega arith; each = λ i there h at. absurd (omega arith) }
 
 one-bit : (b : Bool) → one_if b < 2
 one-bit true = omega arith
@@ -192,33 +170,9 @@ pub record AreFirstStrips (s : Slant) (strips : List Strip) (k : ℕ) : Type 0 w
   pub all : length strips ≡ k
   pub rows : (x : ℕ) → x < 8 * k → (pos (row_in strips x) ≡ shown s x) × (row_in strips x < 272)
 
-pub no-strips : (s : Slant) → AreFirstStrips s [] 0
-no-strips s = record { all = refl; rows = λ x h. absurd (omega arith) }
-
 abbrev no_strip : Strip
 no_strip = record { row = 0; bits = 0 }
 
-pub more-strips : (s : Slant) (strips : List Strip) (k : ℕ) (strip : Strip) → AreFirstStrips s strips k
-    → ((i : ℕ) → i < 8 → (pos (row_of strip i) ≡ shown s (8 * k + i)) × (row_of strip i < 272))
-    → AreFirstStrips s (strips ++ strip ∷ []) (k + 1)
-more-strips s strips k strip are one = record {
-  all = omega (arith, are.all, length-append strips (strip ∷ []));
-  rows = λ x h. elim (cases_lt (x / 8) k) [
-    | inl before ↦
-        let same : get_or (strips ++ strip ∷ []) (x / 8) no_strip ≡ get_or strips (x / 8) no_strip =
-        get_or_append_left strips (strip ∷ []) no_strip (x / 8) (omega (arith, before, are.all)) in
-        let there = are.rows x (omega arith) in
-        let moved : row_in (strips ++ strip ∷ []) x ≡ row_in strips x = ap (λ (t : Strip). row_of t (x % 8)) same in
-        (ap pos moved ∙ there.0, omega (arith, moved, there.1))
-    | inr last ↦
-        let at : x / 8 ≡ k = omega arith in
-        let same : get_or (strips ++ strip ∷ []) (x / 8) no_strip ≡ strip =
-        ap (λ n. get_or (strips ++ strip ∷ []) n no_strip) at ∙ get_or_at strips strip [] no_strip k are.all in
-        let there = one (x % 8) (omega arith) in
-        let place : 8 * k + x % 8 ≡ x = omega arith in
-        let moved : row_in (strips ++ strip ∷ []) x ≡ row_of strip (x % 8) = ap (λ (t : Strip). row_of t (x % 8)) same in
-        (ap pos moved ∙ there.0 ∙ ap (shown s) place, omega (arith, moved, there.1))
-  ];
 }
 
 -- the row that is shown in a column, by what the code knows

@@ -6,8 +6,8 @@ use Rattle.std.proofs.lemmas.Bool.{and_parts}
 use Rattle.std.proofs.lemmas.Bool.Decides.{Decides-int_eq}
 use Rattle.std.proofs.lemmas.List.Folds.{list_any_more}
 use Rattle.vx_base.proofs.Booleans.{is-false, and-both, same-bool}
-use Rattle.vx_plane.specs.Plane.{Pixels, Page, page_of, dark_at, nowhere, union, painted, in_any, rectangle, with_pixel}
-use Rattle.vx_plane.proofs.Pages.{page_of-same, dark_at-inside, painted-union, painted-none, painted-same, painted-one, in_any-more, rectangle-one, rectangle-inside}
+use Rattle.vx_plane.specs.Plane.{Pixels, Page, page_of, dark_at, nowhere, union, painted, in_any, rectangle}
+use Rattle.vx_plane.proofs.Pages.{page_of-same, dark_at-inside, painted-union, painted-none, painted-same, in_any-more, rectangle-inside}
 use Rattle.vx_grid.specs.declared.places.Point.{Point}
 use Rattle.vx_geom.specs.Slants.{Slant, scan_row, scan_column, paper_column, paper_row, to_scan_of}
 use Rattle.vx_geom.specs.Seen.{seen}
@@ -78,13 +78,6 @@ only-off page p whole off =
     not-off x y l h a b (inr (inl right)) = absurd (omega (arith, ints, a, l, right))
     not-off x y l h a b (inr (inr (inl above))) = absurd (omega (arith, ints, b, above))
     not-off x y l h a b (inr (inr (inr below))) = absurd (omega (arith, ints, b, h, below))
-
--- one that is on it
-pub only-on : (page after : Page) (p : Point) (x y : ℕ) → pos x ≡ p.u → pos y ≡ p.v → after ≡ page_of page.width page.height (with_pixel (dark_at page) (pos x) (pos y) true) → after ≡ painted page (only p)
-only-on page after p x y across down is =
-    is ∙ painted-one page x y
-    ∙ painted-same page (rectangle (pos x) (pos y) 1 1) (only p) (λ a b l h.
-    rectangle-one (pos x) (pos y) (pos a) (pos b) ∙ ap₂ (λ u v. int_eq (pos a) u && int_eq (pos b) v) across down)
 
 -- a place that isn't in a frame
 pub off-frame : (width height : ℕ) (u v : ℤ) → rectangle (pos 0) (pos 0) width height u v ≡ false

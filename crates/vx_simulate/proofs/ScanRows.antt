@@ -1,10 +1,9 @@
 -- How a row of a scan comes of the packed rows of its paper.
-use Rattle.std.proofs.Common.{◌≡◌, ℕ, zero, suc, ◌+◌, ◌-◌, ◌*◌, ◌/◌, ◌%◌, ◌<◌, ◌≤◌, ◌==◌, cond, nat_lt, Bool, true, false, List, take, drop, length, get_or, set, pos, nat_abs, ◌+ℤ◌, ◌-ℤ◌, ◌≤ℤ◌, refl, ap, ap₂, sym, ◌∙◌, inl, inr, arith, length-set, get_or-set_other, get_or-take, get_or-drop}
+use Rattle.std.proofs.Common.{◌≡◌, ℕ, ◌+◌, ◌-◌, ◌*◌, ◌/◌, ◌%◌, ◌<◌, ◌≤◌, ◌==◌, cond, nat_lt, Bool, true, false, List, take, drop, length, get_or, set, pos, nat_abs, ◌+ℤ◌, ◌-ℤ◌, ◌≤ℤ◌, ap, ap₂, sym, ◌∙◌, inl, inr, arith, length-set, get_or-set_other, get_or-take, get_or-drop}
 use Rattle.std.specs.Int.{bit_at}
 use Rattle.std.specs.Int.RustNames.{bit_xor}
 use Rattle.std.proofs.lemmas.Int.{ints}
 use Rattle.std.proofs.lemmas.Bool.{cases_lt, cases_eq}
-use Rattle.std.proofs.lemmas.Nat.Bits.{bit_at-lt}
 use Rattle.std.proofs.lemmas.List.{get_or_default}
 use Rattle.vx_plane.specs.Plane.{Pixels, Page, page_of, dark_at}
 use Rattle.vx_plane.proofs.Pages.{page_of-same, dark_at-inside}
@@ -15,7 +14,7 @@ use Rattle.vx_geom.specs.Seen.{seen}
 use Rattle.vx_margin.specs.Flips.{differ}
 use Rattle.vx_simulate.specs.Lie.{IsShort}
 use Rattle.vx_simulate.specs.declared.strips.Strip.{Strip}
-use Rattle.vx_simulate.specs.Rows.{row_of, row_in, AreStrips, ShowsRow}
+use Rattle.vx_simulate.specs.Rows.{row_in, AreStrips, ShowsRow}
 use Rattle.vx_simulate.proofs.Bytes.{changed-bit, written-here, written-elsewhere}
 use Rattle.vx_simulate.proofs.Columns.{short-right}
 
@@ -27,38 +26,6 @@ pub record IsSlanted (rows : List ℕ) (strips : List Strip) (v k : ℕ) (row : 
   pub size : length row ≡ 264
   pub pixels : (x : ℕ) → x < 8 * k → packed_pixel row 0 x ≡ packed_pixel rows ((v + row_in strips x) * 264) x
 
-pub slanted-none : (rows : List ℕ) (strips : List Strip) (v : ℕ) (row : List ℕ) → length row ≡ 264 → IsSlanted rows strips v 0 row
-slanted-none rows strips v row size = record { size = size; pixels = λ x h. absurd (omega arith) }
-
--- one of two bits by a third is the bit of a row or of the next
-picked : (rows : List ℕ) (bit at k j : ℕ) → bit < 2
-    → cond (bit == 1) (bit_at (get_or rows (at * 264 + k + 264) 0) j) (bit_at (get_or rows (at * 264 + k) 0) j) ≡ bit_at (get_or rows ((at + bit) * 264 + k) 0) j
-picked rows zero at k j h =
-    let place : at * 264 + k ≡ (at + 0) * 264 + k = omega arith in ap (λ i. bit_at (get_or rows i 0) j) place
-picked rows (suc zero) at k j h =
-    let place : at * 264 + k + 264 ≡ (at + 1) * 264 + k = omega arith in ap (λ i. bit_at (get_or rows i 0) j) place
-picked rows (suc (suc bit)) at k j h = absurd (omega arith)
-
-pub slanted-more : (rows row : List ℕ) (strips : List Strip) (v k byte : ℕ) (strip : Strip) → IsSlanted rows strips v k row → k < 264
-    → get_or strips k no_strip ≡ strip
-    → ((j : ℕ) → j < 8 → bit_at byte j ≡ cond (bit_at strip.bits j == 1)
-    (bit_at (get_or rows ((v + strip.row) * 264 + k + 264) 0) j) (bit_at (get_or rows ((v + strip.row) * 264 + k) 0) j))
-    → IsSlanted rows strips v (k + 1) (set row k byte)
-slanted-more rows row strips v k byte strip is within there bits = record {
-  size = length-set row k byte ∙ is.size;
-  pixels = λ x h. elim (cases_eq (x / 8) k) [
-    | inl here ↦
-        let j : ℕ = 7 - x % 8 in
-        let at_strip : row_in strips x ≡ strip.row + bit_at strip.bits j =
-        ap (λ i. row_of (get_or strips i no_strip) (x % 8)) here ∙ ap (λ (t : Strip). row_of t (x % 8)) there in
-        let place : (v + row_in strips x) * 264 + x / 8 ≡ (v + strip.row + bit_at strip.bits j) * 264 + k = omega (arith, at_strip, here) in
-        written-here row k x byte (omega (arith, is.size)) here
-        ∙ ap (λ (n : ℕ). n == 1) (
-        bits j (omega arith)
-        ∙ picked rows (bit_at strip.bits j) (v + strip.row) k j (bit_at-lt strip.bits j)
-        ∙ ap (λ i. bit_at (get_or rows i 0) j) (sym place))
-    | inr other ↦ written-elsewhere row k x byte other ∙ is.pixels x (omega (arith, other, h))
-  ];
 }
 
 -- the first k bytes of a row of a scan are changed where another row is dark, from a column on
@@ -66,9 +33,6 @@ pub record IsChanged (before row : List ℕ) (from k : ℕ) (now : List ℕ) : T
   pub size : length now ≡ 225
   pub done : (x : ℕ) → x < 8 * k → packed_pixel now 0 x ≡ differ (packed_pixel before 0 x) (packed_pixel row 0 (from + x))
   pub rest : (b : ℕ) → k ≤ b → get_or now b 0 ≡ get_or before b 0
-
-pub changed-none : (before row : List ℕ) (from : ℕ) → length before ≡ 225 → IsChanged before row from 0 before
-changed-none before row from size = record { size = size; done = λ x h. absurd (omega arith); rest = λ b h. refl }
 
 -- the bits of a row from a column on
 moved-bit : (row : List ℕ) (from k x : ℕ) → x / 8 ≡ k

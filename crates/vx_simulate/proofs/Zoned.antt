@@ -1,9 +1,9 @@
 -- The zones of the page code, one by one, and where they stand.
-use Rattle.std.proofs.Common.{◌≡◌, ℕ, ◌+◌, ◌/◌, ◌<◌, Bool, true, false, ◌||◌, ℤ, pos, ◌-ℤ◌, ap, ap₂, sym, ◌∙◌, arith}
+use Rattle.std.proofs.Common.{◌≡◌, ℕ, ◌+◌, ◌/◌, ◌<◌, Bool, true, false, ℤ, pos, ◌-ℤ◌, ap, ap₂, sym, ◌∙◌, arith}
 use Rattle.std.proofs.lemmas.Int.{ints}
 use Rattle.vx_base.proofs.Booleans.{is-false}
 use Rattle.vx_plane.specs.Plane.{rectangle, in_any}
-use Rattle.vx_plane.proofs.Pages.{rectangle-sides, rectangle-inside, in_any-some, in_any-one, in_any-more}
+use Rattle.vx_plane.proofs.Pages.{rectangle-sides, rectangle-inside, in_any-some, in_any-one}
 use Rattle.vx_grid.specs.declared.paper.Paper.{Paper}
 use Rattle.vx_grid.specs.declared.paper.Paper.TheVariants.{Letter, Legal}
 use Rattle.vx_grid.specs.Grid.{x_of, y_of, first_code_row, first_contest_row, contest_rows}
@@ -17,12 +17,6 @@ zone-inside paper n u v few inside =
     let sides = rectangle-sides (pos (x_of (place_of_box paper n).0) -ℤ pos 30) (pos (y_of paper (place_of_box paper n).1) -ℤ pos 22) 60 44 u v inside in
     rectangle-inside (pos 172) (pos (y_of paper (first_code_row paper)) -ℤ pos 22) 1356 148 u v
     (omega (arith, ints, sides.0)) (omega (arith, ints, sides.1, few)) (omega (arith, ints, sides.2)) (omega (arith, ints, sides.3, few))
-
--- no zone of the first n
-pub zones-none-more : (paper : Paper) (n : ℕ) (u v : ℤ) → in_any n (λ k. box_zone_at paper (place_of_box paper k)) u v ≡ false
-    → box_zone_at paper (place_of_box paper n) u v ≡ false → in_any (n + 1) (λ k. box_zone_at paper (place_of_box paper k)) u v ≡ false
-zones-none-more paper n u v none here =
-    in_any-more n (λ k. box_zone_at paper (place_of_box paper k)) u v ∙ ap₂ (λ a b. a || b) none here
 
 -- a zone of one
 pub zones-one : (paper : Paper) (n : ℕ) (u v : ℤ) → n < 84 → box_zone_at paper (place_of_box paper n) u v ≡ true → code_zones paper u v ≡ true

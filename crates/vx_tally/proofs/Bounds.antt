@@ -22,9 +22,6 @@ rows-length : (unit contest : ℕ) (votes : List VoteRow) → length (flat_map (
 rows-length unit contest [] = refl
 rows-length unit contest (row ∷ votes) = omega (arith, rows-length unit contest votes)
 
-contest-size : RecordContest → ℕ
-contest-size counted = 1 + length counted.votes
-
 contests-length : (unit : ℕ) (contests : List RecordContest)
     → length (flat_map (contest_shares unit) contests) ≡ 2 * sum_by (λ (counted : RecordContest). 1 + length counted.votes) contests
 contests-length unit [] = refl

@@ -1,5 +1,5 @@
 -- A turn of a loop over the elements of a list that are read one after another.
-use Rattle.std.proofs.Common.{◌≡◌, ℕ, ◌+◌, ◌<◌, List, [], ◌∷◌, ◌++◌, length, map, drop, get_or, Result, Ok, Err, sym, ap, subst, ◌∙◌}
+use Rattle.std.proofs.Common.{◌≡◌, ℕ, ◌+◌, ◌<◌, List, ◌∷◌, length, map, drop, get_or, Result, Ok, Err, sym, ap, subst, ◌∙◌}
 use Rattle.std.proofs.lemmas.List.{at_drop_more}
 use Rattle.serde_json.specs.Data.{Data}
 use Rattle.vx_base.specs.Results.{◌>>=◌}
@@ -21,9 +21,6 @@ module _ {A V : Type 0} (read : List A → Data → Result A ReportFault) (view 
     pub next-turn : (more : List A) → with_next read found (view item) ≡ Ok more → each_of read more (map view (drop (i + 1) values)) ≡ total
     next-turn more gives =
         sym (ap (λ (r : Result (List A) ReportFault). r >>= λ more. each_of read more (map view (drop (i + 1) values))) gives) ∙ sym rest ∙ so_far
-
-    pub each-turn : (one : A) → read found (view item) ≡ Ok one → each_of read (found ++ one ∷ []) (map view (drop (i + 1) values)) ≡ total
-    each-turn one gives = next-turn (found ++ one ∷ []) (ap (λ (r : Result A ReportFault). r >>= λ one. Ok (found ++ one ∷ [])) gives)
 
     -- the item is refused, and so is all
     pub next-refused : (fault : ReportFault) → with_next read found (view item) ≡ Err fault → total ≡ Err fault

@@ -1,9 +1,8 @@
 -- First places in lists, and whether there is one.
-use Rattle.std.proofs.Common.{◌≡◌, ℕ, suc, ◌+◌, ◌<◌, Bool, true, false, cond, not, ◌||◌, List, [], ◌∷◌, ◌++◌, length, map, refl, sym, ap, ap₂, ◌∙◌, arith}
+use Rattle.std.proofs.Common.{◌≡◌, ℕ, suc, ◌+◌, Bool, true, false, cond, not, ◌||◌, List, [], ◌∷◌, ◌++◌, length, map, refl, sym, ap, ap₂, ◌∙◌, arith}
 use Rattle.std.specs.Prelude.{Some, None, is_some, nat_lt, position}
 use Rattle.std.specs.List.{list_any, position_or_len}
 use Rattle.std.proofs.lemmas.Bool.Decides.{nat_tests}
-use Rattle.vx_base.proofs.Numbers.{below-from_yes}
 
 -- some element passes where the first place is one of the list
 pub any-place : {X : Type 0} (p : X → Bool) (xs : List X) → nat_lt (position_or_len p xs) (length xs) ≡ list_any p xs
@@ -66,13 +65,3 @@ position-behind p xs ys none = any-none p ys (any-behind p xs ys (none-any p (xs
 pub inserted-new : {X : Type 0} (b : Bool) (same longer : List X) → b ≡ false → cond b same longer ≡ longer
 inserted-new true same longer e = absurd cc
 inserted-new false same longer e = refl
-
-found-place : (b : Bool) (n i : ℕ) → cond b (Some n) None ≡ Some i → (b ≡ true) × (i ≡ n)
-found-place true n i e = (refl, cc)
-found-place false n i e = absurd cc
-
--- what was found is a place of the list, the first
-pub position-first : {X : Type 0} (p : X → Bool) (xs : List X) (i : ℕ) → position p xs ≡ Some i → (i < length xs) × (i ≡ position_or_len p xs)
-position-first p xs i e =
-    let found = found-place (nat_lt (position_or_len p xs) (length xs)) (position_or_len p xs) i e in
-    (omega (arith, found.1, below-from_yes (position_or_len p xs) (length xs) found.0), found.1)

@@ -146,18 +146,6 @@ module _ {S : Type 0} (key : Counted) (number : ℕ) (old new : IndexMap Counted
   one-changed Raise h room changed = (room, raised (λ other. updated Raise other (changed other)))
   one-changed Lower h room changed = lowered (omega (arith, h key, own-share key number)) (λ other. updated Lower other (changed other))
 
-nothing : (b : Bool) → ◌≡◌ {A = ℕ} (cond b 0 0) 0
-nothing true = refl
-nothing false = refl
-
-zero-share : (other key : Counted) → sum_of other ((key, 0) ∷ []) ≡ 0
-zero-share other key = one-share other key 0 ∙ nothing (same_counted key other)
-
--- nothing is changed by nothing
-pub none-changed : {S : Type 0} (change : Change) (key : Counted) (sums : IndexMap Counted ℕ S) → IsChanged change ((key, 0) ∷ []) sums sums
-none-changed Raise key sums = (omega arith, λ other. omega (arith, zero-share other key))
-none-changed Lower key sums = λ other. omega (arith, zero-share other key)
-
 -- what was done, where something was
 pub on-ok : {A F P : Type 0} (result : Result A F) → IsOk result → OnOk result P → P
 on-ok (Ok x) is h = h

@@ -1,10 +1,9 @@
 -- The table of the commands: its names differ, each is found by its word, and each row is one of words that may be arguments.
-use Rattle.std.proofs.Common.{◌≡◌, ◌+◌, ◌<◌, ◌≤◌, ◌==◌, ◌&&◌, ℕ, Bool, true, false, cond, List, [], ◌∷◌, Some, None, length, drop, get_or, refl, sym, ap, ◌∙◌, drop_of_length-le}
+use Rattle.std.proofs.Common.{◌≡◌, ◌<◌, ◌==◌, ◌&&◌, ℕ, Bool, true, false, cond, List, [], ◌∷◌, Some, length, refl, sym, ap, ◌∙◌}
 use Rattle.std.specs.Prelude.{find, nat_lt, not, slice_index}
 use Rattle.std.specs.List.{list_all}
 use Rattle.std.specs.Str.{bytes_eq}
-use Rattle.std.proofs.lemmas.Bool.{and_parts, cond-false, cond-true, eqb-false, ltb-true, not-true}
-use Rattle.std.proofs.lemmas.List.{at_drop_more}
+use Rattle.std.proofs.lemmas.Bool.{and_parts, eqb-false, ltb-true, not-true}
 use Rattle.std.proofs.lemmas.Option.{none-some, same_Some}
 use Rattle.std.proofs.lemmas.Slice.Eq.{bytes_eq-Decides}
 use Rattle.vx_words.specs.declared.name.Name.{Name}
@@ -36,20 +35,6 @@ module _ {X : Type 0} (p : X → Bool) where
       by : (here : Bool) → cond here (Some y) (find p xs) ≡ Some x → test y ≡ true → (find p xs ≡ Some x → test x ≡ true) → test x ≡ true
       by true it passes later = ap test (sym (same_Some y x it)) ∙ passes
       by false it passes later = later it
-
-  -- a walk that looks for it
-  pub looks_at : (xs : List X) (i : ℕ) (x : X) → i < length xs → x ≡ get_or xs i x → p x ≡ true → find p (drop i xs) ≡ Some x
-  looks_at xs i x inside is passes =
-      at_drop_more (find p) xs i x inside
-      ∙ cond-true (p (get_or xs i x)) (Some (get_or xs i x)) (find p (drop (i + 1) xs)) (ap p (sym is) ∙ passes) ∙ ap Some (sym is)
-
-  pub looks_on : (xs : List X) (i : ℕ) (x : X) → i < length xs → x ≡ get_or xs i x → p x ≡ false → find p (drop i xs) ≡ find p (drop (i + 1) xs)
-  looks_on xs i x inside is fails =
-      at_drop_more (find p) xs i x inside
-      ∙ cond-false (p (get_or xs i x)) (Some (get_or xs i x)) (find p (drop (i + 1) xs)) (ap p (sym is) ∙ fails)
-
-  pub looked : (xs : List X) (i : ℕ) → length xs ≤ i → find p (drop i xs) ≡ None
-  looked xs i past = ap (find p) (drop_of_length-le xs past)
 
 -- ---- the rows of the table
 

@@ -3,7 +3,6 @@ use Rattle.std.proofs.Common.{◌≡◌, ℕ, Bool, true, false, List, [], ◌�
 use Rattle.std.specs.Prelude.{All, slice_get, ◌≢◌, is_some, Option, None, Result, Ok, Err, IsErrAnd}
 use Rattle.std.proofs.lemmas.List.Elements.{All-head, All-tail, All-cons, All-nil}
 use Rattle.std.proofs.lemmas.Bool.{false≢true}
-use Rattle.std.proofs.lemmas.Option.{none-some, same_Some}
 use Rattle.std.specs.Fmt.{decimal}
 use Rattle.std.specs.Str.Parse.{digits_value}
 use Rattle.std.proofs.lemmas.Fmt.{decimal_is_IsNumeral}
@@ -262,16 +261,6 @@ called_so name behind are enough no_more = record { first = refl; enough = omega
 -- a command has a word behind its name
 pub two_words : (words : List (List ℕ)) (command : Command) → Spells words command → 2 ≤ length words
 two_words words command spelled = omega (arith, two_words_at_least (name_of command), (spelled_named words command spelled).enough)
-
--- the command whose name begins the words, where they have as many as it
-pub no_other_name : (words : List (List ℕ)) (word : List ℕ) (name other : Name) → slice_get words 0 ≡ Some word → Some name ≡ name_in word
-    → HasName words other → other ≡ name
-no_other_name words word name other at_0 is called =
-    same_Some other name (sym (found other) ∙ ap name_in (same_Some (name_word other) word (sym called.first ∙ at_0)) ∙ sym is)
-
-pub no_name : (words : List (List ℕ)) (word : List ℕ) → slice_get words 0 ≡ Some word → None ≡ name_in word → (name : Name) → HasName words name → ⊥
-no_name words word at_0 none name called =
-    none-some name (none ∙ ap name_in (same_Some word (name_word name) (sym at_0 ∙ called.first)) ∙ found name)
 
 pub has_name : (words : List (List ℕ)) (word : List ℕ) (name : Name) → slice_get words 0 ≡ Some word → Some name ≡ name_in word
     → (row_of name).least ≤ length words → length words ≤ (row_of name).most → All IsArgument (drop 1 words) → HasName words name

@@ -1,5 +1,5 @@
 -- How `clap` splits words of which none begins with a hyphen.
-use Rattle.std.proofs.Common.{◌^◌, ◌≡◌, ◌++◌, ◌+◌, ◌==◌, ◌<◌, ◌≤◌, ℕ, Bool, true, false, List, [], ◌∷◌, Option, Some, None, length, map, take, get_or, refl, sym, ap, ◌∙◌, arith, append_assoc, append-nil, inl, inr}
+use Rattle.std.proofs.Common.{◌^◌, ◌≡◌, ◌++◌, ◌+◌, ◌==◌, ◌<◌, ℕ, Bool, true, false, List, [], ◌∷◌, Option, Some, None, length, map, take, get_or, refl, sym, ap, ◌∙◌, arith, append_assoc, append-nil, inl, inr}
 use Rattle.std.specs.Prelude.{All, codes, find, fold, unwrap_or, is_some, not, if◌then◌else◌, option_map, ◌≢◌}
 use Rattle.std.specs.Str.{bytes_eq}
 use Rattle.std.proofs.lemmas.Bool.{eqb-true, cases_Bool, le-leb, or_from, or_right, false≢true}
@@ -8,14 +8,13 @@ use Rattle.clap.specs.Words.{App, Rule, Shape, Text, subcommand_of, takes, fault
 use Rattle.clap.specs.Walk.{Held, Names, Walk, positional, idle, walk, walk_from, walked, nothing_held, answers_to, rows_after, subcommand_met}
 use Rattle.clap.specs.declared.builder.action.ArgAction.TheVariants.{Append}
 use Rattle.clap.specs.declared.builder.value_parser.ValueParser.TheVariants as vp
-use Rattle.clap.specs.Simple.{built, names_of, new_shape, label_of}
+use Rattle.clap.specs.Simple.{names_of, new_shape, label_of}
 use Rattle.clap.specs.Faults.{walk_fault, defaults_fault}
 use Rattle.clap.specs.declared.error.kind.ErrorKind.TheVariants.{UnknownArgument, InvalidSubcommand, MissingSubcommand}
 use Rattle.clap.proofs.WalkLemmas.{find-map, walk_stopped}
 use Rattle.std.proofs.lemmas.Slice.Eq.{bytes_eq-Decides}
 use Rattle.clap.specs.Takes.{turn_passes, walk_passes, values_pass, use_passes, level_passes}
 use Rattle.std.proofs.lemmas.List.Elements.{All-head, All-tail}
-use Rattle.std.proofs.lemmas.List.{take_all}
 use Rattle.std.proofs.lemmas.List.Sums.{fold_more}
 use Rattle.vx_words.specs.declared.name.Name.{Name}
 use Rattle.vx_words.specs.Names.{all_names, name_word}
@@ -105,10 +104,6 @@ top = record (new_shape (codes "vx")) {
   is_leaf = false;
   is_built = true;
 }
-
-line_built : built line ≡ record { top = top; subs = map leaf names }
-unfolding line
-line_built = refl
 
 pub line_simple : is_simple_and_free line ≡ true
 unfolding line
@@ -245,9 +240,6 @@ pub one_form_more : (made : App) (list : List Name) (i : ℕ) (name : Name) → 
 one_form_more made list i name inside is =
     ap (λ (n : Name). with_subcommand (with_names made (take i list)) (form (name_word n))) is
     ∙ sym (fold_more (λ (some : App) (n : Name). with_subcommand some (form (name_word n))) made list i name inside)
-
-pub all_forms : (made : App) (list : List Name) (i : ℕ) → length list ≤ i → with_names made (take i list) ≡ with_names made list
-all_forms made list i past = ap (λ (l : List Name). with_names made l) (take_all i list past)
 
 pub grown : with_names start all_names ≡ line
 unfolding line

@@ -1,6 +1,5 @@
 use Rattle.vx_command_cards.specs.Texts.{cut_at}
-use Rattle.vx_command_cards.proofs.Cutting.{lines-before}
-use Rattle.vx_command_cards.proofs.Lined.{no_lines, lines_on, lines_up_to}
+use Rattle.vx_command_cards.proofs.Lined.{no_lines, lines_on}
 use Rattle.vx_command_cards.proofs.cut.push_cuts.Goals as goal
 
 pub loop-line-init : goal.loop-line-init
