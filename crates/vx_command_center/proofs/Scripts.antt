@@ -19,7 +19,6 @@ behind_twice events said (Err cause) = refl
 
 -- the events of lines are those before a text and those of its lines
 module _ (election : Election) (all : Result (List Event) Halt) (number : ℕ) (events : List Event) (text line : List ℕ) (so_far : all ≡ behind events (events_in_lines election number (lines_of text))) where
-
   module _ (said events_now : List Event) (says : events_in_line election number line ≡ Ok said) (now : events_now ≡ events ++ said) where
 
 -- the images of a scan are so many, and those that are left

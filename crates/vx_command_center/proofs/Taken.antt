@@ -20,9 +20,7 @@ use Rattle.vx_command_center.specs.Taking.{BreaksBefore, TakesItems}
 
 -- an item by the bytes that were taken for it
 module _ (election : Election) (word before : ℕ) (item : ItemWord) (file : Option (List ℕ)) where
-
   module _ (bytes : List ℕ) (given : input_of word (limit_of item) file ≡ Ok bytes) where
-
     no_memory : (cause : Halt) → is_no_memory cause ≡ true → BreaksAt cause (Take word ∷ []) [] []
     no_memory NoMemory is = (refl, refl)
     no_memory cause is = absurd cc

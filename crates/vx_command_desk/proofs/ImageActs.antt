@@ -14,9 +14,7 @@ abbrev pub walked_so : ℕ → Option Page → Walked
 walked_so sheets waiting = record { sheets = sheets; waiting = waiting }
 
 module _ (text : SheetTexts) (sheets : ℕ) (image : Page) where
-
   module _ (laws : ActLaws) where
-
     module _ (first : Page) (a b : Taken) where
       -- it is the second of a sheet, whose text was written
       pub image-pairs : IsWritten (writing (text (sheets + 1) first image)) a b (Ok tt)

@@ -5,5 +5,4 @@ use Rattle.vx_command.specs.Done.{Taken}
 use Rattle.vx_command_try.specs.Outcome.{PageRead}
 
 module _ (election : Election) (sheets : ℕ) (read : PageRead) where
-
   module _ (first : PageRead) (a b : Taken) where

@@ -20,7 +20,6 @@ sum_of-append key xs ys =
     (filter (λ (share : Share). same_counted key share.0) ys)
 
 module _ {S : Type 0} where
-
   pub allows-front : (change : Change) (xs ys : List Share) (sums : IndexMap Counted ℕ S) → Allows change (xs ++ ys) sums → Allows change xs sums
   allows-front Raise xs ys sums h = (omega (arith, h.0, length-append xs ys), λ key. omega (arith, h.1 key, sum_of-append key xs ys))
   allows-front Lower xs ys sums h = λ key. omega (arith, h key, sum_of-append key xs ys)
