@@ -22,6 +22,15 @@ impl Opens for FileStore<File> {
     }
 }
 
+/// What a journal's file is asked: how many records there are, the record at an index, behind what is
+/// there, or to keep one more.
+#[derive(Drop)]
+pub(crate) enum Act<'a> {
+    Count,
+    Fetch { index: u64, into: &'a mut Bytes },
+    Append { body: &'a [u8] },
+}
+
 /// An open file: one that takes records, or the records of one that is only read.
 #[derive(Drop)]
 enum OpenFile<S: Alter> {
@@ -45,6 +54,7 @@ fn open_at<S: Opens>(rt: &HostRuntime, path: &str, only_reads: bool) -> Result<O
 }
 
 impl<S: Alter> OpenFile<S> {
+    /// How many records there are.
     fn count(&self) -> Result<u64, Error> {
         match self {
             OpenFile::Kept(table) => table.count(),
@@ -52,6 +62,7 @@ impl<S: Alter> OpenFile<S> {
         }
     }
 
+    /// Copies the record at an index behind what is there.
     fn fetch(&mut self, index: u64, into: &mut Bytes) -> Result<(), Error> {
         match self {
             OpenFile::Kept(table) => table.fetch(index, into),
@@ -65,6 +76,23 @@ impl<S: Alter> OpenFile<S> {
             OpenFile::Kept(table) => table.append(body),
             OpenFile::Sealed(_) => Err(Error::SqliteFailure(ErrorCode::CannotOpen)),
         }
+    }
+
+    /// Does what is asked; the answer is a count, or 0.
+    fn act(&mut self, act: Act<'_>) -> Result<u64, Error> {
+        match act {
+            Act::Count => self.count(),
+            Act::Fetch { index, into } => zero(self.fetch(index, into)),
+            Act::Append { body } => zero(self.append(body)),
+        }
+    }
+}
+
+/// The answer of an act that counts nothing.
+fn zero(done: Result<(), Error>) -> Result<u64, Error> {
+    match done {
+        Ok(()) => Ok(0),
+        Err(error) => Err(error),
     }
 }
 
@@ -82,67 +110,42 @@ fn opened<'t, S: Opens>(
         .ok_or(Error::SqliteFailure(ErrorCode::CannotOpen))
 }
 
-/// The journal's file: the path that it was made with, whether it is only read, and what is open of it.
-/// No call is handed a path, so each is about that one.
+/// The journal's file: the path that it was made with, and what is open of it. No call is handed a path, so
+/// each is about that one.
 #[derive(Drop)]
 pub(crate) struct JournalFile<S: Alter> {
     path: String,
-    only_reads: bool,
     open: Option<OpenFile<S>>,
 }
 
 impl<S: Alter> Model for JournalFile<S> {
-    ghost use Rattle.std.specs.Prelude.{string_bytes};
-    ghost use Rattle.vx_keep_sqlite.specs.OnFile.{AtPath};
+    ghost use Rattle.std.specs.Prelude.{List, ℕ, string_bytes};
 
-    ghost Value = { AtPath };
+    ghost Value = { List ℕ };
 
-    ghost view = { λ file. record { path = string_bytes file.path; only_reads = file.only_reads } };
+    ghost view = { λ file. string_bytes file.path };
 }
 
 impl<S: Opens> JournalFile<S> {
     /// The file at a path, which isn't opened yet. It takes memory for the path alone.
-    pub(crate) fn new(
-        alloc: Global,
-        path: &str,
-        only_reads: bool,
-    ) -> Result<JournalFile<S>, AllocError>
-        ensures { IfOk result (λ file. file ≡ record { path = path.now; only_reads = only_reads }) }
+    pub(crate) fn new(alloc: Global, path: &str) -> Result<JournalFile<S>, AllocError>
+        ensures { IfOk result (λ file. file ≡ path.now) }
     {
         Ok(JournalFile {
             path: String::from_str(alloc, path)?,
-            only_reads,
             open: None,
         })
     }
 
-    /// How many records there are in the file.
-    pub(crate) fn count(&mut self, rt: &HostRuntime) -> Result<u64, Error>
-        ensures path { self.new ≡ self.old }
-    {
-        opened(rt, self.path.as_str(), self.only_reads, &mut self.open)?.count()
-    }
-
-    /// Copies the record at an index behind what is there.
-    pub(crate) fn fetch(
+    /// Does what is asked; the answer is a count, or 0. The file is opened at the first call.
+    pub(crate) fn act(
         &mut self,
         rt: &HostRuntime,
-        index: u64,
-        into: &mut Bytes,
-    ) -> Result<(), Error>
+        only_reads: bool,
+        act: Act<'_>,
+    ) -> Result<u64, Error>
         ensures path { self.new ≡ self.old }
     {
-        opened(rt, self.path.as_str(), self.only_reads, &mut self.open)?.fetch(index, into)
-    }
-
-    /// Adds a record at the end of the file. One that is only read takes none, and isn't opened.
-    pub(crate) fn append(&mut self, rt: &HostRuntime, body: &[u8]) -> Result<(), Error>
-        ensures path { self.new ≡ self.old }
-        ensures sealed { IsTrue self.old.only_reads → result ≡ Err (Error.SqliteFailure ErrorCode.CannotOpen) }
-    {
-        if self.only_reads {
-            return Err(Error::SqliteFailure(ErrorCode::CannotOpen));
-        }
-        opened(rt, self.path.as_str(), false, &mut self.open)?.append(body)
+        opened(rt, self.path.as_str(), only_reads, &mut self.open)?.act(act)
     }
 }

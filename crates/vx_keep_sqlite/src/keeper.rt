@@ -3,7 +3,7 @@ ghost use Rattle.vx_io.specs.Fakes.{raised};
 ghost use Rattle.vx_io.specs.Keeping.{has_failed};
 ghost use Rattle.vx_io.specs.Outside.{Appends, CountsFaults, IsCountOf, IsRecordAt, MayAppend};
 
-use crate::file::JournalFile;
+use crate::file::{Act, JournalFile};
 use crate::refusal::told;
 use sqlite::{File, FileStore};
 use std::alloc::AllocError;
@@ -18,6 +18,7 @@ use vx_io::{Keeper, KeeperError, count_fault};
 pub struct SqliteKeeper<'r> {
     rt: &'r HostRuntime,
     file: JournalFile<FileStore<File>>,
+    only_reads: bool,
     faults: u64,
 }
 
@@ -26,7 +27,7 @@ impl<'r> Model for SqliteKeeper<'r> {
 
     ghost Value = { OnFile };
 
-    ghost view = { λ keeper. record { file = keeper.file; faults = keeper.faults } };
+    ghost view = { λ keeper. record { file = record { path = keeper.file; only_reads = keeper.only_reads }; faults = keeper.faults } };
 }
 
 impl<'r> SqliteKeeper<'r> {
@@ -51,7 +52,8 @@ impl<'r> SqliteKeeper<'r> {
     {
         Ok(SqliteKeeper {
             rt,
-            file: JournalFile::new(rt.alloc(), path, only_reads)?,
+            file: JournalFile::new(rt.alloc(), path)?,
+            only_reads,
             faults: 0,
         })
     }
@@ -62,7 +64,38 @@ impl<'r> SqliteKeeper<'r> {
     {
         self.faults > 0
     }
+
+    /// Asks the file, unless there was a fault before, and counts one. No other call names the store of a
+    /// file, whose clauses make a proof dear.
+    fn act(&mut self, act: Act<'_>) -> Result<u64, KeeperError>
+        ensures cause { CountsFaults (has_failed result) self.old.faults self.new.faults }
+        ensures counted { self.new.faults ≡ (if has_failed result then raised self.old.faults else self.old.faults) }
+        ensures given_up { 0 < self.old.faults → result ≡ Err KeeperError.Failed }
+        ensures path { self.new.file ≡ self.old.file }
+    {
+        let done = if self.has_given_up() {
+            Err(KeeperError::Failed)
+        } else {
+            told(self.file.act(self.rt, self.only_reads, act))
+        };
+        count_fault(&mut self.faults, done == Err(KeeperError::Failed));
+        done
+    }
+
+    /// Refuses a record of a journal that is only read, which is a fault.
+    fn refuse(&mut self) -> Result<(), KeeperError>
+        ensures failed { result ≡ Err KeeperError.Failed }
+        ensures cause { CountsFaults (has_failed result) self.old.faults self.new.faults }
+        ensures counted { self.new.faults ≡ raised self.old.faults }
+        ensures path { self.new.file ≡ self.old.file }
+    {
+        count_fault(&mut self.faults, true);
+        Err(KeeperError::Failed)
+    }
 }
+
+/// Lets a keeper go. That this is safe is proved here; a crate that calls it needn't prove it again.
+pub fn drop_keeper(_keeper: SqliteKeeper<'_>) {}
 
 impl Keeper for SqliteKeeper<'_> {
     ghost held = { λ _. None };
@@ -76,13 +109,7 @@ impl Keeper for SqliteKeeper<'_> {
         ensures given_up { 0 < self.old.faults → result ≡ Err KeeperError.Failed }
         ensures path { self.new.file ≡ self.old.file }
     {
-        let counted = if self.has_given_up() {
-            Err(KeeperError::Failed)
-        } else {
-            told(self.file.count(self.rt))
-        };
-        count_fault(&mut self.faults, counted == Err(KeeperError::Failed));
-        counted
+        self.act(Act::Count)
     }
 
     fn fetch(&mut self, index: u64, into: &mut Bytes) -> Result<(), KeeperError>
@@ -94,16 +121,13 @@ impl Keeper for SqliteKeeper<'_> {
         ensures path { self.new.file ≡ self.old.file }
     {
         into.clear();
-        let fetched = if self.has_given_up() {
-            Err(KeeperError::Failed)
-        } else {
-            told(self.file.fetch(self.rt, index, into))
-        };
-        if fetched.is_err() {
-            into.clear();
+        match self.act(Act::Fetch { index, into }) {
+            Ok(_) => Ok(()),
+            Err(refused) => {
+                into.clear();
+                Err(refused)
+            }
         }
-        count_fault(&mut self.faults, fetched == Err(KeeperError::Failed));
-        fetched
     }
 
     fn append(&mut self, body: &[u8]) -> Result<(), KeeperError>
@@ -115,12 +139,12 @@ impl Keeper for SqliteKeeper<'_> {
         ensures given_up { 0 < self.old.faults → result ≡ Err KeeperError.Failed }
         ensures path { self.new.file ≡ self.old.file }
     {
-        let kept = if self.has_given_up() {
-            Err(KeeperError::Failed)
-        } else {
-            told(self.file.append(self.rt, body))
-        };
-        count_fault(&mut self.faults, kept == Err(KeeperError::Failed));
-        kept
+        if self.only_reads {
+            return self.refuse();
+        }
+        match self.act(Act::Append { body }) {
+            Ok(_) => Ok(()),
+            Err(refused) => Err(refused),
+        }
     }
 }

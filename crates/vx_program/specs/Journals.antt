@@ -4,7 +4,7 @@ use Rattle.std.specs.declared.io.Error.{Error}
 use Rattle.vx_app.specs.Outcome.{appends, uses_keeper}
 use Rattle.vx_words.specs.declared.command.Command.{Command}
 use Rattle.vx_program.specs.declared.journal.Place.{Place}
-use Rattle.vx_program.specs.declared.journal.Place.TheVariants.{Memory, ReadFile, File}
+use Rattle.vx_program.specs.declared.journal.Place.TheVariants.{Memory, ReadFile}
 
 -- a command reads the journal and appends nothing to it
 abbrev pub only_reads : Command → Bool

@@ -3,8 +3,9 @@ ghost use Rattle.vx_ranked.specs.Words.{NoRanked};
 
 use crate::journal::{Place, empty_journal, file_journal, place_of};
 use vx_command::Halt;
-use vx_io::{Sink, StdInputs, StdSink, Words};
 use vx_ranked::{RankedStatus, run_ranked};
+use vx_io::{Sink, StdInputs, StdSink, Words};
+use vx_keep_sqlite::drop_keeper;
 
 /// Does the command `ranked` with a journal in memory, which is empty.
 fn rank_in_memory<S: Sink>(rt: &HostRuntime, words: &Words, out: &mut S) -> RankedStatus
@@ -30,7 +31,11 @@ fn rank_on_file<S: Sink>(
 {
     let mut inputs = StdInputs::new(rt);
     match file_journal(rt, journal, true) {
-        Ok(mut keeper) => run_ranked(rt.alloc(), words, &mut inputs, out, &mut keeper),
+        Ok(mut keeper) => {
+            let status = run_ranked(rt.alloc(), words, &mut inputs, out, &mut keeper);
+            drop_keeper(keeper);
+            status
+        }
         Err(_refused) => RankedStatus::Halted(Halt::NoMemory),
     }
 }

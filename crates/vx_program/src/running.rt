@@ -8,6 +8,7 @@ use std::thread::Threads;
 use vx_app::{commands_are_named, is_center, run, run_center};
 use vx_command::{Halt, Status};
 use vx_io::{Inputs, Keeper, Sink, StdInputs, StdSink, Words};
+use vx_keep_sqlite::drop_keeper;
 use vx_workers::OpenGate;
 
 /// Does a command: `center` alone may wait.
@@ -59,7 +60,11 @@ fn run_on_file<R: Threads + Wait + Sync, S: Sink>(
 {
     let mut inputs = StdInputs::new(rt);
     match file_journal(rt, journal, only_reads) {
-        Ok(mut keeper) => run_command(threads, rt.alloc(), words, &mut inputs, out, &mut keeper),
+        Ok(mut keeper) => {
+            let status = run_command(threads, rt.alloc(), words, &mut inputs, out, &mut keeper);
+            drop_keeper(keeper);
+            status
+        }
         Err(_refused) => Status::Halted(Halt::NoMemory),
     }
 }
