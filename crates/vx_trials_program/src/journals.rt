@@ -1,6 +1,7 @@
 //! Counts with a journal in a file and with one in memory, as the program does them.
 
-use crate::files::{Paths, remove_files, remove_journal, write_files};
+use crate::files::{Paths, remove_files, write_files};
+use crate::runs::{count, run_named};
 use sqlite::types::ValueRef;
 use sqlite::{Connection, File, FileStore, params};
 use std::fs;
@@ -9,8 +10,7 @@ use std::rt::HostRuntime;
 use std::sync::Wait;
 use std::test::Fail;
 use std::thread::Threads;
-use vx_program::run_with;
-use vx_town::{TOWN_HEADER, words_of};
+use vx_town::TOWN_HEADER;
 
 /// The rows of a journal of which two runs counted the town's blank sheet, as two batches.
 const ROWS: [(i64, &str); 3] = [
@@ -18,25 +18,6 @@ const ROWS: [(i64, &str); 3] = [
     (1, "1 add b1 1 0 1 precinct 0:cc"),
     (2, "1 add b2 1 0 1 precinct 0:cc"),
 ];
-
-/// Counts the scan as a batch, with one worker, into the journal of this name, and tells the program's number.
-fn count<R: Threads + Wait + Sync>(
-    rt: &HostRuntime,
-    threads: &R,
-    paths: &Paths,
-    journal: &str,
-    batch: &str,
-) -> Result<u8, Fail> {
-    let words = [
-        "count",
-        paths.election.as_str(),
-        batch,
-        "1",
-        paths.scan.as_str(),
-    ];
-    let words = words_of(rt.alloc(), &words)?;
-    Ok(run_with(rt, threads, journal, &words).number())
-}
 
 /// The row in a place is this one, as SQLite reads the file.
 fn assert_row<R: Abort>(
@@ -66,20 +47,39 @@ fn assert_rows<R: Abort>(host: &HostRuntime, rt: &R, journal: &str) -> Result<()
     Ok(())
 }
 
+/// Counts two batches into the journal's file, one run after the other.
+pub(crate) fn count_two<R: Threads + Wait + Sync + Abort>(
+    host: &HostRuntime,
+    rt: &R,
+    paths: &Paths,
+) -> Result<(), Fail> {
+    let journal = paths.journal.as_str();
+    assert_eq!(rt; count(host, rt, paths, journal, "b1")?, 0);
+    assert_eq!(rt; count(host, rt, paths, journal, "b2")?, 0);
+    Ok(())
+}
+
+/// A `queue` of a journal that isn't there, and a count with a journal in memory.
+fn make_none<R: Threads + Wait + Sync + Abort>(
+    host: &HostRuntime,
+    rt: &R,
+    paths: &Paths,
+) -> Result<(), Fail> {
+    let queue = run_named(host, rt, paths, "queue")?;
+    assert!(rt; queue.is(0, "waiting 0\n"));
+    assert_eq!(rt; count(host, rt, paths, "-", "b1")?, 0);
+    Ok(())
+}
+
 /// What a run counts into a file the next one finds, and SQLite reads it as it was kept. A `queue` of a
 /// journal that isn't there makes no file, and neither does a count with a journal in memory.
 #[test]
 fn counts_stand_in_the_file_that_was_named(rt: HostRuntime) -> Result<(), Fail> {
-    let paths = write_files(&rt)?;
-    let journal = paths.journal.as_str();
-    let queue = words_of(rt.alloc(), &["queue", paths.election.as_str()])?;
-    assert_eq!(rt; run_with(&rt, &rt, journal, &queue).number(), 0);
-    assert_eq!(rt; count(&rt, &rt, &paths, "-", "b1")?, 0);
-    assert_eq!(rt; fs::exists(&rt, journal)?, false);
+    let paths = write_files(&rt, "counts")?;
+    make_none(&rt, &rt, &paths)?;
+    assert_eq!(rt; fs::exists(&rt, paths.journal.as_str())?, false);
     assert_eq!(rt; fs::exists(&rt, "-")?, false);
-    assert_eq!(rt; count(&rt, &rt, &paths, journal, "b1")?, 0);
-    assert_eq!(rt; count(&rt, &rt, &paths, journal, "b2")?, 0);
-    assert_rows(&rt, &rt, journal)?;
-    remove_journal(&rt, journal)?;
+    count_two(&rt, &rt, &paths)?;
+    assert_rows(&rt, &rt, paths.journal.as_str())?;
     remove_files(&rt, &paths)
 }
