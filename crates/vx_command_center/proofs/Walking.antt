@@ -114,5 +114,3 @@ next_few election batch pass pages before number first second left later now tex
     let long = ap (λ (i : Images). length i.pages) is in
     let room = walked.room in
     omega (arith, long, room)
-
-}

@@ -20,8 +20,6 @@ reasons-more few most sums le within = record {
   write_in = omega (arith, within.write_in, le);
 }
 
-}
-
 -- nothing was counted
 pub nothing-counted : IsCounted nothing
 nothing-counted = record {

@@ -70,8 +70,6 @@ from-stops election from (suc count) (suc k) card [] fault at less are stop = ab
 from-stops election from (suc count) (suc k) card (plan ∷ plans) fault at less are stop =
     rw (first-of election from k plan plans are, from-stops election (from + 1) count k card plans fault (omega (arith, at)) (omega (arith, less)) (rest-of election from k plan plans are) stop)
 
-}
-
 -- all plans, or the first fault
 pub all-listed : (election : Election) (count : ℕ) (plans : List CardPlan) → count ≡ length (cards_of election) → ArePlansFrom election 0 count plans → plans_of election ≡ Ok plans
 unfolding plans_of

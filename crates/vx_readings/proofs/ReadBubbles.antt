@@ -51,8 +51,6 @@ pub record BubblesTo (first : LinesLeft) (said : SaidBubbles) (left : LinesLeft)
       bubbles_in 0 first.number first.lines ≡ then_others said (bubbles_in (left.number - first.number) left.number left.lines)
   pub low : first.number ≤ left.number
 
-}
-
 next-fault : (bubble number : ℕ) (lines : List (List ℕ)) (fault : ReadingsFault) → next_line (bubble_or_end bubble) number lines ≡ Err fault
     → bubbles_in bubble number lines ≡ Err fault
 unfolding bubbles_in

@@ -125,8 +125,6 @@ laid-then rankings stands a b c xs ys h k = record {
   exhausted = omega (arith, h.exhausted, k.exhausted, sum_by-append (λ (ranking : List ℕ). cond (is_exhausted stands ranking) 1 0) xs ys);
 }
 
-}
-
 -- what is laid while the same candidates stand
 pub laid-along : (rankings : List (List ℕ)) (first a b : Piles) (xs : List (List ℕ)) → a.standing.items ≡ first.standing.items →
     Laid rankings (stands_in a) a b xs → Laid rankings (stands_in first) a b xs

@@ -61,8 +61,6 @@ legal_more start history event reply legal is = record {
       (sym (take_before history (entry event reply ∷ []) call place there)) (legal.replies place call there)));
 }
 
-}
-
 -- what the turn protects, after a call
 pub applied : (start center center' : Kept) (items items' : List Entry) (event : Event) (reply : Reply) → IsHeld start center items
     → reply ≡ reply_of center.election center.events event

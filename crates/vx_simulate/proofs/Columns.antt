@@ -173,8 +173,6 @@ pub record AreFirstStrips (s : Slant) (strips : List Strip) (k : ℕ) : Type 0 w
 abbrev no_strip : Strip
 no_strip = record { row = 0; bits = 0 }
 
-}
-
 -- the row that is shown in a column, by what the code knows
 pub shown-row : (shear : Shear) (x : ℕ) (u : ℤ) (r : Point) → IsShort shear → x < 2112 → r ≡ to_scan_of (slant_of shear) (record { u = u; v = pos 0 }) → u ≡ pos x -ℤ pos 160
     → (pos 136 -ℤ r.v ≡ shown (slant_of shear) x) × (pos 0 <ℤ (pos 136 -ℤ r.v)) × ((pos 136 -ℤ r.v) <ℤ pos 272)

@@ -26,8 +26,6 @@ pub record IsSlanted (rows : List ℕ) (strips : List Strip) (v k : ℕ) (row : 
   pub size : length row ≡ 264
   pub pixels : (x : ℕ) → x < 8 * k → packed_pixel row 0 x ≡ packed_pixel rows ((v + row_in strips x) * 264) x
 
-}
-
 -- the first k bytes of a row of a scan are changed where another row is dark, from a column on
 pub record IsChanged (before row : List ℕ) (from k : ℕ) (now : List ℕ) : Type 0 where
   pub size : length now ≡ 225
