@@ -7,13 +7,10 @@ ghost use Rattle.sqlite_disk.specs.Memory.{memory_bytes, memory_is_usable};
 ghost use Rattle.vx_keep_sqlite.specs.Sealed as told;
 
 use crate::shelf::Shelf;
-use os::{RangeLock, try_lock_range};
 use sqlite::{Connection, Error, ErrorCode, FileStore, Files, Options};
 use sqlite_disk::{Disk, Memory};
 use std::alloc::Global;
-use std::fs::{File, OpenOptions};
 use std::io::ErrorKind;
-use std::os::fd::AsRawFd;
 use std::os::unix::fs::MetadataExt;
 use std::path::PathBuf;
 use std::rt::HostRuntime;
@@ -65,33 +62,6 @@ fn check_alone(rt: &HostRuntime, path: &str) -> Result<(), Error> {
     }
 }
 
-/// The file under a number that isn't one of the standard streams', whose text would land in it.
-fn apart(file: File) -> Result<File, Error> {
-    if file.as_raw_fd() <= 2 {
-        system_told(file.try_clone())
-    } else {
-        Ok(file)
-    }
-}
-
-/// Keeps those out that write, for as long as the file is open. They hold SQLite's locks.
-fn lock(file: File, kind: RangeLock) -> Result<File, Error> {
-    if try_lock_range(file.as_raw_fd(), kind, 1 << 30, 512) == 0 {
-        Ok(file)
-    } else {
-        Err(Error::SqliteFailure(ErrorCode::DatabaseBusy))
-    }
-}
-
-/// Opens the file and keeps others out: all of them where it might be written, as an open that writes
-/// does, and those that write where it can't be.
-fn locked(rt: &HostRuntime, path: &str) -> Result<File, Error> {
-    match OpenOptions::new().read(true).write(true).open(rt, path) {
-        Ok(file) => lock(apart(file)?, RangeLock::Exclusive),
-        Err(_) => lock(system_told(fs::open(rt, path))?, RangeLock::Shared),
-    }
-}
-
 /// The bytes of a regular file beside the journal, none where it isn't there.
 fn bytes_beside(rt: &HostRuntime, path: &str) -> Result<Vec<u8>, Error> {
     match found_told(fs::symlink_metadata(rt, path))? {
@@ -123,13 +93,10 @@ fn disk_of(alloc: Global, bytes: &[u8]) -> Result<Memory, Error>
     Ok(disk)
 }
 
-/// The log beside the file.
-fn log_at(rt: &HostRuntime, real: &str) -> Result<Memory, Error>
-    ensures { IfOk result (λ disk. IsTrue (memory_is_usable disk)) }
-{
+/// The bytes of the log beside the file.
+fn log_at(rt: &HostRuntime, real: &str) -> Result<Vec<u8>, Error> {
     let name = format!(in rt.alloc(); "{real}-wal")?;
-    let bytes = bytes_beside(rt, name.as_str())?;
-    disk_of(rt.alloc(), bytes.as_slice())
+    bytes_beside(rt, name.as_str())
 }
 
 /// The file itself.
@@ -140,16 +107,30 @@ fn file_at(rt: &HostRuntime, real: &str) -> Result<Memory, Error>
     disk_of(rt.alloc(), bytes.as_slice())
 }
 
-/// Both, while nobody writes them.
+/// The file, if the log beside it is still this one when it has been read.
+fn file_beside(rt: &HostRuntime, real: &str, log: &[u8]) -> Result<Memory, Error>
+    ensures { IfOk result (λ disk. IsTrue (memory_is_usable disk)) }
+{
+    let db = file_at(rt, real)?;
+    let now = log_at(rt, real)?;
+    if now.as_slice() == log {
+        Ok(db)
+    } else {
+        Err(Error::SqliteFailure(ErrorCode::DatabaseBusy))
+    }
+}
+
+/// Both as they were at one moment. While the log stays as it is nothing comes into the file but what
+/// the log has; a log that grew or was begun anew meanwhile is told.
 fn both_at(rt: &HostRuntime, real: &str) -> Result<Files<Memory>, Error>
     ensures log { IfOk result (λ files. IsTrue (memory_is_usable files.log)) }
     ensures db { IfOk result (λ files. IsTrue (memory_is_usable files.db)) }
 {
     check_alone(rt, real)?;
-    let _locked = locked(rt, real)?;
     check_settled(rt, real)?;
-    let log = log_at(rt, real)?;
-    let db = file_at(rt, real)?;
+    let bytes = log_at(rt, real)?;
+    let db = file_beside(rt, real, bytes.as_slice())?;
+    let log = disk_of(rt.alloc(), bytes.as_slice())?;
     Ok(Files { log, db })
 }
 
