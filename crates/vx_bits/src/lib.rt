@@ -11,7 +11,7 @@ mod raster;
 mod run;
 mod view;
 
-pub use page::BitPage;
+pub use page::{BitPage, bit_page_is_shared, drop_page};
 pub use raster::rasters_show_their_pages;
 pub use view::BitView;
 pub use vx_base::{Bytes, OutOfMemory};

@@ -8,6 +8,7 @@ use crate::run::{Run, darken_run};
 use crate::view::BitView;
 use std::alloc::{AllocError, Global};
 use std::marker::Model;
+use vx_base::OutOfMemory;
 
 /// A page in memory, of 1 to 4096 pixels each way.
 #[derive(Drop)]
@@ -58,6 +59,18 @@ impl BitPage {
             height,
             rows,
         }
+    }
+
+    /// A copy, which is the same page.
+    pub fn copy(&self, alloc: Global) -> Result<BitPage, OutOfMemory>
+        ensures { IfOk result (λ page. page ≡ self.now) }
+    {
+        let rows = Vec::from_slice(alloc, self.rows.as_slice())?;
+        Ok(BitPage {
+            width: self.width,
+            height: self.height,
+            rows,
+        })
     }
 
     /// The number of columns.
@@ -135,3 +148,13 @@ impl BitPage {
         }
     }
 }
+
+fn shared<T: Send + Sync>() {}
+
+/// Threads may share a page and hand it over.
+pub fn bit_page_is_shared() {
+    shared::<BitPage>()
+}
+
+/// Lets a page go. That this is safe is proved here; a crate that calls it needn't prove it again.
+pub fn drop_page(_page: BitPage) {}

@@ -17,7 +17,7 @@ use crate::members::{
     id_member, optional_flag, optional_reference, optional_text, reference_member, text_member,
     whole_member,
 };
-use crate::names;
+use crate::names::{self, is_word};
 use serde_json::Value;
 use std::alloc::Global;
 use vx_base::OutOfMemory;
@@ -37,9 +37,9 @@ struct Heading {
 fn kind_of(text: &str) -> Option<bool>
     ensures { result ≡ kind_of text.now }
 {
-    if text == "candidate" {
+    if is_word(text, "candidate") {
         Some(false)
-    } else if text == "yesno" {
+    } else if is_word(text, "yesno") {
         Some(true)
     } else {
         None

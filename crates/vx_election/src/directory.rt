@@ -1,6 +1,6 @@
 //! Parties, districts and precincts, and references to them.
 
-ghost use Rattle.std.specs.Prelude.{◌≡◌, ◌≤◌, None, map, length, IfOk};
+ghost use Rattle.std.specs.Prelude.{◌≡◌, ◌≤◌, ◌<◌, ◌^◌, ◌++◌, ◌∷◌, [], None, map, length, IfOk, is_ok, if◌then◌else◌};
 ghost use Rattle.serde_json.specs.View.{view};
 ghost use Rattle.vx_base.specs.Refusals.{Gives};
 ghost use Rattle.vx_election.specs.Faults.{is_no_memory};
@@ -13,6 +13,7 @@ use crate::members::{id_member, text_member};
 use serde_json::Value;
 use std::alloc::Global;
 use std::marker::Model;
+use vx_base::OutOfMemory;
 use vx_election_model::{Named, NamedList};
 use vx_json::{Path, Text};
 
@@ -37,6 +38,34 @@ impl Model for Directory {
 
 impl Directory {
     ghost use Rattle.vx_election_model.specs.Lists.{named_ids};
+
+    /// The empty list; takes no memory.
+    fn new(alloc: Global) -> Self
+        ensures { result ≡ [] }
+    {
+        Directory {
+            list: Vec::new(alloc),
+            ids: Ids::new(alloc),
+        }
+    }
+
+    fn len(&self) -> usize
+        ensures { result ≡ length self.now }
+    {
+        self.list.len()
+    }
+
+    /// Adds an element with an id that isn't there yet at the end.
+    fn push(&mut self, alloc: Global, named: Named) -> Result<(), OutOfMemory>
+        requires few { length self.old < 2 ^ 32 }
+        requires is_new { place_in named.id (named_ids self.old) ≡ None }
+        ensures { self.new ≡ (if is_ok result then self.old ++ named ∷ [] else self.old) }
+    {
+        self.list.reserve(1)?;
+        self.ids.push(alloc, named.id.as_str())?;
+        self.list.push(named).unwrap();
+        Ok(())
+    }
 
     /// The ids of the list.
     pub(crate) fn ids(&self) -> &Ids
@@ -84,13 +113,11 @@ pub(crate) fn directory_of(
     requires { length values.now ≤ 2000 }
     ensures { Gives is_no_memory result (named_list_in path.now (map view values.now)) }
 {
-    let mut list = Vec::new(alloc);
-    let mut ids = Ids::new(alloc);
+    let mut directory = Directory::new(alloc);
     for value in values {
-        let at = path.element(alloc, list.len())?;
-        let named = named_of(alloc, value, &at, &ids)?;
-        ids.push(alloc, named.id.as_str())?;
-        list.push(named)?;
+        let at = path.element(alloc, directory.len())?;
+        let named = named_of(alloc, value, &at, directory.ids())?;
+        directory.push(alloc, named)?;
     }
-    Ok(Directory { list, ids })
+    Ok(directory)
 }

@@ -10,7 +10,7 @@ use vx_base::OutOfMemory as AllocError;
 use vx_json::{JsonFault, Path, Text};
 
 /// The first fault of an election definition. A path names a member, as `contests[2].id`.
-#[derive(Debug, Drop)]
+#[derive(Drop)]
 pub enum ElectionFault {
     /// The bytes aren't JSON in UTF-8.
     NotJson,
@@ -83,5 +83,12 @@ impl fmt::Display for ElectionFault {
             ElectionFault::TooManyCards(count) => write!(f, "9 {count}"),
             ElectionFault::OutOfMemory => f.write_str("out of memory"),
         }
+    }
+}
+
+/// The same text.
+impl fmt::Debug for ElectionFault {
+    fn fmt<W: fmt::Write>(&self, f: &mut fmt::Formatter<W>) -> fmt::Result {
+        fmt::Display::fmt(self, f)
     }
 }

@@ -1,6 +1,6 @@
-//! Names of members of the definition.
+//! Names of members of the definition, and whether a text is a name.
 
-ghost use Rattle.std.specs.Prelude.{◌≡◌};
+ghost use Rattle.std.specs.Prelude.{◌≡◌, bytes_eq};
 ghost use Rattle.vx_election.specs.Names as names;
 
 #[tactic(auto, unfolding(crate::specs::Names::allow_write_ins))]
@@ -29,4 +29,11 @@ pub(crate) fn mark_thousandths() -> &'static str
     ensures { result.now ≡ names.mark_thousandths }
 {
     "vxMarkThousandths"
+}
+
+/// Whether a text is that word.
+pub(crate) fn is_word(text: &str, word: &str) -> bool
+    ensures { result ≡ bytes_eq text.now word.now }
+{
+    text == word
 }

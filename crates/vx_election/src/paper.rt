@@ -7,6 +7,7 @@ ghost use Rattle.vx_election.specs.Faults.{is_no_memory};
 ghost use Rattle.vx_election.specs.Papers.{paper_named, stated_paper_in, paper_in};
 
 use crate::fault::ElectionFault;
+use crate::names::is_word;
 use serde_json::Value;
 use std::alloc::Global;
 use vx_grid::Paper;
@@ -16,9 +17,9 @@ use vx_json::{Path, string_of};
 fn paper_named(text: &str) -> Option<Paper>
     ensures { result ≡ paper_named text.now }
 {
-    if text == "letter" {
+    if is_word(text, "letter") {
         Some(Paper::Letter)
-    } else if text == "legal" {
+    } else if is_word(text, "legal") {
         Some(Paper::Legal)
     } else {
         None

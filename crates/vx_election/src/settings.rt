@@ -9,7 +9,7 @@ ghost use Rattle.vx_election.specs.Settings.{pixels_of, are_in_order, stated_thr
 
 use crate::fault::ElectionFault;
 use crate::members::{list_up_to, whole_member};
-use crate::names;
+use crate::names::{self, is_word};
 use serde_json::Value;
 use std::alloc::Global;
 use vx_election_model::{Reason, ReasonSet};
@@ -84,15 +84,15 @@ pub(crate) fn thresholds_of(alloc: Global, value: &Value) -> Result<Thresholds, 
 fn reason_of(text: &str) -> Option<Reason>
     ensures { result ≡ reason_of text.now }
 {
-    if text == "Overvote" {
+    if is_word(text, "Overvote") {
         Some(Reason::Overvote)
-    } else if text == "Undervote" {
+    } else if is_word(text, "Undervote") {
         Some(Reason::Undervote)
-    } else if text == "MarginalMark" {
+    } else if is_word(text, "MarginalMark") {
         Some(Reason::MarginalMark)
-    } else if text == "BlankBallot" {
+    } else if is_word(text, "BlankBallot") {
         Some(Reason::BlankBallot)
-    } else if text == "WriteIn" {
+    } else if is_word(text, "WriteIn") {
         Some(Reason::WriteIn)
     } else {
         None

@@ -1,9 +1,11 @@
 //! What is asked of a real file, and what the answers of the system are told as.
 
-ghost use Rattle.std.specs.Prelude.{◌≡◌, ◌<◌, IfOk};
+ghost use Rattle.std.specs.Prelude.{◌≡◌, ◌<◌, ◌↔◌, IfOk, IsOk};
+ghost use Rattle.std.specs.Fs.{IsFile, file_type, metadata_len};
 ghost use Rattle.vx_io.specs.Real.{count_told, piece_of, size_told};
 
 use crate::outside::Failed;
+use std::fs::Metadata;
 use std::io;
 use std::io::ErrorKind;
 
@@ -23,6 +25,18 @@ pub(crate) fn piece_of(room: usize, size: u64, at: u64) -> Piece
         from: at,
         count: room.min(size.saturating_sub(at) as usize),
     }
+}
+
+/// The size of a regular file, by what the system says of it. A folder, a pipe and a device have none:
+/// what comes of them isn't a file of 0 bytes.
+pub(crate) fn size_of(found: &Metadata) -> io::Result<u64>
+    ensures regular { IsOk result ↔ IsFile (file_type found.now) }
+    ensures size { IfOk result (λ size. size ≡ metadata_len found.now) }
+{
+    if !found.is_file() {
+        return Err(io::Error::from(ErrorKind::InvalidInput));
+    }
+    Ok(found.len())
 }
 
 /// What the question for a file's size is answered, by what the system said: a file that isn't there

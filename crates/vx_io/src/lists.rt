@@ -6,7 +6,7 @@ use std::marker::Model;
 use vx_base::{Bytes, ListOf};
 
 /// A list of names and the bytes under each; the first pair with a name counts.
-#[derive(Debug, Drop)]
+#[derive(Drop)]
 pub struct NamedBytes {
     items: Vec<(String, Bytes)>,
 }
@@ -106,7 +106,7 @@ pub(crate) fn kept_at(calls: &KeeperCalls, number: Option<u64>) -> Option<bool>
 }
 
 /// A list of byte records.
-#[derive(Debug, Drop)]
+#[derive(Drop)]
 pub struct Records {
     items: Vec<Bytes>,
 }

@@ -8,7 +8,7 @@ use crate::tally::Tally;
 use std::marker::Model;
 
 /// Files in memory, whose listed calls fail.
-#[derive(Debug, Drop)]
+#[derive(Drop)]
 pub struct MemInputs {
     files: NamedBytes,
     fails: Calls,

@@ -10,7 +10,7 @@ use std::marker::Model;
 use vx_base::Bytes;
 
 /// A keeper in memory, whose listed calls fail.
-#[derive(Debug, Drop)]
+#[derive(Drop)]
 pub struct MemKeeper {
     records: Records,
     fails: KeeperCalls,

@@ -10,7 +10,7 @@ use std::marker::Model;
 use vx_base::Bytes;
 
 /// A sink in memory with room for so many bytes, whose listed calls fail.
-#[derive(Debug, Drop)]
+#[derive(Drop)]
 pub struct MemSink {
     bytes: Vec<u8>,
     room: usize,

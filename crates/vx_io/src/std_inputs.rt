@@ -2,11 +2,11 @@ ghost use Rattle.std.specs.Prelude.{◌≡◌, ◌<◌, ◌≤◌, None, IfOk, l
 ghost use Rattle.vx_io.specs.Fakes.{raised};
 ghost use Rattle.vx_io.specs.Outside.{CountsFaults, IsSameBehind, IsSizeOf, ReadsFrom};
 
-use crate::answers::{count_told, piece_of, size_told};
+use crate::answers::{count_told, piece_of, size_of, size_told};
 use crate::outside::{Failed, Inputs};
 use crate::tally::count_fault;
 use std::fs::OpenFile;
-use std::io::{ErrorKind, Read, Seek, SeekFrom};
+use std::io::{Read, Seek, SeekFrom};
 use std::marker::Model;
 use std::rt::Files;
 use std::{fs, io};
@@ -34,14 +34,12 @@ impl<'r, R: Files> StdInputs<'r, R> {
     }
 }
 
-/// The size of a regular file that can be opened. A folder, a pipe and a device have none.
+/// The size of a regular file that can be opened. A path that leads to anything else isn't opened:
+/// that could wait forever.
 fn size_of_file<R: Files>(rt: &R, path: &str) -> io::Result<u64> {
-    let found = fs::metadata(rt, path)?;
-    if !found.is_file() {
-        return Err(io::Error::from(ErrorKind::InvalidInput));
-    }
+    let _size = size_of(&fs::metadata(rt, path)?)?;
     let file = fs::open(rt, path)?;
-    Ok(file.metadata()?.len())
+    size_of(&file.metadata()?)
 }
 
 /// Reads a file from an offset on into the front of a buffer, as far as both reach, and answers how

@@ -4,7 +4,7 @@ ghost use Rattle.vx_io.specs.Outside.{CountsFaults};
 
 /// How often the outside in memory was called, and how many faults it counted. Both stand still at
 /// their last value.
-#[derive(Clone, Copy, Debug)]
+#[derive(Clone, Copy)]
 pub struct Tally {
     pub calls: u64,
     pub faults: u64,

@@ -4,7 +4,7 @@ use std::alloc::{AllocError, Global};
 use std::marker::Model;
 
 /// The words of a command, in order.
-#[derive(Debug, Drop)]
+#[derive(Drop)]
 pub struct Words {
     texts: Vec<String>,
 }

@@ -6,7 +6,7 @@ use vx_grid::{Paper, Point};
 
 /// Why a reading is no certificate of a scan: the first test that fails, in the
 /// order of `specs/Tests.antt` of `vx_check`.
-#[derive(Clone, Copy, Debug, PartialEq, Eq)]
+#[derive(Clone, Copy, PartialEq, Eq)]
 pub enum CheckFault {
     /// Timing mark `k` isn't at its said place: so many pixels are wrong there.
     MarkAt(u32, Point, u32),
@@ -81,5 +81,12 @@ impl fmt::Display for CheckFault {
                 write!(f, "8 {said}")
             }
         }
+    }
+}
+
+/// The same text.
+impl fmt::Debug for CheckFault {
+    fn fmt<W: fmt::Write>(&self, f: &mut fmt::Formatter<W>) -> fmt::Result {
+        fmt::Display::fmt(self, f)
     }
 }

@@ -2,7 +2,7 @@ use crate::reply::Reply;
 use std::fmt;
 
 /// Why a line of a script is refused.
-#[derive(Clone, Copy, Debug, PartialEq, Eq)]
+#[derive(Clone, Copy, PartialEq, Eq)]
 pub enum DecisionFault {
     /// It leaves the grammar of scripts.
     Bad,
@@ -22,5 +22,12 @@ impl fmt::Display for DecisionFault {
             DecisionFault::Bad => f.write_str("bad"),
             DecisionFault::Refused(reply) => write!(f, "{reply}"),
         }
+    }
+}
+
+/// The same text.
+impl fmt::Debug for DecisionFault {
+    fn fmt<W: fmt::Write>(&self, f: &mut fmt::Formatter<W>) -> fmt::Result {
+        fmt::Display::fmt(self, f)
     }
 }

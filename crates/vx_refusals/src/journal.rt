@@ -2,7 +2,7 @@ use crate::reply::Reply;
 use std::fmt;
 
 /// Why a journal's record stops its reading.
-#[derive(Clone, Copy, Debug, PartialEq, Eq)]
+#[derive(Clone, Copy, PartialEq, Eq)]
 pub enum JournalStop {
     /// It is no record; so many of its bytes begin one.
     Bad(u32),
@@ -28,5 +28,12 @@ impl fmt::Display for JournalStop {
             JournalStop::OtherElection => f.write_str("other election"),
             JournalStop::Unfit => f.write_str("unfit"),
         }
+    }
+}
+
+/// The same text.
+impl fmt::Debug for JournalStop {
+    fn fmt<W: fmt::Write>(&self, f: &mut fmt::Formatter<W>) -> fmt::Result {
+        fmt::Display::fmt(self, f)
     }
 }

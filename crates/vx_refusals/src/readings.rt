@@ -2,7 +2,7 @@ use crate::checking::CheckFault;
 use std::fmt;
 
 /// Why a text of readings isn't certified. Pages and lines are counted from 1.
-#[derive(Clone, Copy, Debug, PartialEq, Eq)]
+#[derive(Clone, Copy, PartialEq, Eq)]
 pub enum CertFault {
     /// The reading of that page is no certificate of it.
     Page(u32, CheckFault),
@@ -25,5 +25,12 @@ impl fmt::Display for CertFault {
             CertFault::Line(line) => write!(f, "line {line}"),
             CertFault::Pages(said, held) => write!(f, "pages {said} {held}"),
         }
+    }
+}
+
+/// The same text.
+impl fmt::Debug for CertFault {
+    fn fmt<W: fmt::Write>(&self, f: &mut fmt::Formatter<W>) -> fmt::Result {
+        fmt::Display::fmt(self, f)
     }
 }

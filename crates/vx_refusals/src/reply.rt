@@ -1,7 +1,7 @@
 use std::fmt;
 
 /// What is answered to an event. All but the first are refusals, which change nothing.
-#[derive(Clone, Copy, Debug, PartialEq, Eq)]
+#[derive(Clone, Copy, PartialEq, Eq)]
 pub enum Reply {
     /// The event is kept.
     Done,
@@ -48,5 +48,12 @@ impl fmt::Display for Reply {
             Reply::NoWriteIn(slot) => write!(f, "9 no write-in {slot}"),
             Reply::Full(most) => write!(f, "10 full {most}"),
         }
+    }
+}
+
+/// The same text.
+impl fmt::Debug for Reply {
+    fn fmt<W: fmt::Write>(&self, f: &mut fmt::Formatter<W>) -> fmt::Result {
+        fmt::Display::fmt(self, f)
     }
 }

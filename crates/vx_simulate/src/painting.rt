@@ -125,14 +125,6 @@ fn paint_inks(page: &mut BitPage, plan: &PagePlan, inks: &[Ink])
     }
 }
 
-/// A copy of a page.
-fn copied(alloc: Global, page: &BitPage) -> Result<BitPage, OutOfMemory>
-    ensures { IfOk result (λ copy. copy ≡ page.now) }
-{
-    let rows = Vec::from_slice(alloc, page.view().rows())?;
-    Ok(BitPage::from_rows(page.width(), page.height(), rows))
-}
-
 /// A copy of the printed page with the ink of each bubble added.
 pub(crate) fn inked_paper(
     alloc: Global,
@@ -144,7 +136,7 @@ pub(crate) fn inked_paper(
     ensures { IfOk result (λ paper. paper
         ≡ page_of page.now.width page.now.height (inked plan.now inks.now (dark_at page.now))) }
 {
-    let mut paper = copied(alloc, page)?;
+    let mut paper = page.copy(alloc)?;
     paint_inks(&mut paper, plan, inks);
     Ok(paper)
 }

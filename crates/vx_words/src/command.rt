@@ -3,7 +3,7 @@ use vx_grid::Kind;
 use vx_json::{Text, Texts};
 
 /// What the words ask for.
-#[derive(Debug, Drop)]
+#[derive(Drop)]
 pub enum Command {
     /// Write the pages of a card, as ballots of a kind.
     Print {
@@ -97,7 +97,7 @@ pub enum Command {
 }
 
 /// An item of a count, as a word names it.
-#[derive(Debug, Drop)]
+#[derive(Drop)]
 pub enum ItemWord {
     /// A station's script, by its name: `script:NAME`.
     Script { name: Text },

@@ -1,9 +1,16 @@
-ghost use Rattle.std.specs.Prelude.{◌≡◌, ◌≢◌, Bool, MatchOption};
+ghost use Rattle.std.specs.Prelude.{◌≡◌, ◌≢◌, Bool, MatchOption, bytes_eq};
 ghost use Rattle.vx_grid.specs.declared.kind.Kind.{Kind as KindOf};
 ghost use Rattle.vx_grid.specs.declared.kind.Kind.TheVariants.{Other};
 ghost use Rattle.vx_grid.specs.Kinds.{kind_name, kind_word};
 
 use vx_grid::Kind;
+
+/// Whether a word is that one.
+fn is_word(word: &str, other: &str) -> bool
+    ensures { result ≡ bytes_eq word.now other.now }
+{
+    word == other
+}
 
 /// The kind that a word names, but `other`, which no command takes.
 fn plain_kind(word: &str) -> Option<Kind>
@@ -11,11 +18,11 @@ fn plain_kind(word: &str) -> Option<Kind>
         ((kind : KindOf) → kind ≢ Other → word.now ≢ kind_name kind)
         (λ kind. (kind ≢ Other) × (word.now ≡ kind_name kind)) }
 {
-    if word == "precinct" {
+    if is_word(word, "precinct") {
         Some(Kind::Precinct)
-    } else if word == "absentee" {
+    } else if is_word(word, "absentee") {
         Some(Kind::Absentee)
-    } else if word == "provisional" {
+    } else if is_word(word, "provisional") {
         Some(Kind::Provisional)
     } else {
         None

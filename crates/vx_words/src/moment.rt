@@ -1,9 +1,10 @@
 //! Moments and devices among the words.
 
-ghost use Rattle.std.specs.Prelude.{◌≡◌, ◌≢◌, None, IfOk, OnErr, is_some};
+ghost use Rattle.std.specs.Prelude.{◌≡◌, ◌≢◌, ◌≤◌, None, IfOk, OnErr, is_some};
 ghost use Rattle.vx_words.specs.Moments.{has_clock_form, is_clock_time, is_moment};
 ghost use Rattle.vx_words.specs.Devices.{device_of};
 
+use jiff::civil::Time;
 use std::alloc::{AllocError, Global};
 use uuid::Uuid;
 use vx_election_model::{are_digits, is_date, number_at};
@@ -23,9 +24,12 @@ fn has_clock_form(text: &[u8]) -> bool
 }
 
 fn is_clock_time(hour: u32, minute: u32, second: u32) -> bool
+    requires hour { hour ≤ 99 }
+    requires minute { minute ≤ 99 }
+    requires second { second ≤ 99 }
     ensures { result ≡ is_clock_time hour minute second }
 {
-    hour < 24 && minute < 60 && second < 60
+    Time::new(hour as i8, minute as i8, second as i8, 0).is_ok()
 }
 
 /// Whether a text is a moment, `YYYY-MM-DDTHH:MM:SSZ`: a day of the calendar, and a time of it with
