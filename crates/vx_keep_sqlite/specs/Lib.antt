@@ -1,2 +1,4 @@
 pub mod OnFile
 pub mod Refusals
+pub mod Sealed
+pub mod Statements

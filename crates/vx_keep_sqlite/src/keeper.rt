@@ -1,10 +1,11 @@
-ghost use Rattle.std.specs.Prelude.{◌≡◌, ◌<◌, [], None, Err, IfOk, OnOk, OnErr, nat_lt, if◌then◌else◌};
+ghost use Rattle.std.specs.Prelude.{◌≡◌, ◌<◌, [], None, Err, IfOk, IsTrue, OnOk, OnErr, nat_lt, true, false, if◌then◌else◌};
 ghost use Rattle.vx_io.specs.Fakes.{raised};
 ghost use Rattle.vx_io.specs.Keeping.{has_failed};
 ghost use Rattle.vx_io.specs.Outside.{Appends, CountsFaults, IsCountOf, IsRecordAt, MayAppend};
 
+use crate::file::{Act, JournalFile};
 use crate::refusal::told;
-use crate::table::JournalFile;
+use sqlite::{File, FileStore};
 use std::alloc::AllocError;
 use std::marker::Model;
 use std::rt::HostRuntime;
@@ -16,7 +17,8 @@ use vx_io::{Keeper, KeeperError, count_fault};
 #[derive(Drop)]
 pub struct SqliteKeeper<'r> {
     rt: &'r HostRuntime,
-    file: JournalFile,
+    file: JournalFile<FileStore<File>>,
+    only_reads: bool,
     faults: u64,
 }
 
@@ -25,18 +27,33 @@ impl<'r> Model for SqliteKeeper<'r> {
 
     ghost Value = { OnFile };
 
-    ghost view = { λ keeper. record { path = keeper.file; faults = keeper.faults } };
+    ghost view = { λ keeper. record { file = record { path = keeper.file; only_reads = keeper.only_reads }; faults = keeper.faults } };
 }
 
 impl<'r> SqliteKeeper<'r> {
-    /// The keeper of the file at a path, which is opened at the first call. It takes memory for the
-    /// path alone.
+    /// The keeper of the file at a path, which is opened, or made, at the first call. It takes memory for
+    /// the path alone.
     pub fn new(rt: &'r HostRuntime, path: &str) -> Result<SqliteKeeper<'r>, AllocError>
-        ensures { IfOk result (λ keeper. keeper ≡ record { path = path.now; faults = 0 }) }
+        ensures { IfOk result (λ keeper. keeper ≡ record { file = record { path = path.now; only_reads = false }; faults = 0 }) }
+    {
+        SqliteKeeper::at(rt, path, false)
+    }
+
+    /// The keeper of a file that is only read: neither it nor its log is written, and none is made. It
+    /// takes no record.
+    pub fn reading(rt: &'r HostRuntime, path: &str) -> Result<SqliteKeeper<'r>, AllocError>
+        ensures { IfOk result (λ keeper. keeper ≡ record { file = record { path = path.now; only_reads = true }; faults = 0 }) }
+    {
+        SqliteKeeper::at(rt, path, true)
+    }
+
+    fn at(rt: &'r HostRuntime, path: &str, only_reads: bool) -> Result<SqliteKeeper<'r>, AllocError>
+        ensures { IfOk result (λ keeper. keeper ≡ record { file = record { path = path.now; only_reads = only_reads }; faults = 0 }) }
     {
         Ok(SqliteKeeper {
             rt,
             file: JournalFile::new(rt.alloc(), path)?,
+            only_reads,
             faults: 0,
         })
     }
@@ -47,7 +64,38 @@ impl<'r> SqliteKeeper<'r> {
     {
         self.faults > 0
     }
+
+    /// Asks the file, unless there was a fault before, and counts one. No other call names the store of a
+    /// file, whose clauses make a proof dear.
+    fn act(&mut self, act: Act<'_>) -> Result<u64, KeeperError>
+        ensures cause { CountsFaults (has_failed result) self.old.faults self.new.faults }
+        ensures counted { self.new.faults ≡ (if has_failed result then raised self.old.faults else self.old.faults) }
+        ensures given_up { 0 < self.old.faults → result ≡ Err KeeperError.Failed }
+        ensures path { self.new.file ≡ self.old.file }
+    {
+        let done = if self.has_given_up() {
+            Err(KeeperError::Failed)
+        } else {
+            told(self.file.act(self.rt, self.only_reads, act))
+        };
+        count_fault(&mut self.faults, done == Err(KeeperError::Failed));
+        done
+    }
+
+    /// Refuses a record of a journal that is only read, which is a fault.
+    fn refuse(&mut self) -> Result<(), KeeperError>
+        ensures failed { result ≡ Err KeeperError.Failed }
+        ensures cause { CountsFaults (has_failed result) self.old.faults self.new.faults }
+        ensures counted { self.new.faults ≡ raised self.old.faults }
+        ensures path { self.new.file ≡ self.old.file }
+    {
+        count_fault(&mut self.faults, true);
+        Err(KeeperError::Failed)
+    }
 }
+
+/// Lets a keeper go. That this is safe is proved here; a crate that calls it needn't prove it again.
+pub fn drop_keeper(_keeper: SqliteKeeper<'_>) {}
 
 impl Keeper for SqliteKeeper<'_> {
     ghost held = { λ _. None };
@@ -59,15 +107,9 @@ impl Keeper for SqliteKeeper<'_> {
         ensures cause { CountsFaults (has_failed result) self.old.faults self.new.faults }
         ensures counted { self.new.faults ≡ (if has_failed result then raised self.old.faults else self.old.faults) }
         ensures given_up { 0 < self.old.faults → result ≡ Err KeeperError.Failed }
-        ensures path { self.new.path ≡ self.old.path }
+        ensures path { self.new.file ≡ self.old.file }
     {
-        let counted = if self.has_given_up() {
-            Err(KeeperError::Failed)
-        } else {
-            told(self.file.count(self.rt))
-        };
-        count_fault(&mut self.faults, counted == Err(KeeperError::Failed));
-        counted
+        self.act(Act::Count)
     }
 
     fn fetch(&mut self, index: u64, into: &mut Bytes) -> Result<(), KeeperError>
@@ -76,35 +118,33 @@ impl Keeper for SqliteKeeper<'_> {
         ensures cause { CountsFaults (has_failed result) self.old.faults self.new.faults }
         ensures counted { self.new.faults ≡ (if has_failed result then raised self.old.faults else self.old.faults) }
         ensures given_up { 0 < self.old.faults → result ≡ Err KeeperError.Failed }
-        ensures path { self.new.path ≡ self.old.path }
+        ensures path { self.new.file ≡ self.old.file }
     {
         into.clear();
-        let fetched = if self.has_given_up() {
-            Err(KeeperError::Failed)
-        } else {
-            told(self.file.fetch(self.rt, index, into))
-        };
-        if fetched.is_err() {
-            into.clear();
+        match self.act(Act::Fetch { index, into }) {
+            Ok(_) => Ok(()),
+            Err(refused) => {
+                into.clear();
+                Err(refused)
+            }
         }
-        count_fault(&mut self.faults, fetched == Err(KeeperError::Failed));
-        fetched
     }
 
     fn append(&mut self, body: &[u8]) -> Result<(), KeeperError>
         ensures appended { OnOk result (Appends None None body.now) }
         ensures failed { result ≡ Err KeeperError.Failed → MayAppend None None body.now }
+        ensures sealed { IsTrue self.old.file.only_reads → result ≡ Err KeeperError.Failed }
         ensures cause { CountsFaults (has_failed result) self.old.faults self.new.faults }
         ensures counted { self.new.faults ≡ (if has_failed result then raised self.old.faults else self.old.faults) }
         ensures given_up { 0 < self.old.faults → result ≡ Err KeeperError.Failed }
-        ensures path { self.new.path ≡ self.old.path }
+        ensures path { self.new.file ≡ self.old.file }
     {
-        let kept = if self.has_given_up() {
-            Err(KeeperError::Failed)
-        } else {
-            told(self.file.append(self.rt, body))
-        };
-        count_fault(&mut self.faults, kept == Err(KeeperError::Failed));
-        kept
+        if self.only_reads {
+            return self.refuse();
+        }
+        match self.act(Act::Append { body }) {
+            Ok(_) => Ok(()),
+            Err(refused) => Err(refused),
+        }
     }
 }

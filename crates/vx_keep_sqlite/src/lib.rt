@@ -8,10 +8,18 @@
 //! A record is one transaction, on the disk when `append` answers: the file is in SQLite's mode
 //! `journal_mode = wal` with `synchronous = FULL`. New records stand in the log beside the file,
 //! whose name ends in `-wal`, until they are copied into it: both belong together.
+//!
+//! A keeper that `reading` makes takes no record: the file and its log are read into memory, while nobody
+//! writes them, and nothing is written to them or beside them (`sealed.rt`, `shelf.rt`). What SQLite is
+//! asked stands in `statements.rt` and `specs/Statements.antt`.
 #![tactic(auto)]
 
+mod file;
 mod keeper;
 mod refusal;
+mod sealed;
+mod shelf;
+mod statements;
 mod table;
 
-pub use keeper::SqliteKeeper;
+pub use keeper::{SqliteKeeper, drop_keeper};

@@ -8,7 +8,7 @@ use sqlite_resolve::CompileError;
 use vx_io::KeeperError;
 
 /// What refused a statement or an opening: want of memory, or the device.
-fn refusal(error: Error) -> KeeperError
+pub(crate) fn refusal(error: Error) -> KeeperError
     ensures { result ≡ refusal_of error }
 {
     match error {

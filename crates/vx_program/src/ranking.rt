@@ -1,11 +1,61 @@
 ghost use Rattle.std.specs.Prelude.{◌≡◌, ◌⊎◌};
 ghost use Rattle.vx_command_ranked.specs.Words.{NoRanked};
 
-use crate::journal::{empty_journal, is_in_memory};
+use crate::journal::{Place, empty_journal, file_journal, place_of};
 use vx_command::Halt;
 use vx_command_ranked::{RankedStatus, run_ranked};
-use vx_io::{StdInputs, StdSink, Words};
-use vx_keep_sqlite::SqliteKeeper;
+use vx_io::{Sink, StdInputs, StdSink, Words};
+use vx_keep_sqlite::drop_keeper;
+
+/// Does the command `ranked` with a journal in memory, which is empty.
+fn rank_in_memory<S: Sink>(rt: &HostRuntime, words: &Words, out: &mut S) -> RankedStatus
+    ensures usage { result ≡ RankedStatus.Usage → NoRanked words.now }
+    ensures no_command { NoRanked words.now →
+        (result ≡ RankedStatus.Usage) ⊎ (result ≡ RankedStatus.Halted Halt.NoMemory) }
+{
+    let mut inputs = StdInputs::new(rt);
+    let mut keeper = empty_journal(rt);
+    run_ranked(rt.alloc(), words, &mut inputs, out, &mut keeper)
+}
+
+/// Does it with the journal in the file of this name, which is only read.
+fn rank_on_file<S: Sink>(
+    rt: &HostRuntime,
+    journal: &str,
+    words: &Words,
+    out: &mut S,
+) -> RankedStatus
+    ensures usage { result ≡ RankedStatus.Usage → NoRanked words.now }
+    ensures no_command { NoRanked words.now →
+        (result ≡ RankedStatus.Usage) ⊎ (result ≡ RankedStatus.Halted Halt.NoMemory) }
+{
+    let mut inputs = StdInputs::new(rt);
+    match file_journal(rt, journal, true) {
+        Ok(mut keeper) => {
+            let status = run_ranked(rt.alloc(), words, &mut inputs, out, &mut keeper);
+            drop_keeper(keeper);
+            status
+        }
+        Err(_refused) => RankedStatus::Halted(Halt::NoMemory),
+    }
+}
+
+/// Does the command `ranked` with the journal of this name, and writes to a sink, as `run_into` does.
+pub fn rank_into<S: Sink>(
+    rt: &HostRuntime,
+    journal: &str,
+    words: &Words,
+    out: &mut S,
+) -> RankedStatus
+    ensures usage { result ≡ RankedStatus.Usage → NoRanked words.now }
+    ensures no_command { NoRanked words.now →
+        (result ≡ RankedStatus.Usage) ⊎ (result ≡ RankedStatus.Halted Halt.NoMemory) }
+{
+    match place_of(rt, journal, true) {
+        Place::Memory => rank_in_memory(rt, words, out),
+        Place::ReadFile | Place::File => rank_on_file(rt, journal, words, out),
+    }
+}
 
 /// Does the command `ranked` with the journal of this name, as `run_with` does the others.
 ///
@@ -15,14 +65,6 @@ pub fn rank_with(rt: &HostRuntime, journal: &str, words: &Words) -> RankedStatus
     ensures no_command { NoRanked words.now →
         (result ≡ RankedStatus.Usage) ⊎ (result ≡ RankedStatus.Halted Halt.NoMemory) }
 {
-    let mut inputs = StdInputs::new(rt);
     let mut out = StdSink::new(rt);
-    if is_in_memory(rt, journal, words) {
-        let mut keeper = empty_journal(rt);
-        return run_ranked(rt.alloc(), words, &mut inputs, &mut out, &mut keeper);
-    }
-    match SqliteKeeper::new(rt, journal) {
-        Ok(mut keeper) => run_ranked(rt.alloc(), words, &mut inputs, &mut out, &mut keeper),
-        Err(_refused) => RankedStatus::Halted(Halt::NoMemory),
-    }
+    rank_into(rt, journal, words, &mut out)
 }
