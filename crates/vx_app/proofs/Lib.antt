@@ -1,4 +1,5 @@
 pub mod Moving
+mod Calls
 mod Centered
 mod Journals
 mod Named

@@ -70,6 +70,21 @@ pub record IsRun (election : Election) (records : List (List ℕ)) (some : Run) 
   pub done : IsDoneOf some.command some.files records some.taken some.taken_now (Some some.left) some.answer
   pub held : appends some.command ≡ false → Some some.left ≡ Some records
 
+-- a call that is a run for an election over records: the keeper holds what it left
+pub record IsRunOver (election : Election) (records words : List (List ℕ)) (command : Command) (files : Files)
+    (taken taken_now : Taken) (held_now : Held) (answer : Answer) : Type 0 where
+  pub left : List (List ℕ)
+  pub holds : held_now ≡ Some left
+  pub is_run : IsRun election records (record {
+    words = words;
+    command = command;
+    files = files;
+    taken = taken;
+    taken_now = taken_now;
+    left = left;
+    answer = answer;
+  })
+
 -- runs for one election, one after another: each over the records that the one before left
 abbrev pub AreRuns : Election → List (List ℕ) → List Run → List (List ℕ) → Type 0
 AreRuns election records [] left = left ≡ records

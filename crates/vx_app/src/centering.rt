@@ -14,7 +14,7 @@ ghost use Rattle.vx_journal.specs.Replay.{replay_of};
 ghost use Rattle.vx_words.specs.declared.command.ItemWord.{ItemWord};
 ghost use Rattle.vx_words.specs.Words.{Spells};
 ghost use Rattle.vx_app.specs.Adding.{CenterAddsWhatFits};
-ghost use Rattle.vx_app.specs.Journals.{HoldsMore, IsNamed};
+ghost use Rattle.vx_app.specs.Journals.{HoldsMore, IsNamed, IsRunOver};
 ghost use Rattle.vx_app.specs.Runs.{NamesCenter, NoCenter};
 
 use crate::laws::fitting_sheets_are_in_their_items;
@@ -158,7 +158,17 @@ pub fn run_center<R: Threads + Wait + Sync, I: Inputs, S: Sink, K: Keeper, G: Ga
         (records : List (List ℕ)) → K.held keeper.old ≡ Some records →
         (events : List Event) → replay_of election records ≡ Ok events →
         HoldsMore election events (K.held keeper.new) }
-    // Where it ends well, the last text that was written is the report of exactly the kept events.
+    // So the call is a run, of which the laws on lists of runs speak.
+    ensures a_run { (files : Files) → I.held inputs.old ≡ Some files →
+        (name moment device : List ℕ) (items : List ItemWord) →
+        Spells words.now (Command.Center name moment device items) →
+        (election : Election) → IsNamed name files election →
+        (records : List (List ℕ)) → K.held keeper.old ≡ Some records →
+        IsRunOver election records words.now (Command.Center name moment device items) files
+        (S.taken out.old) (S.taken out.new) (K.held keeper.new) (answer_of result) }
+    // Where it ends well, the last text that was written is the report of exactly the kept events, as that of an
+    // `export` is: their sheets' marks as they were read, with the last decisions applied, without any contest
+    // that has a reason and no decision.
     ensures reported { (files : Files) → I.held inputs.old ≡ Some files →
         (election moment device : List ℕ) (items : List ItemWord) →
         Spells words.now (Command.Center election moment device items) →

@@ -17,7 +17,7 @@ ghost use Rattle.vx_words.specs.declared.command.Command.{Command as CommandOf};
 ghost use Rattle.vx_words.specs.Words.{IsSound, Spells};
 ghost use Rattle.vx_app.specs.Outcome.{appends, inputs_of, outcome_of, takes_first, uses_keeper};
 ghost use Rattle.vx_app.specs.Counting.{IsCount};
-ghost use Rattle.vx_app.specs.Journals.{HoldsMore, IsFor};
+ghost use Rattle.vx_app.specs.Journals.{HoldsMore, IsFor, IsNamed, IsRunOver};
 ghost use Rattle.vx_app.specs.Runs.{NoRun, SpellsRun, is_run};
 
 use crate::centering::is_center;
@@ -43,28 +43,31 @@ use vx_journal::{fronts_are_journals, journals_stay};
 use vx_words::{Command, UsageFault, parse, words_spell_one_command};
 use vx_workers::{Gate, OpenGate};
 
+/// Lets a command go.
+fn drop_command(_command: Command) {}
+
 /// Does a command; the workers of `count` go through the gate.
 fn obey<R: Threads + Sync, I: Inputs, S: Sink, K: Keeper, G: Gate>(
     rt: &R,
     alloc: Global,
-    command: Command,
+    command: &Command,
     inputs: &mut I,
     out: &mut S,
     keeper: &mut K,
     gate: &G,
 ) -> Result<(), Halt>
-    requires sound { (device : List ℕ) × IsSound device command }
-    requires is_run { is_run command ≡ true }
+    requires sound { (device : List ℕ) × IsSound device command.now }
+    requires is_run { is_run command.now ≡ true }
     ensures done { (files : Files) → I.held inputs.old ≡ Some files →
-        (records : List (List ℕ)) → (uses_keeper command ≡ true → K.held keeper.old ≡ Some records) →
-        IsDone (outcome_of command files records)
+        (records : List (List ℕ)) → (uses_keeper command.now ≡ true → K.held keeper.old ≡ Some records) →
+        IsDone (outcome_of command.now files records)
         (S.taken out.old) (S.taken out.new) (K.held keeper.old) (K.held keeper.new) result }
-    ensures nothing_written { writes_nothing (takes_first command) result ≡ true →
+    ensures nothing_written { writes_nothing (takes_first command.now) result ≡ true →
         S.taken out.new ≡ S.taken out.old }
     ensures devices { LeavesDevices I.Inputs S.Sink K.Keeper inputs.old inputs.new out.old out.new
         keeper.old keeper.new result }
-    ensures asked { Asks I.Inputs (inputs_of command) inputs.old inputs.new (is_ok result) }
-    ensures keeper_held { appends command ≡ false → K.held keeper.new ≡ K.held keeper.old }
+    ensures asked { Asks I.Inputs (inputs_of command.now) inputs.old inputs.new (is_ok result) }
+    ensures keeper_held { appends command.now ≡ false → K.held keeper.new ≡ K.held keeper.old }
 {
     asks_in_order::<I>();
     match command {
@@ -76,11 +79,15 @@ fn obey<R: Threads + Sync, I: Inputs, S: Sink, K: Keeper, G: Gate>(
         } => print(
             alloc,
             election.as_str(),
-            Ballot { card, kind, test },
+            Ballot {
+                card: *card,
+                kind: *kind,
+                test: *test,
+            },
             inputs,
             out,
         ),
-        Command::Read { election, scans } => read(alloc, election.as_str(), &scans, inputs, out),
+        Command::Read { election, scans } => read(alloc, election.as_str(), scans, inputs, out),
         Command::Check {
             election,
             scans,
@@ -103,8 +110,8 @@ fn obey<R: Threads + Sync, I: Inputs, S: Sink, K: Keeper, G: Gate>(
             alloc,
             election.as_str(),
             batch.as_str(),
-            workers,
-            &scans,
+            *workers,
+            scans,
             inputs,
             out,
             keeper,
@@ -132,10 +139,10 @@ fn obey<R: Threads + Sync, I: Inputs, S: Sink, K: Keeper, G: Gate>(
             out,
             keeper,
         ),
-        Command::Demo { seed, sheets } => demo(rt, alloc, seed, sheets, out),
+        Command::Demo { seed, sheets } => demo(rt, alloc, *seed, *sheets, out),
         Command::Center { .. } => unreachable!(),
         Command::Try { election, scans } => {
-            try_sheets(alloc, election.as_str(), &scans, inputs, out)
+            try_sheets(alloc, election.as_str(), scans, inputs, out)
         }
         Command::Cards { election } => cards(alloc, election.as_str(), inputs, out),
         Command::Results { election } => results(alloc, election.as_str(), inputs, out, keeper),
@@ -148,7 +155,7 @@ fn obey<R: Threads + Sync, I: Inputs, S: Sink, K: Keeper, G: Gate>(
             alloc,
             election.as_str(),
             seed.as_str(),
-            size,
+            *size,
             hand.as_str(),
             inputs,
             out,
@@ -162,7 +169,7 @@ fn obey<R: Threads + Sync, I: Inputs, S: Sink, K: Keeper, G: Gate>(
             alloc,
             election.as_str(),
             batch.as_str(),
-            &scans,
+            scans,
             inputs,
             out,
             keeper,
@@ -209,7 +216,11 @@ fn run_words<R: Threads + Sync, I: Inputs, S: Sink, K: Keeper, G: Gate>(
     match parse(alloc, words) {
         Err(UsageFault::OutOfMemory) => Status::Halted(Halt::NoMemory),
         Err(UsageFault::Usage) => Status::Usage,
-        Ok(command) => status_of(obey(rt, alloc, command, inputs, out, keeper, gate)),
+        Ok(command) => {
+            let done = obey(rt, alloc, &command, inputs, out, keeper, gate);
+            drop_command(command);
+            status_of(done)
+        }
     }
 }
 
@@ -282,6 +293,13 @@ pub fn run<R: Threads + Sync, I: Inputs, S: Sink, K: Keeper>(
         (records : List (List ℕ)) → K.held keeper.old ≡ Some records →
         (events : List Event) → replay_of election records ≡ Ok events →
         HoldsMore election events (K.held keeper.new) }
+    // So the call is a run, of which the laws on lists of runs speak.
+    ensures a_run { (files : Files) → I.held inputs.old ≡ Some files →
+        (command : CommandOf) → SpellsRun words.now command →
+        (election : Election) → IsFor command files election →
+        (records : List (List ℕ)) → K.held keeper.old ≡ Some records →
+        IsRunOver election records words.now command files
+        (S.taken out.old) (S.taken out.new) (K.held keeper.new) (answer_of result) }
     // An `export` that ends well has written the report of exactly the kept events: their sheets' marks as
     // they were read, with the last decisions applied, without any contest that has a reason and no decision.
     ensures exported { (files : Files) → I.held inputs.old ≡ Some files →
@@ -337,6 +355,36 @@ pub fn run_count<R: Threads + Sync, I: Inputs, S: Sink, K: Keeper, G: Gate>(
     ensures asked { (election batch : List ℕ) (workers : ℕ) (scans : List (List ℕ)) →
         Spells words.now (Command.Count election batch workers scans) →
         Asks I.Inputs (election ∷ scans) inputs.old inputs.new (is_ok (answer_of result)) }
+    // Of each two images that fit the front and the back of a card with some marks, as they lie or turned, in
+    // either order, the record of that sheet with those marks is kept, where its key is new.
+    ensures margin_of_count { (files : Files) → I.held inputs.old ≡ Some files →
+        (election batch : List ℕ) (workers : ℕ) (scans : List (List ℕ)) →
+        Spells words.now (Command.Count election batch workers scans) →
+        (records : List (List ℕ)) → K.held keeper.old ≡ Some records →
+        CountKeepsWhatFits election batch scans files records
+        (K.held keeper.old) (K.held keeper.new) (answer_of result) }
+    // Whatever the status, a journal of the election stays one, which keeps the events that it kept, and perhaps
+    // more behind them.
+    ensures journal_kept { (files : Files) → I.held inputs.old ≡ Some files →
+        (name batch : List ℕ) (workers : ℕ) (scans : List (List ℕ)) →
+        Spells words.now (Command.Count name batch workers scans) →
+        (election : Election) → IsNamed name files election →
+        (records : List (List ℕ)) → K.held keeper.old ≡ Some records →
+        (events : List Event) → replay_of election records ≡ Ok events →
+        HoldsMore election events (K.held keeper.new) }
+    ensures a_run { (files : Files) → I.held inputs.old ≡ Some files →
+        (name batch : List ℕ) (workers : ℕ) (scans : List (List ℕ)) →
+        Spells words.now (Command.Count name batch workers scans) →
+        (election : Election) → IsNamed name files election →
+        (records : List (List ℕ)) → K.held keeper.old ≡ Some records →
+        IsRunOver election records words.now (Command.Count name batch workers scans) files
+        (S.taken out.old) (S.taken out.new) (K.held keeper.new) (answer_of result) }
 {
+    fitting_sheets_are_kept();
+    count_keeps_journals();
+    decide_keeps_journals();
+    center_keeps_journals();
+    journals_stay();
+    fronts_are_journals();
     run_words(rt, alloc, words, inputs, out, keeper, gate)
 }

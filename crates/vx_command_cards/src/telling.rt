@@ -23,7 +23,7 @@ use crate::texts::list_flaws;
 use std::alloc::Global;
 use vx_base::{Bytes, OutOfMemory};
 use vx_command::{Halt, acts_in_order, asks_in_order, steps_in_order, take_election, write_text};
-use vx_election_model::Election;
+use vx_election_model::{Election, drop_election};
 use vx_io::{Inputs, Sink};
 
 /// The lines of all kinds.
@@ -127,5 +127,7 @@ pub fn cards<I: Inputs, S: Sink>(
     asks_in_order::<I>();
     steps_in_order::<Election>();
     let given = take_election(alloc, inputs, election)?;
-    write_cards(alloc, &given, out)
+    let done = write_cards(alloc, &given, out);
+    drop_election(given);
+    done
 }

@@ -10,7 +10,7 @@ use Rattle.vx_election_model.specs.Valid.{IsValid}
 use Rattle.vx_events.specs.declared.event.Event.{Event}
 use Rattle.vx_layout.specs.declared.plan.CardPlan.{CardPlan}
 use Rattle.vx_refusals.specs.declared.journal.JournalStop.{JournalStop}
-use Rattle.vx_center.specs.Laws.{RepliesAreDoneOrRefuse}
+use Rattle.vx_center.specs.Laws.{HistoriesAreShown, RepliesAreDoneOrRefuse}
 use Rattle.vx_center.specs.Replies.{is_done}
 use Rattle.vx_cvr.specs.Report.{report_of}
 use Rattle.vx_records.specs.Records.{record_of}
@@ -27,7 +27,7 @@ use Rattle.vx_command.specs.Elections.{election_in, once_planned, plans_in}
 use Rattle.vx_command.specs.Laws.{TakenElectionsAreValid}
 use Rattle.vx_journal.specs.declared.journal.Journal.{Journal}
 use Rattle.vx_journal.specs.Keeping.{begin_acts, has_none, journal_in, journal_read}
-use Rattle.vx_journal.specs.Laws.{HeadersBeginJournals, IsBegun, JournalsGrow}
+use Rattle.vx_journal.specs.Laws.{HeadersBeginJournals, IsBegun, JournalsAreHistories, JournalsGrow}
 use Rattle.vx_journal.specs.Replay.{replay_of}
 use Rattle.vx_journal.specs.Steps.{once_read}
 use Rattle.vx_command_center.specs.declared.item.Item.{Item}
@@ -119,7 +119,7 @@ module _ (replies : RepliesAreDoneOrRefuse) (grow : JournalsGrow) (election : El
             records = ap (λ (some : Result Item Halt). flat_map records_of (goes_on some (next_in words files word before rest)).acts) is ∙ all.records;
           }
 
-module _ (replies : RepliesAreDoneOrRefuse) (held : SaidEventsAreHeld) (keepable : SheetEventsAreKeepable) (grow : JournalsGrow) (heads : HeadersBeginJournals) (taken_valid : TakenElectionsAreValid) (name moment device : List ℕ) (words : List ItemWord) (all : All IsItem words) (files : Files) (records : List (List ℕ)) (history : List Entry) (taken taken_now : Taken) (held_now : Held) (of_items : (election : Election) → election_in (files name) ≡ Ok election → IsOfItems election records files words history) where
+module _ (histories : JournalsAreHistories) (shown : HistoriesAreShown) (replies : RepliesAreDoneOrRefuse) (held : SaidEventsAreHeld) (keepable : SheetEventsAreKeepable) (grow : JournalsGrow) (heads : HeadersBeginJournals) (taken_valid : TakenElectionsAreValid) (name moment device : List ℕ) (words : List ItemWord) (all : All IsItem words) (files : Files) (records : List (List ℕ)) (history : List Entry) (taken taken_now : Taken) (held_now : Held) (of_items : (election : Election) → election_in (files name) ≡ Ok election → IsOfItems election records files words history) where
   module _ (election : Election) (is : election_in (files name) ≡ Ok election) where
     abbrev rest : Journal → List Item → Outcome
     rest journal items = work (end_acts election journal moment device items history)
@@ -181,6 +181,13 @@ module _ (replies : RepliesAreDoneOrRefuse) (held : SaidEventsAreHeld) (keepable
             are_kept = begun.replays;
             before = flat_map text_of front;
             report = subst (Took taken taken_now) (texts ∙ texts_are) took;
+            history = histories election
+                ((records ++ flat_map records_of (begin_acts journal)) ++ flat_map records_of (append_acts (done_events history)))
+                (kept ++ done_events history) begun.replays;
+            shows = shown election (kept ++ done_events history)
+                (histories election
+                ((records ++ flat_map records_of (begin_acts journal)) ++ flat_map records_of (append_acts (done_events history)))
+                (kept ++ done_events history) begun.replays);
           }
 
     -- the journal was read
@@ -200,8 +207,8 @@ module _ (replies : RepliesAreDoneOrRefuse) (held : SaidEventsAreHeld) (keepable
   given_so (Err cause) is well = let never = well.ends_well in absurd cc
   given_so (Ok election) is well = planned_so election is (plans_in election) well
 
-pub reports : TakenElectionsAreValid → RepliesAreDoneOrRefuse → SaidEventsAreHeld → SheetEventsAreKeepable → JournalsGrow → HeadersBeginJournals → CenterReportsWhatIsKept
-reports taken_valid replies held keepable grow heads name moment device words files records history taken taken_now held_now answer are of_items done well =
+pub reports : JournalsAreHistories → HistoriesAreShown → TakenElectionsAreValid → RepliesAreDoneOrRefuse → SaidEventsAreHeld → SheetEventsAreKeepable → JournalsGrow → HeadersBeginJournals → CenterReportsWhatIsKept
+reports histories shown taken_valid replies held keepable grow heads name moment device words files records history taken taken_now held_now answer are of_items done well =
     let it = went_well (center_outcome name moment device words files records history) taken taken_now records held_now answer done well in
-    given_so replies held keepable grow heads taken_valid name moment device words are.are_items files records history taken taken_now held_now of_items (election_in (files name)) refl
+    given_so histories shown replies held keepable grow heads taken_valid name moment device words are.are_items files records history taken taken_now held_now of_items (election_in (files name)) refl
     (record { ends_well = it.ends_well; took = it.took; holds = it.holds })

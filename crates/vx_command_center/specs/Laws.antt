@@ -4,6 +4,8 @@ use Rattle.std.specs.List.{flat_map}
 use Rattle.vx_io.specs.Outside.{Files, Took}
 use Rattle.vx_election_model.specs.declared.election.Election.{Election}
 use Rattle.vx_events.specs.declared.event.Event.{Event}
+use Rattle.vx_center.specs.Histories.{IsHistory}
+use Rattle.vx_center.specs.Shown.{ShowsWhatWasKept}
 use Rattle.vx_layout.specs.declared.plan.CardPlan.{CardPlan}
 use Rattle.vx_records.specs.Records.{record_of}
 use Rattle.vx_shared.specs.declared.history.Entry.{Entry}
@@ -43,7 +45,8 @@ CenterKeepsJournals =
     → StaysJournal election records (center_outcome name moment device words files records history).acts
 
 -- The election under a name was read, the keeper holds a journal of it, and the last text that was written is the report
--- of exactly the events that the journal keeps.
+-- of exactly the events that the journal keeps. These are a history of the counting machine, and the report's rows show
+-- them, as those that `export` writes do.
 pub record ReportedWhatIsKept (name moment device : List ℕ) (files : Files) (taken taken_now : Taken)
     (held_now : Held) : Type 0 where
   pub election : Election
@@ -54,6 +57,8 @@ pub record ReportedWhatIsKept (name moment device : List ℕ) (files : Files) (t
   pub are_kept : replay_of election records ≡ Ok events
   pub before : List ℕ
   pub report : Took taken taken_now (before ++ report_of election events moment device)
+  pub history : IsHistory election events
+  pub shows : ShowsWhatWasKept election events
 
 -- so it is where `center` ended well, by a history of its items, whatever stands of its acts
 abbrev pub CenterReportsWhatIsKept : Type 0

@@ -11,15 +11,15 @@ ghost use Rattle.vx_command_center.specs.Runs.{Centers, CentersItems, CentersJou
 use crate::ending::end_center;
 use crate::item::{Item, Items};
 use crate::taking::take_items;
-use crate::working::work_off;
+use crate::working::{drop_ended, work_off};
 use std::alloc::Global;
 use std::sync::Wait;
 use std::thread::{Threads, map_vec};
 use vx_command::{Halt, acts_in_order, plan_all, steps_in_order, take_election};
-use vx_election_model::Election;
+use vx_election_model::{Election, drop_election};
 use vx_io::{Inputs, Keeper, Sink, questions_asked};
-use vx_journal::{Journal, journals_in_order, read_journal};
-use vx_layout::CardPlans;
+use vx_journal::{Journal, drop_journal, journals_in_order, read_journal};
+use vx_layout::{CardPlans, drop_plans};
 use vx_shared::lists_have_histories;
 use vx_words::ItemWord;
 use vx_workers::Gate;
@@ -27,6 +27,40 @@ use vx_workers::Gate;
 /// Gives the memory of items back, by a thread for each. It comes last, as whoever asks for memory meanwhile waits.
 fn give_back<R: Threads + Sync>(rt: &R, items: Items) {
     let _given_back = map_vec(rt, items.into_vec(), &|_item: Item| {});
+}
+
+/// Does the items, and what is done when they have ended.
+fn do_all<'e, R: Threads + Wait + Sync, S: Sink, K: Keeper, G: Gate>(
+    rt: &R,
+    alloc: Global,
+    election: &'e Election,
+    plans: &CardPlans,
+    journal: Journal<'e>,
+    moment: &str,
+    device: &str,
+    items: &[Item],
+    gate: &G,
+    out: &mut S,
+    keeper: &mut K,
+) -> Result<(), Halt>
+    requires valid { IsValid election.now }
+    requires plans { ArePlansOf election.now plans.now }
+    requires same { journal.center.election ≡ election.now }
+    requires some { 0 < length items.now }
+    requires few { length items.now ≤ 16 }
+    requires within { possible_in_all items.now ≤ 1000000 }
+    requires fits { All (FitsItem election.now) items.now }
+    ensures done { CentersItems election.now journal.entry moment.now device.now items.now
+        (S.taken out.old) (S.taken out.new) (K.held keeper.old) (K.held keeper.new) result }
+    ensures late { is_refusal result ≡ false }
+    ensures devices { TouchesSinkAndKeeper S.Sink K.Keeper out.old out.new keeper.old keeper.new result }
+{
+    acts_in_order();
+    lists_have_histories();
+    let ended = work_off(rt, alloc, election, plans, journal, items, gate)?;
+    let answer = end_center(rt, alloc, election, &ended, moment, device, out, keeper);
+    drop_ended(ended);
+    answer
 }
 
 /// Does the items, and what is done when they have ended, and gives their memory back.
@@ -55,10 +89,10 @@ fn do_items<'e, R: Threads + Wait + Sync, S: Sink, K: Keeper, G: Gate>(
     ensures late { is_refusal result ≡ false }
     ensures devices { TouchesSinkAndKeeper S.Sink K.Keeper out.old out.new keeper.old keeper.new result }
 {
-    acts_in_order();
-    lists_have_histories();
-    let ended = work_off(rt, alloc, election, plans, journal, items.as_slice(), gate)?;
-    let answer = end_center(rt, alloc, election, &ended, moment, device, out, keeper);
+    let lent = items.as_slice();
+    let answer = do_all(
+        rt, alloc, election, plans, journal, moment, device, lent, gate, out, keeper,
+    );
     give_back(rt, items);
     answer
 }
@@ -92,10 +126,15 @@ fn center_read<'e, R: Threads + Wait + Sync, I: Inputs, S: Sink, K: Keeper, G: G
     ensures asked { AsksItems I.Inputs items.now inputs.old inputs.new (is_ok result) }
 {
     lists_have_histories();
-    let taken = take_items(rt, alloc, election, items, inputs)?;
-    do_items(
-        rt, alloc, election, plans, journal, moment, device, taken, gate, out, keeper,
-    )
+    match take_items(rt, alloc, election, items, inputs) {
+        Ok(taken) => do_items(
+            rt, alloc, election, plans, journal, moment, device, taken, gate, out, keeper,
+        ),
+        Err(halt) => {
+            drop_journal(journal);
+            Err(halt)
+        }
+    }
 }
 
 /// Reads the journal, and takes the items and does them.
@@ -161,9 +200,11 @@ fn center_planned<R: Threads + Wait + Sync, I: Inputs, S: Sink, K: Keeper, G: Ga
     steps_in_order::<CardPlans>();
     lists_have_histories();
     let plans = plan_all(alloc, election)?;
-    center_set(
+    let done = center_set(
         rt, alloc, election, &plans, moment, device, items, gate, inputs, out, keeper,
-    )
+    );
+    drop_plans(plans);
+    done
 }
 
 /// Does the command `center`: takes the election under its name, which is word 1, plans all its cards, reads
@@ -199,7 +240,9 @@ pub fn center<R: Threads + Wait + Sync, I: Inputs, S: Sink, K: Keeper, G: Gate>(
     steps_in_order::<Election>();
     lists_have_histories();
     let given = take_election(alloc, inputs, election)?;
-    center_planned(
+    let done = center_planned(
         rt, alloc, &given, moment, device, items, gate, inputs, out, keeper,
-    )
+    );
+    drop_election(given);
+    done
 }

@@ -9,9 +9,11 @@ ghost use Rattle.vx_command_center.specs.Laws.{
   ScansAreItems,
 };
 
-use vx_center::replies_are_done_or_refuse;
+use vx_center::{exports_show_what_was_kept, replies_are_done_or_refuse};
 use vx_command::{acts_in_order, taken_elections_are_valid};
-use vx_journal::{begun_journals_are_journals, headers_begin_journals, journals_grow};
+use vx_journal::{
+    begun_journals_are_journals, headers_begin_journals, journals_are_histories, journals_grow,
+};
 use vx_script::said_events_are_held;
 use vx_shared::lists_have_histories;
 use vx_sheet::sheet_events_are_keepable;
@@ -30,10 +32,12 @@ pub fn center_keeps_journals()
 }
 
 /// Where `center` ended well, the last text that it wrote is the report of exactly the events that the journal
-/// keeps then.
+/// keeps then, and the report shows what was kept.
 pub fn center_reports_what_is_kept()
     ensures { CenterReportsWhatIsKept }
 {
+    exports_show_what_was_kept();
+    journals_are_histories();
     taken_elections_are_valid();
     replies_are_done_or_refuse();
     headers_begin_journals();

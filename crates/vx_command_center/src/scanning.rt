@@ -8,7 +8,7 @@ ghost use Rattle.vx_command_center.specs.Setting.{IsSet};
 ghost use Rattle.vx_command_center.specs.Sheets as spec;
 
 use crate::hands::{Hands, read_two};
-use crate::two::{Two, next_two};
+use crate::two::{Two, drop_image, next_two};
 use std::alloc::Global;
 use std::sync::Wait;
 use vx_base::{Bytes, OutOfMemory};
@@ -49,8 +49,8 @@ fn tell_sheet<R: Wait, S: Desk>(
     }
 }
 
-/// The sheet of a batch with a number, of its two images.
-fn do_sheet<R: Wait, S: Desk>(
+/// The sheet of a batch with a number, by its two images.
+fn do_images<R: Wait, S: Desk>(
     rt: &R,
     alloc: Global,
     shared: &S,
@@ -82,6 +82,43 @@ fn do_sheet<R: Wait, S: Desk>(
         Ok(sheet) => tell_sheet(rt, alloc, shared, pass, hands, batch, number, sheet, text),
         Err(no_memory) => (pass, Err(no_memory)),
     }
+}
+
+/// The sheet of a batch with a number, of its two images, which are let go then.
+fn do_sheet<R: Wait, S: Desk>(
+    rt: &R,
+    alloc: Global,
+    shared: &S,
+    pass: Pass,
+    hands: &Hands<'_>,
+    memory: &mut CounterMemory,
+    batch: &str,
+    number: u64,
+    first: Image<'_>,
+    second: Image<'_>,
+    text: &mut String,
+) -> (Pass, Result<(), OutOfMemory>)
+    requires set { IsSet hands.now }
+    requires belongs { pass.of ≡ S.id shared.now }
+    requires election { pass.origin.election ≡ hands.now.election.now }
+    requires batch { is_batch batch.now ≡ true }
+    requires some { 0 < number }
+    requires few { number < 2 ^ 63 }
+    requires calls { length (spec.event_if batch.now number
+        (spec.read_of hands.now.election.now number first second)) ≤ pass.calls }
+    ensures made { OnOk result.1 (MakesAlso pass (spec.event_if batch.now number
+        (spec.read_of hands.now.election.now number first.entry second.entry)) result.0) }
+    ensures told { OnOk result.1 (string_bytes text.new ≡ string_bytes text.old
+        ++ spec.lines_unless hands.now.election.now batch.now number
+        (spec.read_of hands.now.election.now number first.entry second.entry)) }
+    ensures refused { OnErr result.1 (result.0 ≡ pass) }
+{
+    let done = do_images(
+        rt, alloc, shared, pass, hands, memory, batch, number, &first, &second, text,
+    );
+    drop_image(first);
+    drop_image(second);
+    done
 }
 
 /// The sheets of a scan, which is taken as a batch: each that reads and pairs is added, and the lines of the
@@ -132,8 +169,8 @@ fn do_sheets<R: Wait, S: Desk>(
                     &mut memory,
                     batch,
                     number,
-                    &first,
-                    &second,
+                    first,
+                    second,
                     text,
                 );
                 match answer {

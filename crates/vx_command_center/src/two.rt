@@ -16,6 +16,9 @@ pub(crate) enum Two<'b> {
     AtEnd,
 }
 
+/// Lets an image go.
+pub(crate) fn drop_image(_image: Image<'_>) {}
+
 /// The images of a sheet, of which one was read.
 fn second_of<'b>(reader: &mut PbmReader<'b>, first: Image<'b>) -> Result<Two<'b>, OutOfMemory>
     requires { (images_left reader.old).fault ≡ None }
@@ -24,8 +27,14 @@ fn second_of<'b>(reader: &mut PbmReader<'b>, first: Image<'b>) -> Result<Two<'b>
 {
     match reader.next() {
         Ok(Some(second)) => Ok(Two::Both(first, second)),
-        Ok(None) => Ok(Two::Single),
-        Err(_no_memory) => Err(OutOfMemory),
+        Ok(None) => {
+            drop_image(first);
+            Ok(Two::Single)
+        }
+        Err(_no_memory) => {
+            drop_image(first);
+            Err(OutOfMemory)
+        }
     }
 }
 

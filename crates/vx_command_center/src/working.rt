@@ -16,9 +16,10 @@ use std::alloc::Global;
 use std::sync::Wait;
 use std::thread::Threads;
 use vx_base::{Bytes, OutOfMemory};
+use vx_center::drop_center;
 use vx_election_model::Election;
 use vx_events::Event;
-use vx_journal::Journal;
+use vx_journal::{Journal, drop_journal};
 use vx_layout::{CardPlans, plans_show_each_option};
 use vx_shared::{
     Desk, Entries, Pass, SharedCenter, Work, make_all, passes_gain_their_calls, run_all,
@@ -122,12 +123,25 @@ pub fn run_items<R: Threads + Wait + Sync, G: Gate>(
 
 /// A center whose items have ended: the journal of all events that are kept now, the history of its calls, and
 /// the lines of the sheets that make no event.
-#[derive(Drop)]
 pub(crate) struct Ended<'e> {
     pub(crate) journal: Journal<'e>,
     pub(crate) history: Entries,
     pub(crate) text: Bytes,
 }
+
+/// Lets a center whose items have ended go.
+pub(crate) fn drop_ended(ended: Ended<'_>) {
+    let Ended {
+        journal,
+        history,
+        text: _text,
+    } = ended;
+    drop_journal(journal);
+    drop_entries(history);
+}
+
+/// Lets a history go.
+fn drop_entries(_history: Entries) {}
 
 /// How many events the items may have.
 fn possible_events(items: &[Item]) -> u64
@@ -166,12 +180,22 @@ pub(crate) fn work_off<'e, R: Threads + Wait + Sync, G: Gate>(
     let calls = possible_events(items).max(1);
     let (shared, pass) = SharedCenter::new(alloc, center, items.len() as u32, calls)?;
     let (pass, answer) = run_items(rt, alloc, election, plans, &shared, pass, items, gate);
-    let text = answer?;
     passes_gain_their_calls();
-    let (center, history) = shared.close(pass);
-    Ok(Ended {
-        journal: Journal { center, is_new },
-        history,
-        text,
-    })
+    match answer {
+        Ok(text) => {
+            let (center, history) = shared.close(pass);
+            let journal = Journal { center, is_new };
+            Ok(Ended {
+                journal,
+                history,
+                text,
+            })
+        }
+        Err(no_memory) => {
+            let (center, history) = shared.close(pass);
+            drop_center(center);
+            drop_entries(history);
+            Err(no_memory)
+        }
+    }
 }

@@ -16,9 +16,9 @@ use vx_base::Bytes;
 use vx_command::{
     Halt, INPUT_LIMIT, asks_in_order, plan_all, steps_in_order, take_election, take_input,
 };
-use vx_election_model::Election;
+use vx_election_model::{Election, drop_election};
 use vx_io::{Inputs, Sink};
-use vx_layout::CardPlans;
+use vx_layout::{CardPlans, drop_plans};
 
 /// Takes the readings under their name and tests the pages of scans, which have so many images.
 fn check_readings<I: Inputs, S: Sink>(
@@ -127,7 +127,9 @@ fn check_planned<I: Inputs, S: Sink>(
     asks_in_order::<I>();
     steps_in_order::<CardPlans>();
     let plans = plan_all(alloc, election)?;
-    check_scans(alloc, election, &plans, scans, readings, inputs, out)
+    let done = check_scans(alloc, election, &plans, scans, readings, inputs, out);
+    drop_plans(plans);
+    done
 }
 
 /// Does the command `check`: takes the election under its name and plans all its cards, takes the scans under
@@ -154,5 +156,7 @@ pub fn check<I: Inputs, S: Sink>(
     asks_in_order::<I>();
     steps_in_order::<Election>();
     let given = take_election(alloc, inputs, election)?;
-    check_planned(alloc, &given, scans, readings, inputs, out)
+    let done = check_planned(alloc, &given, scans, readings, inputs, out);
+    drop_election(given);
+    done
 }

@@ -3,9 +3,11 @@ ghost use Rattle.vx_command.specs.Acts.{work, writing};
 ghost use Rattle.vx_command.specs.Devices.{TouchesSink, writes_nothing};
 ghost use Rattle.vx_command.specs.Done.{IsWritten};
 ghost use Rattle.vx_journal.specs.Steps.{answer_of};
+ghost use Rattle.vx_sheet.specs.Lines.{lines_of};
 ghost use Rattle.vx_command_count.specs.Outcome.{counted_text, end_outcome, last_acts, last_tally};
-ghost use Rattle.vx_command_count.specs.Tally.{sheets_in};
+ghost use Rattle.vx_command_count.specs.Tally.{next_number as number_after, sheets_in, tally_with as tally_behind};
 
+use crate::pieces::drop_last;
 use crate::setting::Setting;
 use crate::sheets::tell;
 use crate::tally::{Tally, next_number, tally_with};
@@ -14,6 +16,24 @@ use std::alloc::Global;
 use vx_command::{Halt, acts_in_order, write_text};
 use vx_io::Sink;
 use vx_sheet::{Came, push_counted};
+
+/// Writes the line of a last image without a second.
+fn tell_single<S: Sink>(
+    alloc: Global,
+    setting: &Setting<'_>,
+    tally: Tally,
+    out: &mut S,
+) -> Result<Tally, Halt>
+    requires { sheets_in tally < 2 ^ 62 }
+    ensures done { IsWritten (writing (lines_of setting.now.election.now setting.now.batch.now
+        (number_after tally) Came.Single)) (S.taken out.old) (S.taken out.new) (answer_of result) }
+    ensures tally { IfOk result (λ last. last ≡ tally_behind tally Came.Single) }
+    ensures sink { TouchesSink S.Sink out.old out.new result }
+    ensures late { writes_nothing false result ≡ false }
+{
+    tell(alloc, setting, next_number(tally), &Came::Single, out)?;
+    Ok(tally_with(tally, &Came::Single))
+}
 
 /// Writes the line of a last image that waits for a second, if one does. It isn't read.
 fn tell_last<S: Sink>(
@@ -33,9 +53,9 @@ fn tell_last<S: Sink>(
     acts_in_order();
     match waiting.image(alloc)? {
         None => Ok(tally),
-        Some(_) => {
-            tell(alloc, setting, next_number(tally), &Came::Single, out)?;
-            Ok(tally_with(tally, &Came::Single))
+        Some(image) => {
+            drop_last(Some(image));
+            tell_single(alloc, setting, tally, out)
         }
     }
 }

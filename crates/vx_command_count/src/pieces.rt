@@ -24,6 +24,12 @@ pub(crate) struct Piece<'b> {
     pub(crate) last: Option<Image<'b>>,
 }
 
+/// Lets images go.
+fn drop_images(_images: Vec<Image<'_>>) {}
+
+/// Lets an image that may be left over go.
+pub(crate) fn drop_last(_last: Option<Image<'_>>) {}
+
 /// The image that waited, if one did, as the first of a list.
 fn list_of<'b>(alloc: Global, first: Option<Image<'b>>) -> Result<Vec<Image<'b>>, OutOfMemory>
     ensures { IfOk result (λ images. images.items ≡ waits first.entry) }
@@ -78,15 +84,16 @@ pub(crate) fn count_piece<'b, R: Threads + Sync, S: Sink, K: Keeper, G: Gate>(
     let mut images = list_of(alloc, first)?;
     let ended = gather(&mut images, reader)?;
     let last = take_odd(&mut images);
-    count_images(
-        rt,
-        alloc,
-        setting,
-        counting,
-        images.as_slice(),
-        gate,
-        keeper,
-        out,
-    )?;
-    Ok(Piece { ended, last })
+    let held = images.as_slice();
+    match count_images(rt, alloc, setting, counting, held, gate, keeper, out) {
+        Ok(()) => {
+            drop_images(images);
+            Ok(Piece { ended, last })
+        }
+        Err(halt) => {
+            drop_images(images);
+            drop_last(last);
+            Err(halt)
+        }
+    }
 }

@@ -12,7 +12,7 @@ ghost use Rattle.vx_command_count.specs.Tally.{sheets_in};
 use crate::counting::Counting;
 use crate::ending::end_count;
 use crate::gathering::Ended;
-use crate::pieces::{Piece, count_piece};
+use crate::pieces::{Piece, count_piece, drop_last};
 use crate::setting::Setting;
 use crate::waiting::Waiting;
 use std::alloc::Global;
@@ -72,7 +72,10 @@ fn count_scan<'b, R: Threads + Sync, S: Sink, K: Keeper, G: Gate>(
         match ended {
             Ended::NotYet => first = last,
             Ended::AtEnd => return Ok(Waiting::of(alloc, last)?),
-            Ended::AtFault(fault) => return Err(halt_of_bitmap(word, fault)),
+            Ended::AtFault(fault) => {
+                drop_last(last);
+                return Err(halt_of_bitmap(word, fault));
+            }
         }
     }
 }

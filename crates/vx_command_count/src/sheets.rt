@@ -17,10 +17,13 @@ use crate::setting::Setting;
 use crate::tally::{next_number, tally_with};
 use std::alloc::Global;
 use vx_command::{Halt, acts_in_order, write_text};
-use vx_events::{Event, Reply};
+use vx_events::{Event, Reply, drop_event};
 use vx_io::{Keeper, Sink};
 use vx_journal::{Journal, keep_event};
 use vx_sheet::{Came, PageRead, push_lines, read_event};
+
+/// Lets what a sheet came to go.
+fn drop_came(_came: Came) {}
 
 /// What the sheet of an Add that is done comes to.
 fn came_done(event: Event) -> Came
@@ -28,7 +31,10 @@ fn came_done(event: Event) -> Came
 {
     match event {
         Event::Add { sheet, .. } => Came::Added(sheet),
-        _ => Came::Repeated,
+        other => {
+            drop_event(other);
+            Came::Repeated
+        }
     }
 }
 
@@ -38,8 +44,14 @@ fn came_by(event: Event, reply: Reply) -> Came
 {
     match reply {
         Reply::Done => came_done(event),
-        Reply::Full(count) => Came::Full(count),
-        _ => Came::Repeated,
+        Reply::Full(count) => {
+            drop_event(event);
+            Came::Full(count)
+        }
+        _ => {
+            drop_event(event);
+            Came::Repeated
+        }
     }
 }
 
@@ -57,8 +69,14 @@ fn keep_sheet<K: Keeper>(
         (K.held keeper.old) (K.held keeper.new) (answer_of result) }
     ensures keeper { TouchesKeeper K.Keeper keeper.old keeper.new result }
 {
-    let reply = keep_event(alloc, journal, keeper, &event)?;
-    Ok(came_by(event, reply))
+    let kept = keep_event(alloc, journal, keeper, &event);
+    match kept {
+        Ok(reply) => Ok(came_by(event, reply)),
+        Err(halt) => {
+            drop_event(event);
+            Err(halt)
+        }
+    }
 }
 
 /// Settles a sheet by the event that it makes, or what it comes to in its place: the event is kept, and
@@ -130,9 +148,17 @@ fn count_sheet<S: Sink, K: Keeper>(
     let number = next_number(tally);
     let journal = &mut counting.journal;
     let came = settle(alloc, journal, keeper, made)?;
-    tell(alloc, setting, number, &came, out)?;
-    counting.tally = tally_with(tally, &came);
-    Ok(())
+    match tell(alloc, setting, number, &came, out) {
+        Ok(()) => {
+            counting.tally = tally_with(tally, &came);
+            drop_came(came);
+            Ok(())
+        }
+        Err(halt) => {
+            drop_came(came);
+            Err(halt)
+        }
+    }
 }
 
 /// Counts the next sheet by what its two images are read as.

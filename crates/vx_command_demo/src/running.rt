@@ -16,9 +16,9 @@ use std::alloc::Global;
 use std::thread::Threads;
 use vx_base::Bytes;
 use vx_command::{Halt, plan_all, steps_in_order, write_text};
-use vx_election_model::Election;
+use vx_election_model::{Election, drop_election};
 use vx_io::Sink;
-use vx_layout::CardPlans;
+use vx_layout::{CardPlans, drop_plans};
 use vx_styles::cards_are_few;
 
 /// The summary of so many simulated sheets of a planned election.
@@ -85,7 +85,9 @@ fn demo_of<R: Threads + Sync, S: Sink>(
 {
     steps_in_order::<CardPlans>();
     let plans = plan_all(alloc, election)?;
-    write_summary(rt, alloc, election, &plans, seed, sheets, out)
+    let done = write_summary(rt, alloc, election, &plans, seed, sheets, out);
+    drop_plans(plans);
+    done
 }
 
 /// Does the command `demo`: simulates 1 to 1,000 sheets of the demo election from a seed, reads and
@@ -105,5 +107,7 @@ pub fn demo<R: Threads + Sync, S: Sink>(
 {
     steps_in_order::<Election>();
     let election = read_demo(alloc)?;
-    demo_of(rt, alloc, &election, seed, sheets, out)
+    let done = demo_of(rt, alloc, &election, seed, sheets, out);
+    drop_election(election);
+    done
 }

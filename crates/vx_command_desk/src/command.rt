@@ -16,11 +16,11 @@ use crate::setting::Setting;
 use std::alloc::Global;
 use vx_center::Center;
 use vx_command::{Halt, acts_in_order, asks_in_order, plan_all, steps_in_order, take_election};
-use vx_election_model::Election;
+use vx_election_model::{Election, drop_election};
 use vx_io::{Inputs, Keeper, Sink};
-use vx_journal::{journals_in_order, read_journal};
+use vx_journal::{drop_journal, journals_in_order, read_journal};
 use vx_json::Texts;
-use vx_layout::CardPlans;
+use vx_layout::{CardPlans, drop_plans};
 
 /// What stays the same over the scans.
 fn set_up<'a>(
@@ -96,7 +96,9 @@ fn desk_read<I: Inputs, S: Sink, K: Keeper>(
     journals_in_order();
     let journal = read_journal(alloc, election, keeper)?;
     let setting = set_up(election, plans, &journal.center, batch);
-    write_page(alloc, &setting, scans, inputs, out)
+    let done = write_page(alloc, &setting, scans, inputs, out);
+    drop_journal(journal);
+    done
 }
 
 /// Plans all cards of the election, reads the journal and writes the page.
@@ -124,7 +126,9 @@ fn desk_planned<I: Inputs, S: Sink, K: Keeper>(
     asks_in_order::<I>();
     steps_in_order::<CardPlans>();
     let plans = plan_all(alloc, election)?;
-    desk_read(alloc, election, &plans, batch, scans, inputs, out, keeper)
+    let done = desk_read(alloc, election, &plans, batch, scans, inputs, out, keeper);
+    drop_plans(plans);
+    done
 }
 
 /// Does the command `desk`: takes the election under its name, plans all its cards, reads the journal, and
@@ -154,5 +158,7 @@ pub fn desk<I: Inputs, S: Sink, K: Keeper>(
     asks_in_order::<I>();
     steps_in_order::<Election>();
     let given = take_election(alloc, inputs, election)?;
-    desk_planned(alloc, &given, batch, scans, inputs, out, keeper)
+    let done = desk_planned(alloc, &given, batch, scans, inputs, out, keeper);
+    drop_election(given);
+    done
 }

@@ -14,9 +14,9 @@ use crate::ballot::Ballot;
 use crate::pages::print_pages;
 use std::alloc::Global;
 use vx_command::{Halt, asks_in_order, halt_of_card, steps_in_order, take_election};
-use vx_election_model::Election;
+use vx_election_model::{Election, drop_election};
 use vx_io::{Inputs, Sink};
-use vx_layout::{CardFault, CardPlan, plan_card};
+use vx_layout::{CardFault, CardPlan, drop_plan, plan_card};
 
 /// The plan of a card, or why `print` halts.
 fn plan_for(alloc: Global, election: &Election, card: u32) -> Result<CardPlan, Halt>
@@ -46,7 +46,9 @@ fn print_card<S: Sink>(
 {
     steps_in_order::<CardPlan>();
     let plan = plan_for(alloc, election, ballot.card)?;
-    print_pages(alloc, election, ballot, plan.pages.as_slice(), out)
+    let done = print_pages(alloc, election, ballot, plan.pages.as_slice(), out);
+    drop_plan(plan);
+    done
 }
 
 /// Does the command `print`: takes the election under its name, and writes the ballot's pages as raw
@@ -68,5 +70,7 @@ pub fn print<I: Inputs, S: Sink>(
     asks_in_order::<I>();
     steps_in_order::<Election>();
     let given = take_election(alloc, inputs, election)?;
-    print_card(alloc, &given, ballot, out)
+    let done = print_card(alloc, &given, ballot, out);
+    drop_election(given);
+    done
 }

@@ -10,10 +10,10 @@ ghost use Rattle.vx_command_read.specs.Outcome.{scans_outcome, read_outcome};
 use crate::scans::read_scans;
 use std::alloc::Global;
 use vx_command::{Halt, asks_in_order, plan_all, steps_in_order, take_election};
-use vx_election_model::Election;
+use vx_election_model::{Election, drop_election};
 use vx_io::{Inputs, Sink};
 use vx_json::Texts;
-use vx_layout::CardPlans;
+use vx_layout::{CardPlans, drop_plans};
 
 /// Plans all cards of the election and reads the scans.
 fn read_planned<I: Inputs, S: Sink>(
@@ -35,7 +35,9 @@ fn read_planned<I: Inputs, S: Sink>(
     asks_in_order::<I>();
     steps_in_order::<CardPlans>();
     let plans = plan_all(alloc, election)?;
-    read_scans(alloc, election, &plans, scans.as_slice(), inputs, out)
+    let done = read_scans(alloc, election, &plans, scans.as_slice(), inputs, out);
+    drop_plans(plans);
+    done
 }
 
 /// Does the command `read`: takes the election under its name, plans all its cards, and writes what
@@ -59,5 +61,7 @@ pub fn read<I: Inputs, S: Sink>(
     asks_in_order::<I>();
     steps_in_order::<Election>();
     let given = take_election(alloc, inputs, election)?;
-    read_planned(alloc, &given, scans, inputs, out)
+    let done = read_planned(alloc, &given, scans, inputs, out);
+    drop_election(given);
+    done
 }

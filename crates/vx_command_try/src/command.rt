@@ -13,10 +13,10 @@ use crate::scans::try_scans;
 use crate::setting::Setting;
 use std::alloc::Global;
 use vx_command::{Halt, asks_in_order, plan_all, steps_in_order, take_election};
-use vx_election_model::Election;
+use vx_election_model::{Election, drop_election};
 use vx_io::{Inputs, Sink};
 use vx_json::Texts;
-use vx_layout::{CardPlans, plans_show_each_option};
+use vx_layout::{CardPlans, drop_plans, plans_show_each_option};
 
 /// What stays the same over a `try` of planned cards.
 fn set_up<'a>(election: &'a Election, plans: &'a CardPlans) -> Setting<'a>
@@ -50,7 +50,9 @@ fn try_planned<I: Inputs, S: Sink>(
     steps_in_order::<CardPlans>();
     let plans = plan_all(alloc, election)?;
     let setting = set_up(election, &plans);
-    try_scans(alloc, &setting, scans.as_slice(), inputs, out)
+    let done = try_scans(alloc, &setting, scans.as_slice(), inputs, out);
+    drop_plans(plans);
+    done
 }
 
 /// Does the command `try`: takes the election under its name, plans all its cards, and reads the images of
@@ -75,5 +77,7 @@ pub fn try_sheets<I: Inputs, S: Sink>(
     asks_in_order::<I>();
     steps_in_order::<Election>();
     let given = take_election(alloc, inputs, election)?;
-    try_planned(alloc, &given, scans, inputs, out)
+    let done = try_planned(alloc, &given, scans, inputs, out);
+    drop_election(given);
+    done
 }

@@ -3,3 +3,4 @@ mod Counted
 mod Again
 mod Exported
 mod Undecided
+mod Day

@@ -1,3 +1,4 @@
 pub mod Counted
 pub mod Exported
 pub mod Undecided
+pub mod Day

@@ -1,5 +1,6 @@
 //! Laws of whole runs, from scans to the report. These functions do nothing; their contracts are the laws.
 
+ghost use Rattle.vx_headline.specs.Day.{PrintsAreCounted, PrintsAreExported};
 ghost use Rattle.vx_headline.specs.Exported.{MarkedPagesAreExported};
 ghost use Rattle.vx_headline.specs.Undecided.{UndecidedContestsAreExportedAsMarked, UndecidedReasonsWait};
 
@@ -13,8 +14,9 @@ use vx_command_count::{
 use vx_command_export::exports_write_what_was_kept;
 use vx_cvr::{each_row_is_of_a_sheet, one_row_of_a_key};
 use vx_journal::{fronts_are_journals, journals_are_histories, journals_stay, records_are_events};
-use vx_pbm::images_are_whole;
+use vx_pbm::{images_are_whole, raw_images_join, what_is_written_reads_back};
 use vx_records::records_are_read;
+use vx_scan_model::clean_prints_fit;
 use vx_shared::{first_adds_are_done, interleavings_are_whole};
 use vx_sheet::{fitting_sheets_are_read, sheet_events_are_keepable};
 
@@ -68,5 +70,23 @@ pub fn undecided_contests_are_exported_as_marked()
 pub fn undecided_reasons_wait()
     ensures { UndecidedReasonsWait }
 {
+    marked_pages_are_exported();
+}
+
+/// The two pages of a sheet as they are printed, without a mark, are a sheet that a `count` over an empty journal
+/// counted: there are sheets of which the headline speaks.
+pub fn prints_are_counted()
+    ensures { PrintsAreCounted }
+{
+    clean_prints_fit();
+    raw_images_join();
+    what_is_written_reads_back();
+}
+
+/// So that sheet stands in an export behind that `count`, as it was printed.
+pub fn prints_are_exported()
+    ensures { PrintsAreExported }
+{
+    prints_are_counted();
     marked_pages_are_exported();
 }

@@ -3,7 +3,8 @@
 //!
 //! `specs/Counted.antt` says which sheets runs of the program counted, `specs/Exported.antt` what an export behind
 //! those runs writes of them, and `specs/Undecided.antt` what it writes of their contests without a decision, in the
-//! numbers of the text. It rests on the laws of the crates below: a scan that fits its page is read as
+//! numbers of the text. `specs/Day.antt` has a day of which it speaks: clean prints, an empty journal, a `count` and an
+//! export. It rests on the laws of the crates below: a scan that fits its page is read as
 //! it was marked (`vx_scan_model`, `vx_sheet`), `count` keeps what it read (`vx_command_count`), runs leave
 //! journals (`vx_app`), and `export` writes what a journal keeps (`vx_command_export`, `vx_center`).
 #![tactic(auto)]
@@ -11,5 +12,6 @@
 mod laws;
 
 pub use laws::{
-    marked_pages_are_exported, undecided_contests_are_exported_as_marked, undecided_reasons_wait,
+    marked_pages_are_exported, prints_are_counted, prints_are_exported,
+    undecided_contests_are_exported_as_marked, undecided_reasons_wait,
 };

@@ -5,6 +5,7 @@ use Rattle.vx_command.specs.Status.{answer_of}
 use Rattle.vx_command_center.specs.Outcome.{center_outcome}
 use Rattle.vx_command_center.specs.Runs.{Centers}
 use Rattle.vx_words.specs.declared.command.Command.TheVariants.{Center}
+use Rattle.vx_app.proofs.Calls.{is-run}
 use Rattle.vx_app.proofs.Journals.{kept-over}
 use Rattle.vx_app.proofs.centering.run_center.Goals as goal
 
@@ -18,6 +19,17 @@ returns-clause-journal_kept g c files told name moment device items spells elect
     kept-over c.count_keeps_journals.ensures c.decide_keeps_journals.ensures c.center_keeps_journals.ensures c.journals_stay.ensures c.fronts_are_journals.ensures
     (Center name moment device items) spells.device files election records events taken taken_now held_now answer
     spells.sound for_it is (λ still. absurd (false≢true (sym still)))
+    (subst Done held (c.center_words.ensures.done files told name moment device items spells records held))
+
+pub returns-clause-a_run : goal.returns-clause-a_run
+returns-clause-a_run g c files told name moment device items spells election for_it records held =
+    let taken = g.S.Sink.taken c.args.out.now in
+    let taken_now = g.S.Sink.taken c.center_words.new.out in
+    let held_now = g.K.Keeper.held c.center_words.new.keeper in
+    let answer = answer_of c.center_words.result in
+    let Done : Held → Type 0 = λ before. Centers name moment device items files records taken taken_now before held_now answer in
+    is-run election records c.args.words.now (Center name moment device items) files taken taken_now held_now answer spells for_it
+    (λ still. absurd (false≢true (sym still)))
     (subst Done held (c.center_words.ensures.done files told name moment device items spells records held))
 
 pub returns-clause-reported : goal.returns-clause-reported

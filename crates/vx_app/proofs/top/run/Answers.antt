@@ -4,6 +4,7 @@ use Rattle.vx_command.specs.Done.{Held, IsDone}
 use Rattle.vx_command.specs.Status.{answer_of}
 use Rattle.vx_words.specs.declared.command.Command.TheVariants.{Check, Count, Export, Queue, Read}
 use Rattle.vx_app.specs.Outcome.{outcome_of}
+use Rattle.vx_app.proofs.Calls.{is-run}
 use Rattle.vx_app.proofs.Journals.{done-of, kept-over}
 use Rattle.vx_app.proofs.top.run.Goals as goal
 
@@ -35,6 +36,17 @@ returns-clause-journal_kept g c files told command spells election for_it record
     kept-over c.count_keeps_journals.ensures c.decide_keeps_journals.ensures c.center_keeps_journals.ensures c.journals_stay.ensures c.fronts_are_journals.ensures
     command spells.spells.device files election records events taken taken_now held_now answer
     spells.spells.sound for_it is (λ still. c.run_words.ensures.keeper_held command spells still ∙ held)
+    (done-of command files records taken taken_now held_now answer spells.is_run (subst Done held (c.run_words.ensures.done files told command spells records (λ uses. held))))
+
+pub returns-clause-a_run : goal.returns-clause-a_run
+returns-clause-a_run g c files told command spells election for_it records held =
+    let taken = g.S.Sink.taken c.args.out.now in
+    let taken_now = g.S.Sink.taken c.run_words.new.out in
+    let held_now = g.K.Keeper.held c.run_words.new.keeper in
+    let answer = answer_of c.run_words.result in
+    let Done : Held → Type 0 = λ before. IsDone (outcome_of command files records) taken taken_now before held_now answer in
+    is-run election records c.args.words.now command files taken taken_now held_now answer spells.spells for_it
+    (λ still. c.run_words.ensures.keeper_held command spells still ∙ held)
     (done-of command files records taken taken_now held_now answer spells.is_run (subst Done held (c.run_words.ensures.done files told command spells records (λ uses. held))))
 
 pub returns-clause-exported : goal.returns-clause-exported

@@ -61,24 +61,24 @@ returns-in-Err-Usage-clause-asked g c command spells =
 
 pub returns-in-Ok-clause-asked : goal.returns-in-Ok-clause-asked
 returns-in-Ok-clause-asked g c command spells =
-    let Asked : Command → Type 0 = λ it. Asks g.I.Inputs (inputs_of it) c.args.inputs.now c.obey.new.inputs (is_ok c.obey.result) in
+    let Asked : Command → Type 0 = λ it. Asks g.I.Inputs (inputs_of it) c.args.inputs.now c.obey-done.new.inputs (is_ok c.obey-done.result) in
     rw c.status_of.ensures.answer
-    (subst Asked (c.words_spell_one_command.ensures c.args.words.now c.in-Ok.command command c.in-Ok.ensures spells.spells) c.obey.ensures.asked)
+    (subst Asked (c.words_spell_one_command.ensures c.args.words.now c.in-Ok.command command c.in-Ok.ensures spells.spells) c.obey-done.ensures.asked)
 
 pub returns-in-Ok-clause-done : goal.returns-in-Ok-clause-done
 returns-in-Ok-clause-done g c files told command spells records kept =
-    let Does : Command → Type 0 = λ it. (uses_keeper it ≡ true → g.K.Keeper.held c.args.keeper.now ≡ Some records) → IsDone (outcome_of it files records) (g.S.Sink.taken c.args.out.now) (g.S.Sink.taken c.obey.new.out) (g.K.Keeper.held c.args.keeper.now) (g.K.Keeper.held c.obey.new.keeper) c.obey.result in
+    let Does : Command → Type 0 = λ it. (uses_keeper it ≡ true → g.K.Keeper.held c.args.keeper.now ≡ Some records) → IsDone (outcome_of it files records) (g.S.Sink.taken c.args.out.now) (g.S.Sink.taken c.obey-done.new.out) (g.K.Keeper.held c.args.keeper.now) (g.K.Keeper.held c.obey-done.new.keeper) c.obey-done.result in
     rw c.status_of.ensures.answer
-    (subst Does (c.words_spell_one_command.ensures c.args.words.now c.in-Ok.command command c.in-Ok.ensures spells.spells) (c.obey.ensures.done files told records) kept)
+    (subst Does (c.words_spell_one_command.ensures c.args.words.now c.in-Ok.command command c.in-Ok.ensures spells.spells) (c.obey-done.ensures.done files told records) kept)
 
 pub returns-in-Ok-clause-nothing_written : goal.returns-in-Ok-clause-nothing_written
 returns-in-Ok-clause-nothing_written g c command spells before =
     let Answered : Answer → Type 0 = λ answer. writes_nothing (takes_first command) answer ≡ true in
-    let Before : Command → Type 0 = λ it. writes_nothing (takes_first it) c.obey.result ≡ true in
-    c.obey.ensures.nothing_written
+    let Before : Command → Type 0 = λ it. writes_nothing (takes_first it) c.obey-done.result ≡ true in
+    c.obey-done.ensures.nothing_written
     (subst Before (sym (c.words_spell_one_command.ensures c.args.words.now c.in-Ok.command command c.in-Ok.ensures spells.spells)) (subst Answered c.status_of.ensures.answer before))
 
 pub returns-in-Ok-clause-keeper_held : goal.returns-in-Ok-clause-keeper_held
 returns-in-Ok-clause-keeper_held g c command spells still =
     let Still : Command → Type 0 = λ it. appends it ≡ false in
-    c.obey.ensures.keeper_held (subst Still (sym (c.words_spell_one_command.ensures c.args.words.now c.in-Ok.command command c.in-Ok.ensures spells.spells)) still)
+    c.obey-done.ensures.keeper_held (subst Still (sym (c.words_spell_one_command.ensures c.args.words.now c.in-Ok.command command c.in-Ok.ensures spells.spells)) still)

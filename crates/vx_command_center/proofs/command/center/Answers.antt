@@ -15,8 +15,8 @@ returns-in_err-given-clause-done g c files told records kept =
 
 pub returns-clause-done : goal.returns-clause-done
 returns-clause-done g c files told records kept =
-    election_done c.steps_in_order.ensures c.args.election.now c.args.moment.now c.args.device.now c.args.items.now files records (g.S.Sink.taken c.args.out.now) (g.S.Sink.taken c.center_planned.new.out) (g.K.Keeper.held c.args.keeper.now) (g.K.Keeper.held c.center_planned.new.keeper)
-    c.in_ok-given.given c.center_planned.result (c.in_ok-given.ensures.told files told) (c.center_planned.ensures.done files (c.in_ok-given.ensures.inputs.inputs.same ∙ told) records kept)
+    election_done c.steps_in_order.ensures c.args.election.now c.args.moment.now c.args.device.now c.args.items.now files records (g.S.Sink.taken c.args.out.now) (g.S.Sink.taken c.center_planned-done.new.out) (g.K.Keeper.held c.args.keeper.now) (g.K.Keeper.held c.center_planned-done.new.keeper)
+    c.in_ok-given.given c.center_planned-done.result (c.in_ok-given.ensures.told files told) (c.center_planned-done.ensures.done files (c.in_ok-given.ensures.inputs.inputs.same ∙ told) records kept)
 
 pub returns-in_err-given-clause-asked : goal.returns-in_err-given-clause-asked
 returns-in_err-given-clause-asked g c =
@@ -26,4 +26,4 @@ returns-in_err-given-clause-asked g c =
 
 pub returns-clause-asked : goal.returns-clause-asked
 returns-clause-asked g c =
-    election_asked g.I.Inputs c.questions_asked.ensures c.args.election.now c.args.items.now _ _ _ _ c.in_ok-given.ensures.asked c.center_planned.ensures.asked
+    election_asked g.I.Inputs c.questions_asked.ensures c.args.election.now c.args.items.now _ _ _ _ c.in_ok-given.ensures.asked c.center_planned-done.ensures.asked

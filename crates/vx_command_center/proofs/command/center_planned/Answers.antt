@@ -15,8 +15,8 @@ returns-in_err-plans-clause-done g c files told records kept =
 
 pub returns-clause-done : goal.returns-clause-done
 returns-clause-done g c files told records kept =
-    cards_done c.args.election.now c.args.moment.now c.args.device.now c.args.items.now files records (g.S.Sink.taken c.args.out.now) (g.S.Sink.taken c.center_set.new.out) (g.K.Keeper.held c.args.keeper.now) (g.K.Keeper.held c.center_set.new.keeper)
-    c.steps_in_order.ensures c.in_ok-plans.plans c.center_set.result c.in_ok-plans.ensures.exact (c.center_set.ensures.done files told records kept)
+    cards_done c.args.election.now c.args.moment.now c.args.device.now c.args.items.now files records (g.S.Sink.taken c.args.out.now) (g.S.Sink.taken c.center_set-done.new.out) (g.K.Keeper.held c.args.keeper.now) (g.K.Keeper.held c.center_set-done.new.keeper)
+    c.steps_in_order.ensures c.in_ok-plans.plans c.center_set-done.result c.in_ok-plans.ensures.exact (c.center_set-done.ensures.done files told records kept)
 
 pub returns-in_err-plans-clause-asked : goal.returns-in_err-plans-clause-asked
 returns-in_err-plans-clause-asked g c =

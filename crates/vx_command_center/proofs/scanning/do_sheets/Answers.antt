@@ -46,29 +46,6 @@ overflow_add-number g c =
     let images = few_images c.args.bytes.now in
     omega (arith, few, images)
 
-pub sheets-preserved-in-Ok : goal.sheets-preserved-in-Ok
-sheets-preserved-in-Ok g c =
-    let election = c.args.hands.now.election.now in
-    let batch = c.args.batch.now in
-    let left = images_left c.sheets.reader in
-    let later = images_left c.next_two.new.reader in
-    let first = c.in-Ok-Both.first in
-    let second = c.in-Ok-Both.second in
-    let number = c.sheets.number in
-    let after = c.do_sheet-after.result.0 in
-    let text = string_bytes c.sheets.text in
-    let told = string_bytes c.do_sheet-after.new.text in
-    let is : left ≡ with_page first (with_page second later) = subst (λ (two : Two). AreNext left two later) c.in-Ok-Both.field-0-is c.in-Ok-Both.ensures in
-    let also : MakesAlso c.sheets.now (event_if batch number (read_of election number first second)) after =
-    IfOk-at_ok (λ _. MakesAlso c.sheets.now (event_if batch number (read_of election number first second)) after) c.in-Ok.is c.do_sheet-after.ensures.made in
-    let lines : told ≡ text ++ lines_unless election batch number (read_of election number first second) =
-    IfOk-at_ok (λ _. told ≡ text ++ lines_unless election batch number (read_of election number first second)) c.in-Ok.is c.do_sheet-after.ensures.told in
-    record {
-      walked = next_goes_on election batch c.args.pass (images_of c.args.bytes.now).pages (string_bytes c.args.text.now) number first second left later c.sheets.now after text told is c.sheets.invariant.walked also lines;
-      whole = sym (ap (λ (i : Images). i.fault) is) ∙ c.sheets.invariant.whole;
-      some = omega arith;
-    }
-
 pub sheets-preserved : goal.sheets-preserved
 sheets-preserved g c =
     let election = c.args.hands.now.election.now in

@@ -8,5 +8,5 @@ pub returns-clause-done : goal.returns-clause-done
 returns-clause-done g c files told held =
     c.steps_in_order.ensures.taken 1 (election_in (files c.args.election.now)) c.in_ok-given.given
     (λ (given : Election). once_planned given (scans_outcome given c.args.scans.now c.args.readings.now files)) (g.S.Sink.taken c.args.out.now)
-    (c.in_ok-given.ensures.told files told) held (g.S.Sink.taken c.check_planned.new.out) held c.check_planned.result
-    (c.check_planned.ensures.done files (c.in_ok-given.ensures.inputs.inputs.same ∙ told) held)
+    (c.in_ok-given.ensures.told files told) held (g.S.Sink.taken c.check_planned-done.new.out) held c.check_planned-done.result
+    (c.check_planned-done.ensures.done files (c.in_ok-given.ensures.inputs.inputs.same ∙ told) held)

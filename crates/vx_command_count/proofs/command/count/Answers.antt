@@ -9,5 +9,5 @@ pub returns-clause-done : goal.returns-clause-done
 returns-clause-done g c files told records kept =
     c.steps_in_order.ensures.taken 1 (election_in (files c.args.election.now)) c.in_ok-given.given
     (λ (given : Election). once_planned given (once_read given records (journal_outcome given c.args.batch.now c.args.scans.now files)))
-    (g.S.Sink.taken c.args.out.now) (c.in_ok-given.ensures.told files told) (g.K.Keeper.held c.args.keeper.now) (g.S.Sink.taken c.count_planned.new.out) (g.K.Keeper.held c.count_planned.new.keeper) c.count_planned.result
-    (c.count_planned.ensures.done files (c.in_ok-given.ensures.inputs.inputs.same ∙ told) records kept)
+    (g.S.Sink.taken c.args.out.now) (c.in_ok-given.ensures.told files told) (g.K.Keeper.held c.args.keeper.now) (g.S.Sink.taken c.count_planned-done.new.out) (g.K.Keeper.held c.count_planned-done.new.keeper) c.count_planned-done.result
+    (c.count_planned-done.ensures.done files (c.in_ok-given.ensures.inputs.inputs.same ∙ told) records kept)

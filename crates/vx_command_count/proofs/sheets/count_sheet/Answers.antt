@@ -53,10 +53,9 @@ returns-in_err-came-clause-late g c =
     (late-of (keep_if c.args.counting.now.journal c.args.made) (g.S.Sink.taken c.args.out.now) (g.S.Sink.taken c.args.out.now)
     (g.K.Keeper.held c.args.keeper.now) (g.K.Keeper.held c.settle.new.keeper) cause (c.in_err-came.ensures.done (g.S.Sink.taken c.args.out.now)))
 
-pub returns-in_err-tell-clause-done : goal.returns-in_err-tell-clause-done
-returns-in_err-tell-clause-done g c =
-    let err = err_from_is_err_and c.from_residual-in_err-tell.result c.from_residual-in_err-tell.ensures.1 in
-    let cause = c.in_err-tell.field-0.0 in
+pub returns-in-Err-clause-done : goal.returns-in-Err-clause-done
+returns-in-Err-clause-done g c =
+    let cause = c.in-Err.halt in
     let election = c.args.setting.now.election.now in
     let batch = c.args.setting.now.batch.now in
     let journal = c.args.counting.now.journal in
@@ -66,14 +65,13 @@ returns-in_err-tell-clause-done g c =
     (g.S.Sink.taken c.args.out.now) (g.S.Sink.taken c.tell.new.out) (g.K.Keeper.held c.args.keeper.now) (g.K.Keeper.held c.settle.new.keeper) (Err cause) in
     let n = c.next_number-number.result in
     let Written : Came → Type 0 = λ came. IsWritten (writing (lines_of election batch n came)) (g.S.Sink.taken c.args.out.now) (g.S.Sink.taken c.tell.new.out) (Err cause) in
-    rw (err.1 ∙ ap Err err.2)
     (subst Whole c.next_number-number.ensures
     (kept-then c.acts_in_order.ensures (keep_if journal made) (lines_of election batch n (came_if journal made))
     (g.S.Sink.taken c.args.out.now) (g.S.Sink.taken c.tell.new.out) (g.K.Keeper.held c.args.keeper.now) (g.K.Keeper.held c.settle.new.keeper) (Err cause)
-    c.in_ok-came.ensures.done (subst Written c.in_ok-came.ensures.came c.in_err-tell.ensures.done)))
+    c.in_ok-came.ensures.done (subst Written c.in_ok-came.ensures.came c.in-Err.ensures.done)))
 
-pub returns-clause-done : goal.returns-clause-done
-returns-clause-done g c =
+pub returns-in-Ok-clause-done : goal.returns-in-Ok-clause-done
+returns-in-Ok-clause-done g c =
     let election = c.args.setting.now.election.now in
     let batch = c.args.setting.now.batch.now in
     let journal = c.args.counting.now.journal in
@@ -86,4 +84,4 @@ returns-clause-done g c =
     subst Whole c.next_number-number.ensures
     (kept-then c.acts_in_order.ensures (keep_if journal made) (lines_of election batch n (came_if journal made))
     (g.S.Sink.taken c.args.out.now) (g.S.Sink.taken c.tell.new.out) (g.K.Keeper.held c.args.keeper.now) (g.K.Keeper.held c.settle.new.keeper) (Ok tt)
-    c.in_ok-came.ensures.done (subst Written c.in_ok-came.ensures.came c.in_ok-tell.ensures.done))
+    c.in_ok-came.ensures.done (subst Written c.in_ok-came.ensures.came c.in-Ok.ensures.done))

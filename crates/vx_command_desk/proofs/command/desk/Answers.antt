@@ -10,5 +10,5 @@ returns-clause-done g c files told records kept =
     c.steps_in_order.ensures.taken 1 (election_in (files c.args.election.now)) c.in_ok-given.given
     (λ (given : Election). once_planned given (once_read given records (λ journal. page_outcome given c.args.batch.now c.args.scans.now files journal.center.events)))
     (g.S.Sink.taken c.args.out.now) (c.in_ok-given.ensures.told files told) (g.K.Keeper.held c.args.keeper.now)
-    (g.S.Sink.taken c.desk_planned.new.out) (g.K.Keeper.held c.desk_planned.new.keeper) c.desk_planned.result
-    (c.desk_planned.ensures.done files (c.in_ok-given.ensures.inputs.inputs.same ∙ told) records kept)
+    (g.S.Sink.taken c.desk_planned-done.new.out) (g.K.Keeper.held c.desk_planned-done.new.keeper) c.desk_planned-done.result
+    (c.desk_planned-done.ensures.done files (c.in_ok-given.ensures.inputs.inputs.same ∙ told) records kept)

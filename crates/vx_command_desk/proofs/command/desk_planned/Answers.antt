@@ -10,5 +10,5 @@ returns-clause-done g c files told records kept =
     c.steps_in_order.ensures.given (plans_in c.args.election.now) c.in_ok-plans.plans
     (λ (plans : List CardPlan). once_read c.args.election.now records (λ journal. page_outcome c.args.election.now c.args.batch.now c.args.scans.now files journal.center.events))
     (g.S.Sink.taken c.args.out.now) c.in_ok-plans.ensures.exact (g.K.Keeper.held c.args.keeper.now)
-    (g.S.Sink.taken c.desk_read.new.out) (g.K.Keeper.held c.desk_read.new.keeper) c.desk_read.result
-    (c.desk_read.ensures.done files told records kept)
+    (g.S.Sink.taken c.desk_read-done.new.out) (g.K.Keeper.held c.desk_read-done.new.keeper) c.desk_read-done.result
+    (c.desk_read-done.ensures.done files told records kept)

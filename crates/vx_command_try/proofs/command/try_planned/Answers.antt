@@ -9,9 +9,9 @@ use Rattle.vx_command_try.proofs.command.try_planned.Goals as goal
 pub returns-clause-done : goal.returns-clause-done
 returns-clause-done g c files told held =
     let Done : Election → List (List ℕ) → Type 0 = λ election scans.
-    IsWritten (scans_outcome election files 2 0 [] scans) (g.S.Sink.taken c.args.out.now) (g.S.Sink.taken c.try_scans.new.out) c.try_scans.result in
+    IsWritten (scans_outcome election files 2 0 [] scans) (g.S.Sink.taken c.args.out.now) (g.S.Sink.taken c.try_scans-done.new.out) c.try_scans-done.result in
     let Of : Election → Type 0 = λ election. Done election c.as_slice.result.now in
     c.steps_in_order.ensures.given (plans_in c.args.election.now) c.in_ok-plans.plans
     (λ (plans : List CardPlan). scans_outcome c.args.election.now files 2 0 [] c.args.scans.now)
-    (g.S.Sink.taken c.args.out.now) c.in_ok-plans.ensures.exact held (g.S.Sink.taken c.try_scans.new.out) held c.try_scans.result
-    (subst (Done c.args.election.now) c.as_slice.ensures (subst Of c.set_up-setting.ensures.election (c.try_scans.ensures.done files told)) held)
+    (g.S.Sink.taken c.args.out.now) c.in_ok-plans.ensures.exact held (g.S.Sink.taken c.try_scans-done.new.out) held c.try_scans-done.result
+    (subst (Done c.args.election.now) c.as_slice.ensures (subst Of c.set_up-setting.ensures.election (c.try_scans-done.ensures.done files told)) held)

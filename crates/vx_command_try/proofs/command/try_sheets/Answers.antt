@@ -7,5 +7,5 @@ use Rattle.vx_command_try.proofs.command.try_sheets.Goals as goal
 pub returns-clause-done : goal.returns-clause-done
 returns-clause-done g c files told held =
     c.steps_in_order.ensures.taken 1 (election_in (files c.args.election.now)) c.in_ok-given.given (λ (given : Election). once_planned given (scans_outcome given files 2 0 [] c.args.scans.now)) (g.S.Sink.taken c.args.out.now)
-    (c.in_ok-given.ensures.told files told) held (g.S.Sink.taken c.try_planned.new.out) held c.try_planned.result
-    (c.try_planned.ensures.done files (c.in_ok-given.ensures.inputs.inputs.same ∙ told) held)
+    (c.in_ok-given.ensures.told files told) held (g.S.Sink.taken c.try_planned-done.new.out) held c.try_planned-done.result
+    (c.try_planned-done.ensures.done files (c.in_ok-given.ensures.inputs.inputs.same ∙ told) held)
