@@ -15,7 +15,7 @@ use Rattle.vx_tally.specs.Faults.{of_json}
 use Rattle.vx_tally.specs.Members.{list_limit, id_member, list_member, first_member, with_next, each_of}
 use Rattle.vx_tally.specs.Contests.{contest_ids, selection_ids, own_id_in, own_ids_in, contest_at, contest_in, contest_list_in, election_path, units_in, contests_in}
 use Rattle.vx_tally.specs.Records.{records_in}
-use Rattle.vx_tally.specs.Reading.{report_in, report_in_bytes, value_in}
+use Rattle.vx_tally.specs.Reading.{report_behind, report_in, report_in_bytes, value_in}
 use Rattle.vx_audit.specs.Sized.{HasFew}
 
 few_elements : (value : Data) (path name : List ℕ) (limit : ℕ) → Holds (λ (list : List Data). length list ≤ limit) (list_member value path name limit)
@@ -75,7 +75,7 @@ pub record HasShortLists (report : Report) : Type 0 where
   pub selections : All HasFew report.contests
 
 pub report_short : (bytes : List ℕ) → Holds HasShortLists (report_in_bytes bytes)
-unfolding report_in_bytes report_in
+unfolding report_in_bytes report_in report_behind
 report_short bytes =
     after (value_in bytes) (λ value.
     then (few_units value) (λ units few.

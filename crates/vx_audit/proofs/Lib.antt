@@ -12,3 +12,5 @@ pub mod Drawn
 pub mod Blanks
 pub mod Looked
 pub mod Feeds
+pub mod Acts
+pub mod Spelled

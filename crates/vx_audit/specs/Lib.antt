@@ -10,3 +10,7 @@ pub mod Found
 pub mod Ascending
 pub mod Cells
 pub mod Places
+pub mod Done
+pub mod Outcome
+pub mod Status
+pub mod Words

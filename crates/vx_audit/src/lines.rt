@@ -63,22 +63,37 @@ fn take_line(
     Ok(())
 }
 
+/// What hands read of a report, whose ids the directory finds.
+#[tactic(auto, unfolding(crate::specs::Hand::hand_of))]
+fn hand_by(
+    alloc: Global,
+    report: &Report,
+    directory: &Directory,
+    bytes: &[u8],
+) -> Result<Hand, HandFault>
+    requires sized { IsSized report.now }
+    requires finds { Finds report.now directory.now }
+    requires few { length bytes.now ≤ 67108864 }
+    ensures { Gives is_no_memory result (hand_of report.now bytes.now) }
+{
+    let mut hand = Hand::new(alloc);
+    let mut text = bytes;
+    'lines: while !text.is_empty() {
+        let (line, behind) = first_line(text);
+        take_line(alloc, report, directory, &mut hand, line)?;
+        text = behind;
+    }
+    Ok(hand)
+}
+
 /// What hands read of a report, or the first line that isn't one of the form `hand UNIQUE CONTEST SEL SEL`,
 /// names what the report hasn't, or repeats a contest of a ballot. Lines end with a line feed, which the last
 /// may lack.
-#[tactic(auto, unfolding(crate::specs::Hand::hand_of))]
 pub fn read_hand(alloc: Global, report: &Report, bytes: &[u8]) -> Result<Hand, HandFault>
     requires sized { IsSized report.now }
     requires few { length bytes.now ≤ 67108864 }
     ensures { Gives is_no_memory result (hand_of report.now bytes.now) }
 {
     let directory = directory_of(alloc, report)?;
-    let mut hand = Hand::new(alloc);
-    let mut text = bytes;
-    'lines: while !text.is_empty() {
-        let (line, behind) = first_line(text);
-        take_line(alloc, report, &directory, &mut hand, line)?;
-        text = behind;
-    }
-    Ok(hand)
+    hand_by(alloc, report, &directory, bytes)
 }

@@ -10,7 +10,7 @@ use crate::units::push_units;
 use std::alloc::Global;
 use vx_base::OutOfMemory;
 use vx_json::Text;
-use vx_tally::{CvrRecord, Report, ReportContest, Tally};
+use vx_tally::{CvrRecord, Report, ReportContest, Tally, drop_tally};
 
 /// Records, summed.
 fn tally_of(alloc: Global, records: &[CvrRecord]) -> Result<Tally, OutOfMemory>
@@ -91,17 +91,28 @@ fn push_contests(
     Ok(())
 }
 
-/// What `totals` writes of a report.
+/// What `totals` writes of a report whose records are in the tally.
 #[tactic(auto, unfolding(crate::specs::Totals::totals_text))]
+fn text_by(alloc: Global, report: &Report, tally: &Tally) -> Result<String, OutOfMemory>
+    requires sized { IsSized report.now }
+    requires summed { tally.now ≡ report.now.records }
+    ensures { IfOk result (λ text. string_bytes text ≡ lines.totals_text report.now) }
+{
+    let contests = report.contests.as_slice();
+    let mut text = String::new(alloc);
+    push_contests(&mut text, tally, contests)?;
+    push_units(alloc, &mut text, tally, report)?;
+    write!(text, "records {}\n", report.records.len())?;
+    Ok(text)
+}
+
+/// What `totals` writes of a report.
 pub fn totals_text(alloc: Global, report: &Report) -> Result<String, OutOfMemory>
     requires { IsSized report.now }
     ensures { IfOk result (λ text. string_bytes text ≡ lines.totals_text report.now) }
 {
     let tally = tally_of(alloc, report.records.as_slice())?;
-    let contests = report.contests.as_slice();
-    let mut text = String::new(alloc);
-    push_contests(&mut text, &tally, contests)?;
-    push_units(alloc, &mut text, &tally, report)?;
-    write!(text, "records {}\n", report.records.len())?;
-    Ok(text)
+    let text = text_by(alloc, report, &tally);
+    drop_tally(tally);
+    text
 }

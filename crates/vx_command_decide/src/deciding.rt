@@ -11,9 +11,9 @@ use crate::lines::decide_lines;
 use std::alloc::Global;
 use vx_base::Bytes;
 use vx_command::{Halt, acts_in_order, asks_in_order, steps_in_order, take_election, take_input};
-use vx_election_model::Election;
+use vx_election_model::{Election, drop_election};
 use vx_io::{Inputs, Keeper, Sink};
-use vx_journal::{Journal, begin_journal, journals_in_order, read_journal};
+use vx_journal::{Journal, begin_journal, drop_journal, journals_in_order, read_journal};
 use vx_script::SCRIPT_LIMIT;
 
 /// Takes the script and does its lines.
@@ -89,7 +89,9 @@ fn decide_for<I: Inputs, S: Sink, K: Keeper>(
     asks_in_order::<I>();
     journals_in_order();
     let mut journal = read_journal(alloc, election, keeper)?;
-    decide_begun(alloc, election, &mut journal, script, inputs, out, keeper)
+    let done = decide_begun(alloc, election, &mut journal, script, inputs, out, keeper);
+    drop_journal(journal);
+    done
 }
 
 /// Does the command `decide`: takes the election under its name, which is word 1, reads its journal
@@ -114,5 +116,7 @@ pub fn decide<I: Inputs, S: Sink, K: Keeper>(
     asks_in_order::<I>();
     steps_in_order::<Election>();
     let given = take_election(alloc, inputs, election)?;
-    decide_for(alloc, &given, script, inputs, out, keeper)
+    let done = decide_for(alloc, &given, script, inputs, out, keeper);
+    drop_election(given);
+    done
 }

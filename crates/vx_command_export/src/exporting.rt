@@ -4,10 +4,11 @@ ghost use Rattle.vx_base.specs.Refusals.{Gives};
 ghost use Rattle.vx_election_model.specs.Valid.{IsValid};
 ghost use Rattle.vx_command.specs.Acts.{writing};
 ghost use Rattle.vx_command.specs.Asking.{Asks};
-ghost use Rattle.vx_command.specs.Devices.{LeavesDevices, TouchesNothing, TouchesSink, writes_nothing};
+ghost use Rattle.vx_command.specs.Devices.{LeavesDevices, TouchesNothing, TouchesSink, TouchesSinkAndKeeper, writes_nothing};
 ghost use Rattle.vx_command.specs.Done.{IsDone, IsWritten};
 ghost use Rattle.vx_command.specs.Steps.{is_no_memory};
 ghost use Rattle.vx_cvr.specs.Report.{report_of};
+ghost use Rattle.vx_journal.specs.Steps.{once_read};
 ghost use Rattle.vx_command_export.specs.Outcome.{export_outcome};
 
 use std::alloc::Global;
@@ -15,9 +16,9 @@ use vx_base::Bytes;
 use vx_center::Center;
 use vx_command::{Halt, acts_in_order, asks_in_order, steps_in_order, take_election, write_text};
 use vx_cvr::report;
-use vx_election_model::Election;
+use vx_election_model::{Election, drop_election};
 use vx_io::{Inputs, Keeper, Sink};
-use vx_journal::{journals_in_order, read_journal};
+use vx_journal::{drop_journal, journals_in_order, read_journal};
 
 /// The report of a journal's events.
 fn text_of(
@@ -57,6 +58,31 @@ fn write_report<S: Sink>(
     write_text(out, text.as_slice())
 }
 
+/// Reads the journal and writes its report.
+fn export_for<S: Sink, K: Keeper>(
+    alloc: Global,
+    election: &Election,
+    moment: &str,
+    device: &str,
+    out: &mut S,
+    keeper: &mut K,
+) -> Result<(), Halt>
+    requires { IsValid election.now }
+    ensures done { ForSome (K.held keeper.old) (λ records.
+        IsDone (once_read election.now records
+        (λ journal. writing (report_of election.now journal.center.events moment.now device.now)))
+        (S.taken out.old) (S.taken out.new) (K.held keeper.old) (K.held keeper.new) result) }
+    ensures nothing_written { writes_nothing false result ≡ true → S.taken out.new ≡ S.taken out.old }
+    ensures held { K.held keeper.new ≡ K.held keeper.old }
+    ensures devices { TouchesSinkAndKeeper S.Sink K.Keeper out.old out.new keeper.old keeper.new result }
+{
+    journals_in_order();
+    let journal = read_journal(alloc, election, keeper)?;
+    let done = write_report(alloc, election, &journal.center, moment, device, out);
+    drop_journal(journal);
+    done
+}
+
 /// Does the command `export`: takes the election under its name, which is word 1, reads its journal,
 /// and writes the report of its events, with a moment (`YYYY-MM-DDTHH:MM:SSZ`) and the device that
 /// reports (its UUID in lower case with hyphens).
@@ -80,8 +106,8 @@ pub fn export<I: Inputs, S: Sink, K: Keeper>(
 {
     asks_in_order::<I>();
     steps_in_order::<Election>();
-    journals_in_order();
     let given = take_election(alloc, inputs, election)?;
-    let journal = read_journal(alloc, &given, keeper)?;
-    write_report(alloc, &given, &journal.center, moment, device, out)
+    let done = export_for(alloc, &given, moment, device, out, keeper);
+    drop_election(given);
+    done
 }

@@ -8,12 +8,12 @@ use std::sync::Wait;
 use std::thread::Threads;
 use std::{env, fmt};
 use vx_app::{arguments_status, command_words};
+use vx_audit::{AuditMessage, AuditStatus, run_audit};
 use vx_command::{Halt, Message, Status};
-use vx_command_audit::{AuditMessage, AuditStatus, run_audit};
 use vx_command_gray::{GrayMessage, GrayStatus, run_gray};
-use vx_command_ranked::{RankedMessage, RankedStatus};
 use vx_io::{StdInputs, StdSink, Words};
 use vx_program::{begins_with, rank_with, run_with};
+use vx_ranked::{RankedMessage, RankedStatus};
 
 /// The arguments of the command line, the program's name before them.
 fn arguments_of_line(rt: &HostRuntime) -> Result<Vec<String>, Status> {

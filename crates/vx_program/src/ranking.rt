@@ -1,11 +1,11 @@
 ghost use Rattle.std.specs.Prelude.{◌≡◌, ◌⊎◌};
-ghost use Rattle.vx_command_ranked.specs.Words.{NoRanked};
+ghost use Rattle.vx_ranked.specs.Words.{NoRanked};
 
 use crate::journal::{Place, empty_journal, file_journal, place_of};
 use vx_command::Halt;
-use vx_command_ranked::{RankedStatus, run_ranked};
 use vx_io::{Sink, StdInputs, StdSink, Words};
 use vx_keep_sqlite::drop_keeper;
+use vx_ranked::{RankedStatus, run_ranked};
 
 /// Does the command `ranked` with a journal in memory, which is empty.
 fn rank_in_memory<S: Sink>(rt: &HostRuntime, words: &Words, out: &mut S) -> RankedStatus

@@ -8,3 +8,4 @@ pub mod Looked
 pub mod Marked
 pub mod Ranked
 pub mod Whole
+pub mod Acts

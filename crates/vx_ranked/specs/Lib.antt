@@ -8,3 +8,7 @@ pub mod Rankings
 pub mod Texts
 pub mod Groups
 pub mod Marked
+pub mod Words
+pub mod Status
+pub mod Outcome
+pub mod Done

@@ -10,7 +10,7 @@ use vx_base::OutOfMemory as AllocError;
 use vx_json::{JsonFault, Path, Text};
 
 /// The first fault of a file of ranked contests. A path names a member, as `ranked[2].contests[0]`.
-#[derive(Debug, Drop)]
+#[derive(Drop)]
 pub enum RankedFault {
     /// The bytes aren't JSON in UTF-8.
     NotJson,

@@ -15,7 +15,7 @@ use vx_rounds::Rankings;
 use vx_rules::SheetMarks;
 
 /// What the sheets of a count rank in a group.
-#[derive(Debug, Drop)]
+#[derive(Drop)]
 pub struct SheetRankings {
     /// The rankings of the sheets that have one, in the order of adding.
     pub rankings: Rankings,

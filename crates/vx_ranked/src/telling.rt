@@ -15,7 +15,7 @@ use std::alloc::Global;
 use std::marker::Brand;
 use std::sync::ledger::{Blank, Ledger};
 use vx_base::OutOfMemory;
-use vx_center::{Center, ExportSheet};
+use vx_center::{Center, ExportSheet, drop_rows};
 use vx_election_model::{Choice, Contest, Election};
 use vx_rounds::{Ballots, Rankings, Rounds, Steps, count_rounds};
 
@@ -94,9 +94,31 @@ fn push_ranked(
     Ok(())
 }
 
+/// What is written of groups by the rows of the kept events.
+#[tactic(auto, unfolding(crate::specs::Texts::ranked_text))]
+fn text_by(
+    alloc: Global,
+    election: &Election,
+    center: &Center<'_>,
+    rows: &[ExportSheet],
+    groups: &[Group],
+) -> Result<String, OutOfMemory>
+    requires valid { IsValid election.now }
+    requires same { center.now.election ≡ election.now }
+    requires rows { AreExportRows center.now.election center.now.events rows.now }
+    requires groups { All (IsGroup election.now) groups.now }
+    ensures { IfOk result (λ text. string_bytes text
+        ≡ ranked_text election.now center.now.events groups.now) }
+{
+    let mut text = String::new(alloc);
+    for group in groups {
+        push_ranked(alloc, &mut text, election, center, rows, group)?;
+    }
+    Ok(text)
+}
+
 /// What is written of groups by the kept events: for each how many sheets have a ranking and how many
 /// wait, the rounds of the count, and who won. The only refusal is want of memory.
-#[tactic(auto, unfolding(crate::specs::Texts::ranked_text))]
 pub fn ranked_text(
     alloc: Global,
     election: &Election,
@@ -110,9 +132,7 @@ pub fn ranked_text(
         ≡ ranked_text election.now center.now.events groups.now) }
 {
     let rows = center.export_rows(alloc)?;
-    let mut text = String::new(alloc);
-    for group in groups {
-        push_ranked(alloc, &mut text, election, center, rows.as_slice(), group)?;
-    }
-    Ok(text)
+    let text = text_by(alloc, election, center, rows.as_slice(), groups);
+    drop_rows(rows);
+    text
 }

@@ -18,7 +18,7 @@ use Rattle.vx_cvr.specs.Report.{report_over, report_of}
 use Rattle.vx_tally.specs.declared.fault.ReportFault.{ReportFault}
 use Rattle.vx_tally.specs.declared.fault.ReportFault.TheVariants.{NotJson}
 use Rattle.vx_tally.specs.declared.report.Report.{Report}
-use Rattle.vx_tally.specs.Reading.{report_in, value_in, report_in_bytes}
+use Rattle.vx_tally.specs.Reading.{report_behind, report_in, value_in, report_in_bytes}
 use Rattle.vx_tally.specs.Totals as totals
 use Rattle.vx_results.specs.Report.{units_of, contest_of, vote_of, contest_at, counted_in, unit_of, record_of, report_of_rows}
 use Rattle.vx_report_read.specs.Exported.{ReportsAreReadBack, ReportsAreRead, exported_vote, exported_by, RowsAreTheExported}
@@ -33,7 +33,7 @@ use Rattle.vx_report_read.proofs.Records.{PrecinctsAreThere, records-read}
 over-read : (election : Election) (rows : List ExportSheet) (moment id : List ℕ) → PrecinctsAreThere → IsValid election → AllByRecursion (IsRow election) rows
     → length rows ≤ 1000000 → IsDistinct bytes_eq (map (λ (row : ExportSheet). sheet_name row.key) rows)
     → report_in (report_over election rows moment id) ≡ Ok (report_of_rows election rows)
-unfolding report_in
+unfolding report_in report_behind
 over-read election rows moment id law valid are few distinct =
     bind-ok _ _ (units_of election) _ (units-read election rows moment id valid)
     (bind-ok _ _ (map contest_of election.contests) _ (contests-read election rows moment id valid)

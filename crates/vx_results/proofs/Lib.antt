@@ -6,3 +6,4 @@ pub mod Few
 pub mod Sized
 pub mod Counts
 pub mod Precincts
+mod Written

@@ -4,15 +4,29 @@
 //! that was added; `journal_report` makes that value of the machine's rows, and no text of a report comes
 //! between. `results_text` gives the totals of it by `vx_audit`, and then how many contests wait:
 //! `specs/Results.antt`. What the rows of a history have is a law of `specs/Fitting.antt`.
+//!
+//! `results` does the command of that name: what it does is `results_outcome` in `specs/Outcome.antt`, and that
+//! what it writes are the results of exactly the kept events is the law of `specs/Written.antt`. `sample` draws
+//! records of a journal by a seed and compares each with what hands read: `sample_outcome` in
+//! `specs/Sampling.antt`, which is `audit` over what the report of the journal's events says. What is drawn, read
+//! and compared stands in `vx_audit`. Neither appends anything.
 #![tactic(auto)]
 
+mod comparing;
 mod contests;
+mod kept_results;
 mod laws;
+mod reading;
 mod records;
 mod report;
-mod results;
+mod sampling;
+mod telling;
 mod waiting;
+mod writing;
 
+pub use kept_results::results_are_of_what_was_kept;
 pub use laws::rows_fit;
 pub use report::journal_report;
-pub use results::results_text;
+pub use sampling::sample;
+pub use telling::results_text;
+pub use writing::results;

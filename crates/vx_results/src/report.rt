@@ -11,7 +11,7 @@ use crate::laws::rows_fit;
 use crate::records::records_of;
 use std::alloc::Global;
 use vx_base::OutOfMemory;
-use vx_center::{Center, ExportSheet};
+use vx_center::{Center, ExportSheet, drop_rows};
 use vx_cvr::report_rows;
 use vx_election_model::Election;
 use vx_styles::cards;
@@ -51,6 +51,8 @@ pub fn journal_report(
     let _kept = center.events();
     rows_fit();
     let rows = report_rows(alloc, election, center)?;
-    let report = report_of(alloc, election, rows.as_slice())?;
+    let made = report_of(alloc, election, rows.as_slice());
+    drop_rows(rows);
+    let report = made?;
     Ok(report)
 }

@@ -9,8 +9,8 @@ use Rattle.vx_tally.specs.declared.fault.ReportFault.{ReportFault}
 use Rattle.vx_tally.specs.Reading.{report_in_bytes}
 use Rattle.vx_audit.specs.Totals.{totals_text}
 use Rattle.vx_command.specs.Acts.{Take, input_limit}
-use Rattle.vx_command_audit.specs.declared.status.AuditStatus.TheVariants.{TooLong}
-use Rattle.vx_command_audit.specs.Outcome.{after, ended, once_read, with_report, writes}
+use Rattle.vx_audit.specs.declared.status.AuditStatus.TheVariants.{TooLong}
+use Rattle.vx_audit.specs.Outcome.{after, ended, once_read, with_report, writes}
 use Rattle.vx_report_read.specs.Exported.{ReportsAreRead}
 use Rattle.vx_results.specs.Report.{report_of_events}
 use Rattle.vx_results.specs.Results.{results_text}

@@ -8,9 +8,9 @@ use Rattle.vx_events.specs.declared.event.Event.{Event}
 use Rattle.vx_center.specs.Histories.{IsHistory}
 use Rattle.vx_cvr.specs.Report.{report_of}
 use Rattle.vx_command.specs.Acts.{Take, Write, input_limit}
-use Rattle.vx_command_audit.specs.declared.status.AuditStatus.TheVariants.{Ok}
-use Rattle.vx_command_audit.specs.Outcome.{AuditOutcome, asked_outcome}
-use Rattle.vx_command_audit.specs.Words.{Totals}
+use Rattle.vx_audit.specs.declared.status.AuditStatus.TheVariants.{Ok}
+use Rattle.vx_audit.specs.Outcome.{AuditOutcome, asked_outcome}
+use Rattle.vx_audit.specs.Words.{Totals}
 use Rattle.vx_command_queue.specs.Queue.{count_line, queue_lines}
 use Rattle.vx_results.specs.Results.{results_text, waiting_line}
 use Rattle.vx_results.specs.Waiting.{waiting_in}

@@ -10,11 +10,11 @@ use Rattle.vx_cvr.specs.Report.{report_of}
 use Rattle.vx_command.specs.Acts.{Act, Answer, Outcome, ReadJournal, Take, input_limit}
 use Rattle.vx_command.specs.Elections.{election_in}
 use Rattle.vx_command.specs.Status as command
-use Rattle.vx_command_audit.specs.declared.status.AuditStatus.{AuditStatus}
-use Rattle.vx_command_audit.specs.Outcome.{AuditOutcome, asked_outcome}
-use Rattle.vx_command_audit.specs.Status as audit
-use Rattle.vx_command_audit.specs.Words.{Audit}
-use Rattle.vx_command_sample.specs.Outcome.{sample_outcome}
+use Rattle.vx_audit.specs.declared.status.AuditStatus.{AuditStatus}
+use Rattle.vx_audit.specs.Outcome.{AuditOutcome, asked_outcome}
+use Rattle.vx_audit.specs.Status as audit
+use Rattle.vx_audit.specs.Words.{Audit}
+use Rattle.vx_results.specs.Sampling.{sample_outcome}
 use Rattle.vx_journal.specs.Replay.{replay_of}
 use Rattle.vx_words.specs.Samples.{seed_bytes}
 

@@ -20,7 +20,7 @@ use Rattle.vx_tally.specs.Faults.{of_json}
 use Rattle.vx_tally.specs.Members.{list_limit, record_limit, vote_limit, reference_member, new_reference_member, id_member, votes_member, list_member, first_member, with_next, each_of}
 use Rattle.vx_tally.specs.Contests.{contest_ids, own_selections, units_in, contests_in}
 use Rattle.vx_tally.specs.Records.{votes_in, row_at, row_in, rows_in, selections_at, counted_at, counted_in, counted_list_in, snapshot_in, record_at, record_in, record_list_in, records_in}
-use Rattle.vx_tally.specs.Reading.{report_in}
+use Rattle.vx_tally.specs.Reading.{report_behind, report_in}
 use Rattle.vx_tally.specs.Totals.{IsSmall, IsCountable, AreCountable}
 use Rattle.vx_tally.proofs.Summed.{sum-cons}
 
@@ -127,6 +127,6 @@ records_holds units contests value =
 
 -- the records of a report can be added
 pub report_holds : (value : Data) → Holds (λ (report : Report). AreCountable report.records) (report_in value)
-unfolding report_in
+unfolding report_in report_behind
 report_holds value =
     after (units_in value) (λ units. after (contests_in value) (λ contests. then (records_holds units contests value) (λ records are. given are)))

@@ -10,13 +10,18 @@ use Rattle.vx_tally.specs.declared.report.Report.{Report}
 use Rattle.vx_tally.specs.Contests.{units_in, contests_in}
 use Rattle.vx_tally.specs.Records.{records_in}
 
+-- the other members of a report that has those units, in their order
+unfoldable pub report_behind : List (List ℕ) → Data → Result Report ReportFault
+report_behind units value = do
+  contests ← contests_in value
+  records ← records_in units contests value
+  Ok (record { units = units; contests = contests; records = records })
+
 -- the members of a report in their order
 unfoldable pub report_in : Data → Result Report ReportFault
 report_in value = do
   units ← units_in value
-  contests ← contests_in value
-  records ← records_in units contests value
-  Ok (record { units = units; contests = contests; records = records })
+  report_behind units value
 
 -- the value that the bytes are, where they are JSON in UTF-8
 unfoldable pub value_in : List ℕ → Result Data ReportFault

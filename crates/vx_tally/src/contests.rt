@@ -105,6 +105,9 @@ impl Directory {
     }
 }
 
+/// Lets a directory go.
+pub(crate) fn drop_directory(_directory: Directory) {}
+
 /// The ids of the objects of a list, which none before the list is, nor any before it in the list.
 /// They are put behind those before.
 #[tactic(auto, unfolding(crate::specs::Contests::own_ids_in))]

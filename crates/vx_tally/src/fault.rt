@@ -10,7 +10,7 @@ use vx_base::OutOfMemory as AllocError;
 use vx_json::{JsonFault, Path, Text};
 
 /// The first fault of a report. A path names a member, as `CVR[2].CVRSnapshot[0].CVRContest`.
-#[derive(Debug, Drop)]
+#[derive(Drop)]
 pub enum ReportFault {
     /// The bytes aren't JSON in UTF-8.
     NotJson,

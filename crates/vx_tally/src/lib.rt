@@ -23,6 +23,6 @@ pub use fault::ReportFault;
 pub use reading::read_report;
 pub use report::{
     CvrRecord, CvrRecords, RecordContest, RecordContests, Report, ReportContest, ReportContests,
-    VoteRow, VoteRows,
+    VoteRow, VoteRows, drop_report,
 };
-pub use tally::Tally;
+pub use tally::{Tally, drop_tally};

@@ -9,7 +9,7 @@ use vx_base::{ListOf, OutOfMemory};
 use vx_json::{Text, Texts};
 
 /// A contest of a report.
-#[derive(Debug, Drop)]
+#[derive(Drop)]
 pub struct ReportContest {
     /// Its id in the report.
     pub id: Text,
@@ -21,7 +21,7 @@ pub struct ReportContest {
 pub type ReportContests = ListOf<ReportContest>;
 
 /// Votes for a selection.
-#[derive(Clone, Copy, Debug, PartialEq)]
+#[derive(Clone, Copy, PartialEq)]
 pub struct VoteRow {
     /// The selection's place among those of its contest.
     pub selection: u32,
@@ -33,7 +33,7 @@ pub struct VoteRow {
 pub type VoteRows = ListOf<VoteRow>;
 
 /// A contest of a record.
-#[derive(Debug, Drop)]
+#[derive(Drop)]
 pub struct RecordContest {
     /// The contest's place among those of the report.
     pub contest: u32,
@@ -74,7 +74,7 @@ impl RecordContest {
 pub type RecordContests = ListOf<RecordContest>;
 
 /// A cast vote record.
-#[derive(Debug, Drop)]
+#[derive(Drop)]
 pub struct CvrRecord {
     /// Its own id in the report.
     pub unique: Text,
@@ -134,7 +134,7 @@ impl CvrRecord {
 pub type CvrRecords = ListOf<CvrRecord>;
 
 /// A report that was read.
-#[derive(Debug, Drop)]
+#[derive(Drop)]
 pub struct Report {
     /// The ids of its units, each once.
     pub units: Texts,
@@ -143,3 +143,6 @@ pub struct Report {
     /// Its records; no two have an id in common.
     pub records: CvrRecords,
 }
+
+/// Lets a report go. That this is safe is proved here; a crate that calls it needn't prove it again.
+pub fn drop_report(_report: Report) {}

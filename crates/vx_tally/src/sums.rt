@@ -9,7 +9,7 @@ use crate::report::{CvrRecord, RecordContest, VoteRow};
 use indexmap::IndexMap;
 
 /// What there is a sum of. Contests, selections and units are places.
-#[derive(Clone, Copy, Debug, PartialEq, Eq, Hash)]
+#[derive(Clone, Copy, PartialEq, Eq, Hash)]
 pub(crate) enum Counted {
     /// The votes for a selection of a contest.
     Votes(u32, u32),

@@ -1,12 +1,12 @@
 //! Commands over devices in memory.
 
 use std::alloc::{AllocError, Global};
+use vx_audit::run_audit;
 use vx_base::{Bytes, ListOf};
 use vx_command::Halt;
-use vx_command_audit::run_audit;
 use vx_command_export::export;
-use vx_command_results::results;
 use vx_io::{MemInputs, MemKeeper, MemSink, NamedBytes, Records, Words};
+use vx_results::results;
 
 /// When an `export` is written, and by which device.
 const MOMENT: &str = "2026-11-04T08:00:00Z";

@@ -5,10 +5,10 @@ ghost use Rattle.vx_words.specs.Samples.{IsSeed, seed_bytes};
 use crate::devices::{Answer, Failing, answer_of, keeper_of, sink_of};
 use crate::worked::ELECTION;
 use std::alloc::{AllocError, Global};
+use vx_audit::run_audit;
 use vx_base::{Bytes, ListOf};
-use vx_command_audit::run_audit;
-use vx_command_sample::sample;
 use vx_io::{MemInputs, NamedBytes, Words};
+use vx_results::sample;
 
 /// The seed of zeros, by its word.
 fn zeros() -> &'static str

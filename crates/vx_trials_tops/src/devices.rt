@@ -1,11 +1,11 @@
 //! The top calls beside `run` over devices in memory.
 
 use std::alloc::{AllocError, Global};
+use vx_audit::run_audit;
 use vx_base::{Bytes, ListOf};
-use vx_command_audit::run_audit;
 use vx_command_gray::run_gray;
-use vx_command_ranked::run_ranked;
 use vx_io::{MemInputs, MemKeeper, MemSink, NamedBytes, Records, Words};
+use vx_ranked::run_ranked;
 
 /// What a command answered, what the sink had taken, and how many records the keeper held.
 #[derive(Drop)]

@@ -1,4 +1,0 @@
-pub mod Done
-pub mod Outcome
-pub mod Status
-pub mod Words

@@ -1,4 +1,0 @@
-pub mod Words
-pub mod Status
-pub mod Outcome
-pub mod Done
