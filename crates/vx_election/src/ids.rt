@@ -6,7 +6,6 @@ ghost use Rattle.vx_election.specs.Ids.{place_in, id_in, new_id_in, reference_in
 ghost use Rattle.vx_base.specs.Refusals.{Gives, GivesAs};
 ghost use Rattle.vx_election.specs.Faults.{is_no_memory};
 ghost use Rattle.serde_json.specs.View.{view};
-ghost use Rattle.vx_json.specs.Reading.{is_within};
 ghost use Rattle.std.specs.List.{list_all};
 
 use crate::fault::ElectionFault;
@@ -71,21 +70,10 @@ impl Ids {
     }
 }
 
-fn is_from(first: u8, last: u8, byte: u8) -> bool
-    ensures { result ≡ is_within first last byte }
-{
-    first <= byte && byte <= last
-}
-
 fn is_id_character(byte: u8) -> bool
     ensures { result ≡ is_id_character byte }
 {
-    is_from(b'A', b'Z', byte)
-        | is_from(b'a', b'z', byte)
-        | is_from(b'0', b'9', byte)
-        | (byte == b'-')
-        | (byte == b'_')
-        | (byte == b'.')
+    matches!(byte, b'A'..=b'Z' | b'a'..=b'z' | b'0'..=b'9' | b'-' | b'_' | b'.')
 }
 
 fn are_id_characters(bytes: &[u8]) -> bool
