@@ -1,6 +1,7 @@
 """What the measurements share: programs of this folder compiled, instructions and seconds counted."""
 
 import hashlib
+import json
 import os
 import sqlite3
 import subprocess
@@ -16,11 +17,12 @@ TABLE = "CREATE TABLE journal(place INTEGER PRIMARY KEY, body BLOB NOT NULL)"
 WITHOUT_REPEATS = "glibc.cpu.x86_rep_stosb_threshold=1073741824:glibc.cpu.x86_rep_movsb_threshold=1073741824"
 
 
-def compiled(source, room):
-    """The path of a C program of this folder, compiled into a room."""
+def compiled(source, room, *libraries):
+    """The path of a C program of this folder, compiled into a room and linked with these libraries."""
     program = os.path.join(room, source[: -len(".c")])
     compiler = os.environ.get("CC", "cc")
-    subprocess.run([compiler, "-std=c11", "-O2", "-Wall", "-o", program, os.path.join(HERE, source)], check=True)
+    linked = ["-l" + name for name in libraries]
+    subprocess.run([compiler, "-std=c11", "-O2", "-Wall", "-o", program, os.path.join(HERE, source)] + linked, check=True)
     return program
 
 
@@ -61,6 +63,44 @@ def made_journal(room, name, election, records):
 def sheets_journal(room, election, sheets):
     """The path of a journal of an election that has so many such sheets."""
     return made_journal(room, "journal-%d" % sheets, election, map(record_of, range(1, sheets + 1)))
+
+
+def written(room, name, value):
+    """The path of a JSON file."""
+    path = os.path.join(room, name)
+    with open(path, "w", encoding="utf-8") as file:
+        json.dump(value, file)
+    return path
+
+
+def ten_ranks(room):
+    """An election with one ranked contest of ten ranks over ten candidates, and its file of groups."""
+    candidates = [{"id": "c%d" % number, "name": "C%d" % number} for number in range(10)]
+    ranks = ["mayor-%d" % rank for rank in range(1, 11)]
+    about = {"type": "candidate", "districtId": "d", "seats": 1, "candidates": candidates}
+    election = {
+        "title": "City",
+        "date": "2026-11-03",
+        "districts": [{"id": "d", "name": "D"}],
+        "precincts": [{"id": "p", "name": "P"}],
+        "contests": [dict(about, id=rank, title=rank) for rank in ranks],
+        "ballotStyles": [{"id": "s", "precincts": ["p"], "districts": ["d"]}],
+        "vxReasons": [],
+    }
+    ranked = {"ranked": [{"id": "mayor", "contests": ranks}]}
+    return written(room, "city.json", election), written(room, "city-ranked.json", ranked)
+
+
+def drawn_ranks(draw, ranks, options):
+    """The states of the ranks of one contest: some of the candidates in some order, and sometimes a rank left out."""
+    order = draw.sample(range(options), min(options, draw.randint(1, ranks)))
+    marks = [order[rank] if rank < len(order) and draw.random() < 0.95 else None for rank in range(ranks)]
+    return ["".join("m" if option == mark else "c" for option in range(options)) for mark in marks]
+
+
+def added(number, states):
+    """The record that adds a sheet with these states of its contests."""
+    return "1 add b1 %d 0 1 precinct %s" % (number, " ".join("%d:%s" % one for one in enumerate(states)))
 
 
 def output(command):
