@@ -1,6 +1,6 @@
 -- How long the record of a sheet is.
-use Rattle.std.proofs.Common.{◌≡◌, ℕ, ◌+◌, ◌*◌, ◌<◌, ◌≤◌, Bool, true, false, cond, List, [], ◌∷◌, map, length, codes, refl, ap, ◌∙◌, arith, length-append, lit≤}
-use Rattle.std.specs.List.{range_with_len, sum_by}
+use Rattle.std.proofs.Common.{◌≡◌, ℕ, ◌+◌, ◌*◌, ◌^◌, ◌<◌, ◌≤◌, Bool, true, false, cond, List, [], ◌∷◌, ◌++◌, map, length, codes, refl, sym, ap, ◌∙◌, subst, arith, length-append, lit<, lit≤}
+use Rattle.std.specs.List.{flat_map, range_with_len, sum_by}
 use Rattle.std.specs.Fmt.{decimal}
 use Rattle.std.proofs.lemmas.Fmt.{length-decimal-le}
 use Rattle.std.proofs.lemmas.List.{length-map}
@@ -8,6 +8,7 @@ use Rattle.std.proofs.lemmas.List.Concat.{length-flat_map, flat_map-cons}
 use Rattle.std.proofs.lemmas.List.Folds.{flat_map-map}
 use Rattle.vx_grid.specs.declared.kind.Kind.{Kind}
 use Rattle.vx_grid.specs.declared.kind.Kind.TheVariants.{Precinct, Absentee, Provisional, Other}
+use Rattle.vx_grid.specs.declared.state.State.{State}
 use Rattle.vx_grid.specs.Kinds.{kind_word}
 use Rattle.vx_layout.specs.declared.plan.CardPlan.{CardPlan}
 use Rattle.vx_rules.specs.declared.marks.ContestMarks.{ContestMarks}
@@ -17,7 +18,7 @@ use Rattle.vx_events.specs.declared.event.Event.TheVariants.{Add}
 use Rattle.vx_events.specs.declared.key.Key.{Key}
 use Rattle.vx_records.specs.Records.{marks_word, record_of, spaced, state_letter}
 use Rattle.vx_sheet.specs.Sheet.{bubbles_on, is_on, marks_if_on, marks_of, states_on, contest_limit, sheet_with}
-use Rattle.vx_sheet.proofs.Sums.{sums-both, sums-fives, sums-laid}
+use Rattle.vx_sheet.proofs.Sums.{sums-below, sums-both, sums-fives, sums-laid}
 use Rattle.vx_sheet.proofs.Paired.{IsOf, states-few}
 
 -- how long a contest stands in a record, with the blank before it
@@ -31,6 +32,9 @@ weighs marks small =
 
 low : (bound fives both fronts backs some others : ℕ) → bound ≡ fives + both → fives ≡ 5 * 500 → both ≡ fronts + backs → fronts ≤ some → backs ≤ others → some < 1000 → others < 1000 → bound ≤ 4500
 low bound fives both fronts backs some others p q r s t u v = omega arith
+
+trans-≤ : (a b c : ℕ) → a ≤ b → b ≤ c → a ≤ c
+trans-≤ a b c p q = omega arith
 
 module _ (plan : CardPlan) (front back : PageReading) where
   -- how many states a contest has on both pages
