@@ -54,5 +54,3 @@ module _ (ids : List (List ℕ)) (places : List ℕ) (i : ℕ) (within : i < len
           text = step ∙ before.text ∙ ap joined (sym same);
           none = before.none ∙ ap are_none (sym same);
         }
-
-module _ (ids : List (List ℕ)) (places : List ℕ) (bytes : List ℕ) (first : Bool) (all : IsJoined ids places bytes first) where

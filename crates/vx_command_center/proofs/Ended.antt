@@ -15,9 +15,6 @@ use Rattle.vx_journal.specs.Steps.{IsRecorded}
 use Rattle.vx_command_center.specs.Outcome.{append_acts, event_line, history_acts}
 use Rattle.vx_command_center.specs.Runs.{is_refusal}
 
--- acts that are done up to some place, where they begin with others
-module _ (laws : ActLaws) (acts : List Act) (rest : Outcome) (a b c : Taken) (h k m : Held) where
-
 -- the call in a place, and those behind it
 here : (history : List Entry) (i : ℕ) (call : Entry) → i < length history → call ≡ get_or history i call → drop i history ≡ call ∷ drop (i + 1) history
 here history i call inside is = drop_more history i call inside ∙ ap (λ (c : Entry). c ∷ drop (i + 1) history) (sym is)

@@ -2,7 +2,6 @@ mod Appended
 mod Asking
 mod Centered
 mod Chosen
-mod Closing
 mod Ended
 mod Images
 mod Keepable

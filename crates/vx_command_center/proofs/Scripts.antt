@@ -1,13 +1,9 @@
 -- Scripts and scans as they are taken.
 use Rattle.std.proofs.Common.{◌≡◌, ℕ, ◌+◌, List, ◌++◌, length, Result, Ok, Err, refl, sym, ap, subst, append_assoc, arith}
 use Rattle.vx_base.specs.Results.{◌>>=◌}
-use Rattle.vx_plane.specs.Plane.{Page}
-use Rattle.vx_election_model.specs.declared.election.Election.{Election}
 use Rattle.vx_events.specs.declared.event.Event.{Event}
 use Rattle.vx_pbm.specs.Images.{Images, Unread, images_left, images_of, whole}
 use Rattle.vx_command.specs.declared.halt.Halt.{Halt}
-use Rattle.vx_script.specs.Script.{lines_of}
-use Rattle.vx_command_center.specs.Outcome.{events_in_line, events_in_lines}
 
 -- the events of lines, behind others
 abbrev pub behind : List Event → Result (List Event) Halt → Result (List Event) Halt
@@ -16,10 +12,6 @@ behind events more = more >>= (λ others. Ok (events ++ others))
 behind_twice : (events said : List Event) (more : Result (List Event) Halt) → behind events (behind said more) ≡ behind (events ++ said) more
 behind_twice events said (Ok others) = ap Ok (sym (append_assoc events said others))
 behind_twice events said (Err cause) = refl
-
--- the events of lines are those before a text and those of its lines
-module _ (election : Election) (all : Result (List Event) Halt) (number : ℕ) (events : List Event) (text line : List ℕ) (so_far : all ≡ behind events (events_in_lines election number (lines_of text))) where
-  module _ (said events_now : List Event) (says : events_in_line election number line ≡ Ok said) (now : events_now ≡ events ++ said) where
 
 -- the images of a scan are so many, and those that are left
 pub record CountsUpTo (bytes : List ℕ) (count : ℕ) (left : Images) : Type 0 where
@@ -32,7 +24,3 @@ counts_none bytes unread new =
     let Up : Unread → Type 0 = λ u. CountsUpTo bytes 0 (images_left u) in
     let same : length (images_of bytes).pages ≡ length (images_left (whole bytes)).pages = refl in
     subst Up (sym new) (record { pages = omega (arith, same); fault = refl })
-
-module _ (bytes : List ℕ) (count : ℕ) (left : Images) (so_far : CountsUpTo bytes count left) where
-
-module _ (word : ℕ) (batch bytes : List ℕ) (pages : List Page) where

@@ -19,5 +19,3 @@ count-none bytes = record {
       ap (images_unless (images_left (whole bytes)).fault) none);
   room = omega arith;
 }
-
-module _ (bytes : List ℕ) (unread : UnreadImages) (count : ℕ) (before : CountedTo bytes unread count) where

@@ -105,9 +105,6 @@ module _ (election : Election) (kept kept_now : List Event) (number : ℕ) (line
   }
   decides event is (Err cause) accepts = λ next. at_line (event_in election line) event is next taken_now held_now (Err cause) (accepts next)
 
--- a line among others
-module _ (election : Election) (kept kept_now : List Event) (number : ℕ) (taken taken_now : Taken) (held held_now : Held) where
-
 -- the first line of a text, and some others
 pub front_line : (text line : List ℕ) (behind : Option (Bor (List ℕ))) → MatchOption behind (lines_of text ≡ line ∷ []) (λ rest. lines_of text ≡ line ∷ lines_of rest.now) → (lines : List (List ℕ)) × (lines_of text ≡ line ∷ lines)
 front_line text line None is = ([], is)

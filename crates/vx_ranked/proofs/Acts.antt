@@ -1,13 +1,11 @@
 -- How a `ranked` goes from act to act.
 use Rattle.std.proofs.Common.{◌≡◌, ℕ, true, List, [], ◌∷◌, ◌++◌, None, Result, Ok, Err, inl, inr, refl, sym, ap, subst, ◌∙◌}
 use Rattle.vx_election_model.specs.declared.election.Election.{Election}
-use Rattle.vx_events.specs.declared.event.Event.{Event}
-use Rattle.vx_layout.specs.declared.plan.CardPlan.{CardPlan}
 use Rattle.vx_command.specs.declared.halt.Halt.{Halt}
 use Rattle.vx_command.specs.declared.halt.Halt.TheVariants as halt
 use Rattle.vx_command.specs.Acts.{Act, Take, ReadJournal, Write, Append, Outcome, after as after_command, goes_on as command_goes_on, taking as command_taking, writing as command_writing}
 use Rattle.vx_command.specs.Done.{Taken, Held, IsDone, IsWritten, ComesTo, BreaksAt}
-use Rattle.vx_command.specs.Laws.{ActLaws, StepLaws}
+use Rattle.vx_command.specs.Laws.{StepLaws}
 use Rattle.vx_command.specs.Steps.{GivesTaking, is_no_memory}
 use Rattle.vx_base.specs.Refusals.{Gives}
 use Rattle.vx_journal.specs.declared.journal.Journal.{Journal}
@@ -144,7 +142,3 @@ late text a b cause written =
       | inl whole ↦ (let same = whole.same_answer in absurd cc)
       | inr breaks ↦ breaks_late cause text done.done done.left done.text done.records breaks done.are_acts
     ]
-
-module _ (election : Election) (plans : List CardPlan) (kept : List Event) (bytes : List ℕ) (a b : Taken) where
-
-module _ (laws : ActLaws) (election : Election) (plans : List CardPlan) (kept : List Event) (bytes : List ℕ) (a : Taken) where

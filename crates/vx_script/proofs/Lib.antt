@@ -1,4 +1,3 @@
-mod Found
 mod Held
 mod Numbered
 mod Split
