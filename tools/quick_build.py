@@ -1,7 +1,9 @@
-"""The quicker way of tools/build: each crate is proved as `rt ci` proves it, without two things that only the gate needs.
+"""The quicker way of tools/build: each crate is proved as `rt ci` proves it, without three things that only the gate needs.
 
-- `rt ci` looks for contracts that no call can meet, which takes a tenth to a fifth of a crate's time. A proof is no other one
-  without that search.
+- `rt ci` looks for contracts that no call can meet, which was seen to take up to a fifth of a crate's time. A proof is no
+  other one without that search.
+- `rt ci` looks at the text beside the proof: its format, names that a reader would take for others, handles that it names. What
+  each proof's last line says is held to HANDLES here too, and so is what the linked program calls.
 - `rt ci` has the program built a second time, by Rattle's own compiler, and compares what both print. Nobody runs that one.
 
 The kit's own commands do the rest: this module loads `rt` and has it prove crate after crate, side by side as memory allows and
