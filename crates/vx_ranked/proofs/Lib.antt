@@ -1,6 +1,5 @@
 pub mod Ascending
 pub mod Bytes
-pub mod Each
 pub mod Few
 pub mod Gathered
 pub mod Grouped
