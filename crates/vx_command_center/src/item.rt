@@ -29,6 +29,13 @@ pub enum Item {
 /// Items, in order.
 pub type Items = ListOf<Item>;
 
+fn shared<T: Send + Sync>() {}
+
+/// Threads may share an item and hand it over.
+pub fn item_is_shared() {
+    shared::<Item>();
+}
+
 /// How many events an item may have.
 pub(crate) fn possible_in(item: &Item) -> u64
     ensures { result ≡ possible_of item.now }

@@ -21,7 +21,7 @@ mod two;
 mod working;
 
 pub use command::center;
-pub use item::{Item, Items};
+pub use item::{Item, Items, item_is_shared};
 pub use laws::{
     center_keeps_journals, center_reports_what_is_kept, centers_keep_their_history,
     centers_may_not_begin, scans_are_items,
