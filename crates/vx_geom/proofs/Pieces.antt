@@ -1,10 +1,11 @@
--- A slant moves a small rectangle nearly as a whole.
+-- A slant moves a small rectangle nearly as a whole, and so does its way back.
 use Rattle.std.proofs.Common.{◌≡◌, ℕ, zero, suc, ◌+◌, ◌≤◌, inl, inr, ℤ, pos, ◌+ℤ◌, ◌-ℤ◌, ◌≤ℤ◌, ◌<ℤ◌, ap, arith}
 use Rattle.std.proofs.lemmas.Int.{ints, by_lt_z}
 use Rattle.vx_grid.specs.Places.{IsWithin}
 use Rattle.vx_plane.proofs.Pages.{rectangle-sides}
-use Rattle.vx_geom.specs.Slants.{Slant, IsSlant, down_by, right_by, scan_row, scan_column}
+use Rattle.vx_geom.specs.Slants.{Slant, IsSlant, down_by, right_by, scan_row, scan_column, paper_row, paper_column}
 use Rattle.vx_geom.specs.Laws.{IsOrNext, IsNearlyMoved}
+use Rattle.vx_geom.specs.Back.{SlantsMoveBackNearlyAsAWhole}
 use Rattle.vx_geom.proofs.Floors.{down-near, right-near}
 
 -- the numbers along a run are one and the next
@@ -63,8 +64,8 @@ two_values f low zero close = record { base = pos 0; values = λ v from to. absu
 two_values f low (suc n) close =
     two_more f low n close (two_values f low n (λ v w a b c d. close v w a (omega (arith, ints)) c (omega (arith, ints))))
 
--- the columns of a rectangle are moved down by one number or the next
-columns_down : (s : Slant) → IsSlant s → (x : ℤ) (m : ℕ) → m ≤ 64 → AreTwo (down_by s) x m
+-- 65 columns of the paper are moved down by one number or the next
+columns_down : (s : Slant) → IsSlant s → (x : ℤ) (m : ℕ) → m ≤ 65 → AreTwo (down_by s) x m
 columns_down s slant x m few =
     two_values (down_by s) x m (λ v w a b c d. down-near s slant 1 v w (record { low = omega (arith, ints); high = omega (arith, ints) }))
 
@@ -75,7 +76,7 @@ rows_right s slant low n few =
 
 pub nearly-moved : (s : Slant) → IsSlant s → (x y : ℤ) (m n : ℕ) → m ≤ 64 → n ≤ 64 → IsNearlyMoved s x y m n
 nearly-moved s slant x y m n narrow low =
-    let downs : AreTwo (down_by s) x m = columns_down s slant x m narrow in
+    let downs : AreTwo (down_by s) x m = columns_down s slant x m (omega (arith, narrow)) in
     let rights : AreTwo (right_by s) (y +ℤ downs.base) (n + 1) = rows_right s slant (y +ℤ downs.base) (n + 1) (omega arith) in
     record {
       right = rights.base;
@@ -90,4 +91,24 @@ nearly-moved s slant x y m n narrow low =
           let sides = rectangle-sides x y m n w z inside in
           let d = between_of downs.base (down_by s w) (downs.values w sides.0 sides.1) in
           by_equal (z +ℤ downs.base) (scan_row s w z) (omega (arith, ints, d.0)) (omega (arith, ints, d.1));
+    }
+
+pub nearly-moved-back : SlantsMoveBackNearlyAsAWhole
+nearly-moved-back s slant u v m n narrow low =
+    let rights : AreTwo (right_by s) v n = rows_right s slant v n (omega (arith, low)) in
+    let left : ℤ = (u -ℤ rights.base) -ℤ pos 1 in
+    let downs : AreTwo (down_by s) left (m + 1) = columns_down s slant left (m + 1) (omega (arith, narrow)) in
+    record {
+      right = (pos 0 -ℤ rights.base) -ℤ pos 1;
+      down = (pos 0 -ℤ downs.base) -ℤ pos 1;
+      columns = λ w z inside.
+          let sides = rectangle-sides u v m n w z inside in
+          let r = between_of rights.base (right_by s z) (rights.values z sides.2 sides.3) in
+          by_equal (w +ℤ ((pos 0 -ℤ rights.base) -ℤ pos 1)) (paper_column s w z) (omega (arith, ints, r.1)) (omega (arith, ints, r.0));
+      rows = λ w z inside.
+          let sides = rectangle-sides u v m n w z inside in
+          let r = between_of rights.base (right_by s z) (rights.values z sides.2 sides.3) in
+          let d = between_of downs.base (down_by s (paper_column s w z))
+          (downs.values (paper_column s w z) (omega (arith, ints, r.1, sides.0)) (omega (arith, ints, r.0, sides.1))) in
+          by_equal (z +ℤ ((pos 0 -ℤ downs.base) -ℤ pos 1)) (paper_row s w z) (omega (arith, ints, d.1)) (omega (arith, ints, d.0));
     }

@@ -2,3 +2,4 @@ pub mod Slants
 pub mod Seen
 pub mod Turned
 pub mod Laws
+pub mod Back

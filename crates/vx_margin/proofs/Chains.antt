@@ -16,33 +16,33 @@ use Rattle.vx_grid.proofs.Papers.{last-row_low}
 use Rattle.vx_margin.specs.Marks.{mark_image, IsBorderPoint, AreMarks, image_of, LiesNear}
 use Rattle.vx_margin.specs.Shown.{ShowsMarks, ShowsBorder, IsInStartRegion}
 use Rattle.vx_margin.specs.Chains.{IsChain, LieAtMarks}
+use Rattle.vx_margin.specs.Laws.{IsExpectedNear, NextMarksAreExpected}
 use Rattle.vx_margin.proofs.Steps.{right-predicted, below-predicted, accepted-at, accepted-near, corner-near}
 use Rattle.vx_margin.proofs.Numbers.{mark-right, mark-below, mark-point}
 
 leader-before : (last k : ℕ) → 0 < k → leader_of last k < k
 leader-before last k some = grind (arith, nat_tests)
 
-module _ (s : Slant) (scan : Page) (paper : Paper) (marks : Pixels) (slant : IsSlant s) (are : AreMarks paper marks) (shows : ShowsMarks s scan paper marks) where
+module _ (s : Slant) (slant : IsSlant s) (paper : Paper) where
   -- where a mark is expected from one that lies at its own
   expected-near : (k : ℕ) (p : Point) (row : Bool) → 0 < k → is_in_row (last_row paper) k ≡ row
       → LiesNear 4 2 p (mark_image s paper (leader_of (last_row paper) k))
-      → LiesNear 5 3 (if row then right_of p else below p) (mark_image s paper k)
+      → IsExpectedNear (if row then right_of p else below p) (mark_image s paper k)
   expected-near k p true some is near =
       let at = mark-right (last_row paper) k (last-row_low paper) some is in
-      let Column : ℕ → Type 0 = λ c. LiesNear 5 3 (right_of p) (image_of s paper c (mark_of (last_row paper) (leader_of (last_row paper) k)).1) in
-      let Row : ℕ → Type 0 = λ r. LiesNear 5 3 (right_of p) (image_of s paper (mark_of (last_row paper) k).0 r) in
+      let Column : ℕ → Type 0 = λ c. IsExpectedNear (right_of p) (image_of s paper c (mark_of (last_row paper) (leader_of (last_row paper) k)).1) in
+      let Row : ℕ → Type 0 = λ r. IsExpectedNear (right_of p) (image_of s paper (mark_of (last_row paper) k).0 r) in
       subst Row (sym at.1) (subst Column (sym at.0) (right-predicted s slant paper p _ _ near))
   expected-near k p false some is near =
       let at = mark-below (last_row paper) k (last-row_low paper) some is in
-      let Row : ℕ → Type 0 = λ r. LiesNear 5 3 (below p) (image_of s paper (mark_of (last_row paper) (leader_of (last_row paper) k)).0 r) in
-      let Column : ℕ → Type 0 = λ c. LiesNear 5 3 (below p) (image_of s paper c (mark_of (last_row paper) k).1) in
+      let Row : ℕ → Type 0 = λ r. IsExpectedNear (below p) (image_of s paper (mark_of (last_row paper) (leader_of (last_row paper) k)).0 r) in
+      let Column : ℕ → Type 0 = λ c. IsExpectedNear (below p) (image_of s paper c (mark_of (last_row paper) k).1) in
       subst Column (sym at.0) (subst Row (sym at.1) (below-predicted s slant paper p _ _ near))
 
-  pub predicted-near : (places : List Point) (k : ℕ) → 0 < k
-      → LiesNear 4 2 (point_at places (leader_of (last_row paper) k)) (mark_image s paper (leader_of (last_row paper) k))
-      → LiesNear 5 3 (prediction_of (last_row paper) places k) (mark_image s paper k)
-  predicted-near places k some near = expected-near k (point_at places (leader_of (last_row paper) k)) (is_in_row (last_row paper) k) some refl near
+pub next-expected : NextMarksAreExpected
+next-expected s paper k p slant some near = expected-near s slant paper k p (is_in_row (last_row paper) k) some refl near
 
+module _ (s : Slant) (scan : Page) (paper : Paper) (marks : Pixels) (slant : IsSlant s) (are : AreMarks paper marks) (shows : ShowsMarks s scan paper marks) where
   -- a chain from the first mark lies at the marks
   module _ (n : ℕ) (places : List Point) (few : n ≤ marks_of paper) (chain : IsChain scan (last_row paper) n places) (first : LiesNear 4 2 (point_at places 0) (mark_image s paper 0)) where
     at-next : (k : ℕ) → 0 < k → k < n → LiesNear 4 2 (point_at places (leader_of (last_row paper) k)) (mark_image s paper (leader_of (last_row paper) k))
@@ -50,7 +50,7 @@ module _ (s : Slant) (scan : Page) (paper : Paper) (marks : Pixels) (slant : IsS
     at-next k some within near =
         let point : IsBorderPoint paper (mark_of (last_row paper) k).0 (mark_of (last_row paper) k).1 = mark-point paper k (omega (arith, within, few)) in
         (accepted-at s slant scan paper marks are shows _ _ (omega (arith, point.column)) (omega (arith, point.row)) point.side
-        (prediction_of (last_row paper) places k) (point_at places k) (predicted-near places k some near) (chain.accepted k within) (chain.near k some within)).1
+        (prediction_of (last_row paper) places k) (point_at places k) (next-expected s paper k (point_at places (leader_of (last_row paper) k)) slant some near) (chain.accepted k within) (chain.near k some within)).1
 
     before : (m k : ℕ) → k < m → m ≤ n → LiesNear 4 2 (point_at places k) (mark_image s paper k)
     before zero k less all = absurd (omega (arith, less))
@@ -114,4 +114,4 @@ module _ (s : Slant) (scan : Page) (paper : Paper) (marks : Pixels) (shows : Sho
       let lead : leader_of (last_row paper) n < n = leader-before (last_row paper) n some in
       let point : IsBorderPoint paper (mark_of (last_row paper) n).0 (mark_of (last_row paper) n).1 = mark-point paper n few in
       accepted-near s shows.slant_is scan paper marks shows.marks_are shows.shows _ _ point (shows.in_frame n few) (prediction_of (last_row paper) places n)
-      (predicted-near s scan paper marks shows.slant_is shows.marks_are shows.shows places n some (near.each (leader_of (last_row paper) n) lead))
+      (next-expected s paper n (point_at places (leader_of (last_row paper) n)) shows.slant_is some (near.each (leader_of (last_row paper) n) lead))

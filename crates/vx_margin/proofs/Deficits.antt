@@ -12,7 +12,7 @@ use Rattle.vx_mark_model.specs.Mark.{IsInFrame, deficit_of}
 use Rattle.vx_geom.specs.Slants.{Slant}
 use Rattle.vx_geom.specs.Seen.{seen}
 use Rattle.vx_margin.specs.Flips.{differ, flips, flips_in, frame_of}
-use Rattle.vx_margin.specs.Shown.{ShowsMarks, IsInZone}
+use Rattle.vx_margin.specs.Shown.{count_at, IsInZone}
 use Rattle.vx_margin.specs.Deficits.{deficit_in}
 use Rattle.vx_margin.proofs.Parts.{changed-le, five-parts}
 
@@ -49,7 +49,7 @@ as_or_flip s scan set u v framed = choose (differs (dark_at scan u v) (seen s se
     choose (inl same) = inl same
     choose (inr other) = inr (and-both _ _ framed other)
 
-module _ (s : Slant) (scan : Page) (paper : Paper) (marks : Pixels) (p : Point) (shows : ShowsMarks s scan paper marks) (framed : IsInFrame scan p) (zone : IsInZone s paper p) where
+module _ (s : Slant) (scan : Page) (paper : Paper) (marks : Pixels) (p : Point) (framed : IsInFrame scan p) (zone : IsInZone s paper p) where
   abbrev shown : Pixels
   shown = seen s marks
 
@@ -102,14 +102,12 @@ module _ (s : Slant) (scan : Page) (paper : Paper) (marks : Pixels) (p : Point) 
   bottom-in : Holds-in (p.u -ℤ pos 17) (p.v +ℤ pos 7) 34 4
   bottom-in = (omega (arith, ints), omega (arith, ints), omega (arith, ints), omega (arith, ints))
 
-  -- what is shown is at most 20 pixels worse than what is seen
-  pub deficit-below : deficit_in shown p ≤ deficit_of scan p + 20
+  -- what is shown is worse than what is seen by the flips of the footprint at most
+  pub deficit-below : deficit_in shown p ≤ deficit_of scan p + count_at p wrong
   deficit-below =
-      let few : count_in (p.u -ℤ pos 23) (p.v -ℤ pos 11) 46 22 wrong ≤ 20 = shows.few p framed in
-      omega (arith, five-parts p.u p.v wrong, few, light-le _ _ _ _ core-in, dark-le _ _ _ _ left-in, dark-le _ _ _ _ right-in, dark-le _ _ _ _ top-in, dark-le _ _ _ _ bottom-in)
+      omega (arith, five-parts p.u p.v wrong, light-le _ _ _ _ core-in, dark-le _ _ _ _ left-in, dark-le _ _ _ _ right-in, dark-le _ _ _ _ top-in, dark-le _ _ _ _ bottom-in)
 
-  -- and at most 20 pixels better
-  pub deficit-above : deficit_of scan p ≤ deficit_in shown p + 20
+  -- and no more better
+  pub deficit-above : deficit_of scan p ≤ deficit_in shown p + count_at p wrong
   deficit-above =
-      let few : count_in (p.u -ℤ pos 23) (p.v -ℤ pos 11) 46 22 wrong ≤ 20 = shows.few p framed in
-      omega (arith, five-parts p.u p.v wrong, few, light-ge _ _ _ _ core-in, dark-ge _ _ _ _ left-in, dark-ge _ _ _ _ right-in, dark-ge _ _ _ _ top-in, dark-ge _ _ _ _ bottom-in)
+      omega (arith, five-parts p.u p.v wrong, light-ge _ _ _ _ core-in, dark-ge _ _ _ _ left-in, dark-ge _ _ _ _ right-in, dark-ge _ _ _ _ top-in, dark-ge _ _ _ _ bottom-in)

@@ -105,7 +105,7 @@ module _ (s : Slant) (slant : IsSlant s) (scan : Page) (paper : Paper) (marks : 
             outside_is_zone paper (paper_column s u v) (paper_row s u v) (left-of-inner paper (paper_column s u v) (paper_row s u v) (omega (arith, ints, column.high)));
       } in
       let mark : Belongs s paper p = accepted-belongs s slant scan paper marks are shows p zone (chain.accepted 1 (omega (arith, many))) in
-      let images : LiesNear 19 11 (image_of s paper mark.c mark.r) q = near-from 4 2 15 9 _ p q (near-back 4 2 p _ mark.near) close in
+      let images : LiesNear 19 11 (image_of s paper mark.c mark.r) q = near-from 4 2 15 9 (image_of s paper mark.c mark.r) p q (near-back 4 2 p (image_of s paper mark.c mark.r) mark.near) close in
       let same = one-point s slant paper mark.c mark.r 1 1 images in
       no-side (last_row paper) mark.c mark.r (last-row_low paper) same.0 same.1 mark.point.side
 

@@ -1,25 +1,28 @@
 -- What is accepted lies at a timing mark.
-use Rattle.std.proofs.Common.{◌≡◌, ℕ, ◌+◌, ◌*◌, ◌≤◌, Bool, true, false, not, ℤ, pos, ◌+ℤ◌, ◌-ℤ◌, ◌≤ℤ◌, ◌<ℤ◌, refl, arith}
+use Rattle.std.proofs.Common.{◌≡◌, ℕ, ◌+◌, ◌*◌, ◌≤◌, Bool, true, false, not, ℤ, pos, ◌+ℤ◌, ◌-ℤ◌, ◌≤ℤ◌, refl, arith}
 use Rattle.std.proofs.lemmas.Int.{ints, by_lt_z}
 use Rattle.vx_plane.specs.Plane.{Pixels, Page}
 use Rattle.vx_plane.specs.Count.{count_in, outside_of}
 use Rattle.vx_plane.proofs.Counts.{count_in-complement}
 use Rattle.vx_grid.specs.declared.paper.Paper.{Paper}
 use Rattle.vx_grid.specs.declared.places.Point.{Point}
-use Rattle.vx_grid.specs.Places.{IsWithin}
+use Rattle.vx_grid.specs.Places.{IsWithin, point_of}
 use Rattle.vx_grid.specs.Grid.{x_of, y_of}
+use Rattle.vx_grid.specs.Regions.{frame_zone}
 use Rattle.vx_mark_model.specs.Mark.{IsAccepted, deficit_of}
 use Rattle.vx_geom.specs.Slants.{Slant, IsSlant, paper_column, paper_row, scan_column, scan_row}
 use Rattle.vx_geom.specs.Seen.{seen}
 use Rattle.vx_geom.specs.Laws.{AreAlike}
 use Rattle.vx_geom.proofs.Ways.{is-rigid, paper_column-scan, paper_row-scan, scan_column-paper, scan_row-paper}
 use Rattle.vx_margin.specs.Marks.{IsBorderPoint, IsInMark, AreMarks, image_of, LiesNear, Belongs}
-use Rattle.vx_margin.specs.Shown.{ShowsMarks, IsInZone}
+use Rattle.vx_margin.specs.Flips.{flips_in}
+use Rattle.vx_margin.specs.Shown.{ShowsMarks, IsInZone, count_at}
 use Rattle.vx_margin.specs.Deficits.{light_core, deficit_in}
+use Rattle.vx_margin.specs.Laws.{AcceptedHaveLowDeficits, LowDeficitsLieNear}
 use Rattle.vx_margin.proofs.Parts.{count_in-at_least, count_in-some}
 use Rattle.vx_margin.proofs.Deficits.{deficit-below}
 
-is_light : (b : Bool) → (b ≡ true → ⊥) → not b ≡ true
+pub is_light : (b : Bool) → (b ≡ true → ⊥) → not b ≡ true
 is_light true h = absurd (h refl)
 is_light false h = refl
 
@@ -190,35 +193,48 @@ mark-within paper c r x y m = (
   record { low = omega (arith, ints, m.top); high = omega (arith, ints, m.bottom) },
 )
 
-core-within : (n : ℕ) (p u : ℤ) → (p -ℤ pos n) ≤ℤ u → u <ℤ (p +ℤ pos n) → IsWithin n (p -ℤ u)
-core-within n p u a b = record { low = omega (arith, ints, b); high = omega (arith, ints, a) }
+-- a place that shows a pixel of a mark lies within 19 columns and 7 rows of the image of its centre
+pub mark-near : (s : Slant) → IsSlant s → (paper : Paper) (c r : ℕ) (u v : ℤ) → IsInMark paper c r (paper_column s u v) (paper_row s u v)
+    → LiesNear 19 7 (point_of u v) (image_of s paper c r)
+mark-near s slant paper c r u v inside =
+    let q : Point = image_of s paper c r in
+    let x : ℤ = paper_column s u v in
+    let y : ℤ = paper_row s u v in
+    let d = mark-within paper c r x y inside in
+    let near : AreAlike 1 1 (scan_column s x y) (scan_row s x y) q.u q.v x y (pos (x_of c)) (pos (y_of paper r)) =
+    (is-rigid s slant).scan x y (pos (x_of c)) (pos (y_of paper r)) (wider 18 64 _ (omega arith) d.0) (wider 6 63 _ (omega arith) d.1) in
+    let across : IsWithin 19 (scan_column s x y -ℤ q.u) = sum-within 1 18 _ _ near.across d.0 in
+    let down : IsWithin 7 (scan_row s x y -ℤ q.v) = sum-within 1 6 _ _ near.down d.1 in
+    let column : scan_column s x y ≡ u = scan_column-paper s u v in
+    let row : scan_row s x y ≡ v = scan_row-paper s u v in
+    record {
+      across = record { low = omega (arith, ints, column, across.low); high = omega (arith, ints, column, across.high) };
+      down = record { low = omega (arith, ints, row, down.low); high = omega (arith, ints, row, down.high) };
+    }
 
-seen-from : (n m : ℕ) (p u w q : ℤ) → w ≡ u → IsWithin n (p -ℤ u) → IsWithin m (w -ℤ q) → IsWithin (n + m) (p -ℤ q)
-seen-from n m p u w q e a b = record { low = omega (arith, ints, e, a.low, b.low); high = omega (arith, ints, e, a.high, b.high) }
+-- what is accepted has a low deficit in what is shown
+pub accepted-low : AcceptedHaveLowDeficits
+accepted-low s scan paper marks p shows zone accepted =
+    let better : deficit_in (seen s marks) p ≤ deficit_of scan p + count_at p (flips_in s scan marks (frame_zone paper)) = deficit-below s scan paper marks p accepted.in_frame zone in
+    omega (arith, better, accepted.deficit, shows.few p accepted.in_frame)
+
+-- and what has one lies near the image
+pub low-near : LowDeficitsLieNear
+low-near s paper marks c r p slant are point near low = within s slant paper marks are c r point p near.across near.down low
 
 -- an accepted place whose footprint is seen in the frame zone belongs to a timing mark
 module _ (s : Slant) (slant : IsSlant s) (scan : Page) (paper : Paper) (marks : Pixels) (are : AreMarks paper marks) (shows : ShowsMarks s scan paper marks) where
   pub accepted-belongs : (p : Point) → IsInZone s paper p → IsAccepted scan p → Belongs s paper p
   accepted-belongs p zone accepted =
-      let better : deficit_in (seen s marks) p ≤ deficit_of scan p + 20 = deficit-below s scan paper marks p shows accepted.in_frame zone in
-      let low : deficit_in (seen s marks) p ≤ 40 = omega (arith, better, accepted.deficit) in
+      let low : deficit_in (seen s marks) p ≤ 40 = accepted-low s scan paper marks p shows zone accepted in
       let area : count_in (p.u -ℤ pos 17) (p.v -ℤ pos 5) 34 10 (seen s marks) + light_core (seen s marks) p ≡ 10 * 34 = count_in-complement (p.u -ℤ pos 17) (p.v -ℤ pos 5) 34 10 (seen s marks) in
       let place = count_in-some (p.u -ℤ pos 17) (p.v -ℤ pos 5) 34 10 (seen s marks) (omega (arith, low, area)) in
       let m = are.some _ _ place.is in
       let c : ℕ = m.0 in
       let r : ℕ = m.1 in
-      let q : Point = image_of s paper c r in
-      let x : ℤ = paper_column s place.u place.v in
-      let y : ℤ = paper_row s place.u place.v in
-      let dx : IsWithin 18 (x -ℤ pos (x_of c)) = (mark-within paper c r x y m.3).0 in
-      let dy : IsWithin 6 (y -ℤ pos (y_of paper r)) = (mark-within paper c r x y m.3).1 in
-      let near : AreAlike 1 1 (scan_column s x y) (scan_row s x y) q.u q.v x y (pos (x_of c)) (pos (y_of paper r)) =
-      (is-rigid s slant).scan x y (pos (x_of c)) (pos (y_of paper r))
-      (wider 18 64 _ (omega arith) dx) (wider 6 63 _ (omega arith) dy) in
-      let du : IsWithin 19 (scan_column s x y -ℤ q.u) = sum-within 1 18 _ _ near.across dx in
-      let dv : IsWithin 7 (scan_row s x y -ℤ q.v) = sum-within 1 6 _ _ near.down dy in
-      let across : IsWithin 36 (p.u -ℤ q.u) = seen-from 17 19 p.u place.u (scan_column s x y) q.u (scan_column-paper s place.u place.v)
-      (core-within 17 p.u place.u place.from (omega (arith, ints, place.to))) du in
-      let down : IsWithin 12 (p.v -ℤ q.v) = seen-from 5 7 p.v place.v (scan_row s x y) q.v (scan_row-paper s place.u place.v)
-      (core-within 5 p.v place.v place.over (omega (arith, ints, place.under))) dv in
+      let near : LiesNear 19 7 (point_of place.u place.v) (image_of s paper c r) = mark-near s slant paper c r place.u place.v m.3 in
+      let across : IsWithin 36 (p.u -ℤ (image_of s paper c r).u) =
+      record { low = omega (arith, ints, place.to, near.across.low); high = omega (arith, ints, place.from, near.across.high) } in
+      let down : IsWithin 12 (p.v -ℤ (image_of s paper c r).v) =
+      record { low = omega (arith, ints, place.under, near.down.low); high = omega (arith, ints, place.over, near.down.high) } in
       record { c = c; r = r; point = m.2; near = within s slant paper marks are c r m.2 p across down low }

@@ -12,13 +12,15 @@ use Rattle.vx_grid.specs.Paper.{last_row, first_y}
 use Rattle.vx_grid.specs.Places.{IsWithin}
 use Rattle.vx_grid.specs.Grid.{last_column, x_of, y_of}
 use Rattle.vx_grid.specs.Regions.{inner_region, frame_zone}
-use Rattle.vx_mark_model.specs.Mark.{IsInFrame, IsAccepted, deficit_of}
+use Rattle.vx_mark_model.specs.Mark.{IsInFrame, deficit_of}
 use Rattle.vx_geom.specs.Slants.{Slant, IsSlant}
 use Rattle.vx_geom.specs.Seen.{seen}
 use Rattle.vx_grid.proofs.Papers.{last-row_low}
 use Rattle.vx_margin.specs.Marks.{IsBorderPoint, AreMarks, image_of, LiesNear}
-use Rattle.vx_margin.specs.Shown.{ShowsMarks, IsInZone}
+use Rattle.vx_margin.specs.Flips.{flips_in}
+use Rattle.vx_margin.specs.Shown.{IsInZone, count_at}
 use Rattle.vx_margin.specs.Deficits.{light_core, deficit_in}
+use Rattle.vx_margin.specs.Laws.{HasNoDeficit, ImagesHaveNoDeficit}
 use Rattle.vx_margin.proofs.Deficits.{deficit-above}
 use Rattle.vx_margin.proofs.Found.{wider, sum-within, alike, light-right, light-left, light-below, light-over, dark-near}
 
@@ -56,7 +58,7 @@ module _ (s : Slant) (slant : IsSlant s) (paper : Paper) (c r : ℕ) (few : c �
         zone-near paper c r _ _ few low line (sum-within 1 38 _ _ at.0 across) (sum-within 1 20 _ _ at.1 down);
   }
 
-module _ (s : Slant) (slant : IsSlant s) (scan : Page) (paper : Paper) (marks : Pixels) (are : AreMarks paper marks) (shows : ShowsMarks s scan paper marks) (c r : ℕ) (point : IsBorderPoint paper c r) where
+module _ (s : Slant) (slant : IsSlant s) (scan : Page) (paper : Paper) (marks : Pixels) (are : AreMarks paper marks) (c r : ℕ) (point : IsBorderPoint paper c r) where
   abbrev q : Point
   q = image_of s paper c r
 
@@ -102,10 +104,22 @@ module _ (s : Slant) (slant : IsSlant s) (scan : Page) (paper : Paper) (marks : 
       (light-below s slant paper marks are c r point u v (record { low = omega (arith, ints, a); high = omega (arith, ints, b) })
       (omega (arith, ints, d)) (omega (arith, ints, e))))
 
-  -- the image of a mark's centre is accepted, where its footprint lies in the frame
-  pub image-accepted : IsInFrame scan q → IsAccepted scan q
-  image-accepted framed =
+  -- nothing is wrong at the image of a mark's centre but flips
+  flipped : IsInFrame scan q → deficit_in shown q ≡ 0 → deficit_of scan q ≤ count_at q (flips_in s scan marks (frame_zone paper))
+  flipped framed none =
       let zone : IsInZone s paper q = near-IsInZone s slant paper c r (omega (arith, point.column)) (omega (arith, point.row)) point.side q at-itself in
-      let most : deficit_of scan q ≤ deficit_in shown q + 20 = deficit-above s scan paper marks q shows framed zone in
+      let most : deficit_of scan q ≤ deficit_in shown q + count_at q (flips_in s scan marks (frame_zone paper)) = deficit-above s scan paper marks q framed zone in
+      omega (arith, most, none)
+
+  -- so it is accepted, where its footprint lies in the frame
+  image-clear : HasNoDeficit s scan paper marks q
+  image-clear =
       let none : deficit_in shown q ≡ 0 = omega (arith, core-dark, left-light, right-light, top-light, bottom-light) in
-      record { in_frame = framed; deficit = omega (arith, most, none) }
+      record {
+        shown = none;
+        flipped = λ framed. flipped framed none;
+        accepted = λ shows framed. record { in_frame = framed; deficit = omega (arith, flipped framed none, shows.few q framed) };
+      }
+
+pub images-clear : ImagesHaveNoDeficit
+images-clear s scan paper marks c r slant are point = image-clear s slant scan paper marks are c r point

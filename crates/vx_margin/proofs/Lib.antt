@@ -1,6 +1,7 @@
 pub mod Parts
 pub mod Deficits
 pub mod Found
+pub mod Cores
 pub mod Images
 pub mod Steps
 pub mod Weights

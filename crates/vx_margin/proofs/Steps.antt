@@ -17,12 +17,13 @@ use Rattle.vx_geom.specs.Slants.{Slant, IsSlant, paper_column, paper_row}
 use Rattle.vx_geom.proofs.Ways.{is-rigid, paper_column-scan, paper_row-scan}
 use Rattle.vx_margin.specs.Marks.{IsBorderPoint, AreMarks, image_of, LiesNear, Belongs}
 use Rattle.vx_margin.specs.Shown.{ShowsMarks, ShowsBorder, IsInZone, IsInStartRegion}
+use Rattle.vx_margin.specs.Laws.{IsExpectedNear}
 use Rattle.vx_margin.proofs.Found.{wider, sum-within, accepted-belongs}
-use Rattle.vx_margin.proofs.Images.{IsOnBorderLine, near-IsInZone, image-accepted, outside_is_zone}
+use Rattle.vx_margin.proofs.Images.{IsOnBorderLine, near-IsInZone, images-clear, outside_is_zone}
 
 module _ (s : Slant) (slant : IsSlant s) (paper : Paper) where
   -- the images of grid points that are a column or a row apart
-  pub right-predicted : (p : Point) (c r : ℕ) → LiesNear 4 2 p (image_of s paper c r) → LiesNear 5 3 (right_of p) (image_of s paper (c + 1) r)
+  pub right-predicted : (p : Point) (c r : ℕ) → LiesNear 4 2 p (image_of s paper c r) → IsExpectedNear (right_of p) (image_of s paper (c + 1) r)
   right-predicted p c r near =
       let alike = (is-rigid s slant).scan (pos (x_of (c + 1))) (pos (y_of paper r)) (pos (x_of c)) (pos (y_of paper r))
       (record { low = omega (arith, ints); high = omega (arith, ints) }) (record { low = omega (arith, ints); high = omega (arith, ints) }) in
@@ -31,7 +32,7 @@ module _ (s : Slant) (slant : IsSlant s) (paper : Paper) where
         down = record { low = omega (arith, ints, near.down.low, alike.down.high); high = omega (arith, ints, near.down.high, alike.down.low) };
       }
 
-  pub below-predicted : (p : Point) (c r : ℕ) → LiesNear 4 2 p (image_of s paper c r) → LiesNear 5 3 (below p) (image_of s paper c (r + 1))
+  pub below-predicted : (p : Point) (c r : ℕ) → LiesNear 4 2 p (image_of s paper c r) → IsExpectedNear (below p) (image_of s paper c (r + 1))
   below-predicted p c r near =
       let alike = (is-rigid s slant).scan (pos (x_of c)) (pos (y_of paper (r + 1))) (pos (x_of c)) (pos (y_of paper r))
       (record { low = omega (arith, ints); high = omega (arith, ints) }) (record { low = omega (arith, ints); high = omega (arith, ints) }) in
@@ -102,7 +103,7 @@ module _ (s : Slant) (slant : IsSlant s) (scan : Page) (paper : Paper) (marks : 
       → LiesNear 5 3 predicted (image_of s paper c r)
       → IsAccepted scan (image_of s paper c r) × IsNear predicted (image_of s paper c r)
   accepted-near c r point framed predicted at =
-      (image-accepted s slant scan paper marks are shows c r point framed, near-is predicted _ at)
+      ((images-clear s scan paper marks c r slant are point).accepted shows framed, near-is predicted _ at)
 
 -- a column of the paper left of the inner region
 pub left-of-inner : (paper : Paper) (x y : ℤ) → x <ℤ pos 178 → inner_region paper x y ≡ false
@@ -149,7 +150,7 @@ module _ (s : Slant) (scan : Page) (paper : Paper) (marks : Pixels) (shows : Sho
   }
 
   pub first-accepted : IsAccepted scan first
-  first-accepted = image-accepted s shows.slant_is scan paper marks shows.marks_are shows.shows 0 0 first-point (shows.in_frame 0 (omega arith))
+  first-accepted = (images-clear s scan paper marks 0 0 shows.slant_is shows.marks_are first-point).accepted shows.shows (shows.in_frame 0 (omega arith))
 
   -- a mark to which a place near the first mark's image belongs, with no greater sum, is the first
   sums : (c r : ℕ) (p : Point) → LiesNear 86 86 p first → LiesNear 4 2 p (image_of s paper c r) → (p.u +ℤ p.v) ≤ℤ (first.u +ℤ first.v) → (c ≡ 0) × (r ≡ 0)

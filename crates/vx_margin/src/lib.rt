@@ -9,7 +9,9 @@
 mod laws;
 
 pub use laws::{
-    accepted_places_belong, borders_are_found, chains_lie_at_marks, corner_chains_lie_at_marks,
-    followed_places_are_chains, grid_places_lie_near, timing_marks_are_marks,
-    turned_chains_lie_at_marks, turned_windows_hold, windows_hold,
+    accepted_places_belong, accepted_places_have_low_deficits, borders_are_found,
+    chains_lie_at_marks, cores_between_marks_are_light, corner_chains_lie_at_marks,
+    followed_places_are_chains, grid_places_lie_near, images_have_no_deficit,
+    low_deficits_lie_near, next_marks_are_expected, timing_marks_are_marks,
+    turned_chains_lie_at_marks, turned_windows_hold, windows_hold, windows_lie_between,
 };

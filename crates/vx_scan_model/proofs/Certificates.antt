@@ -33,7 +33,7 @@ use Rattle.vx_scan_model.specs.Named.{named_plan, IsPrintedCode}
 use Rattle.vx_scan_model.specs.Reading.{is_allowed, box_count_of, code_read, scores_of, states_of, reading_on, reading_of_code, reading_of_border, upright_reading_of, told_turned, either_way, reading_of}
 use Rattle.vx_scan_model.specs.Fits.{FitsUpright, Fits, state_of_mark, Says}
 use Rattle.vx_scan_model.specs.Laws.{AreLaws, AreTurnedLaws}
-use Rattle.vx_scan_model.specs.Certificate.{CertifiesUpright, Certifies, ReadingsAreCertificates, CertificatesSayWhatFits}
+use Rattle.vx_scan_model.specs.Certificate.{CertifiesUpright, Certifies, ReadingsAreCertificates, CertificatesSayWhatFits, TurnedPagesAreNotCertified}
 use Rattle.vx_scan_model.proofs.Borders.{IsBorderOf-border_of}
 use Rattle.vx_scan_model.proofs.Plans.{named-printed, planned-named}
 use Rattle.vx_scan_model.proofs.Read.{shows-border, code-at, states-at}
@@ -232,6 +232,10 @@ module _ (laws : AreLaws) (more : AreTurnedLaws) (election : Election) (valid : 
       let none = no-code laws more election valid scan whole printed plan marks fits reading.border.places near_too in
       no-fault reading.code none.fault (sym certified.code ∙ (ap (code_read scan) border-is_too ∙ none.is))
 
+pub turned-uncertified : AreLaws → AreTurnedLaws → TurnedPagesAreNotCertified
+turned-uncertified laws more election scan printed plan marks reading valid whole fits certified =
+    no-certificate laws more election valid scan whole printed plan marks fits reading certified
+
 -- so every certificate says what fits
 pub certificates-say : AreLaws → AreTurnedLaws → CornerChainsLieAtMarks → TurnsBack → CertificatesSayWhatFits
 certificates-say laws more corners back election scan reading valid whole certified printed plan marks fits = by_turn reading.turned certified fits
@@ -241,8 +245,8 @@ certificates-say laws more corners back election scan reading valid whole certif
 
     by_turn : (over : Bool) → CertifiesUpright election (shown_page over scan) reading → Fits election scan printed plan marks → Says election printed marks reading
     by_turn false c (inl f) = upright-says laws corners election valid scan printed plan marks f reading c
-    by_turn false c (inr f) = absurd (no-certificate laws more election valid scan whole printed plan marks f reading c)
+    by_turn false c (inr f) = absurd (turned-uncertified laws more election scan printed plan marks reading valid whole f c)
     by_turn true c (inl f) =
-        absurd (no-certificate laws more election valid (turned_page scan) whole_turned printed plan marks
-        (subst (λ (p : Page). FitsUpright election p printed plan marks) (sym (back scan whole)) f) reading c)
+        absurd (turned-uncertified laws more election (turned_page scan) printed plan marks reading valid whole_turned
+        (subst (λ (p : Page). FitsUpright election p printed plan marks) (sym (back scan whole)) f) c)
     by_turn true c (inr f) = upright-says laws corners election valid (turned_page scan) printed plan marks f reading c

@@ -7,6 +7,7 @@ pub mod Borders
 pub mod Printed
 pub mod Inks
 pub mod Found
+pub mod Counted
 pub mod Read
 pub mod TurnedRead
 pub mod Once

@@ -13,43 +13,37 @@ use Rattle.vx_grid.specs.declared.places.Point.{Point}
 use Rattle.vx_grid.specs.declared.state.State.{State}
 use Rattle.vx_grid.specs.declared.state.State.TheVariants.{Marked, Clear}
 use Rattle.vx_grid.specs.declared.state.Thresholds.{Thresholds}
-use Rattle.vx_grid.specs.Grid.{first_code_row}
 use Rattle.vx_grid.specs.Marks.{marks as marks_of, timing_marks}
 use Rattle.vx_grid.specs.Borders.{MarkPlaces}
 use Rattle.vx_grid.specs.Regions.{frame_zone}
-use Rattle.vx_grid.specs.Sizes as sizes
-use Rattle.vx_grid.specs.Sizes.{zone_of, window_of}
-use Rattle.vx_fit.specs.Fit.{place_of}
 use Rattle.vx_score.specs.Score.{state_of}
 use Rattle.vx_code.specs.declared.code.PageCode.{PageCode}
-use Rattle.vx_code.specs.Code.{tag_of, place_of_box, boxes_of, version_of, IsShown, Shows}
+use Rattle.vx_code.specs.Code.{tag_of, boxes_of, version_of, IsShown, Shows}
 use Rattle.vx_election_model.specs.declared.election.Election.{Election}
 use Rattle.vx_election_model.specs.Valid.{IsValid}
 use Rattle.vx_layout.specs.declared.pages.PagePlan.{PagePlan}
 use Rattle.vx_layout.specs.Plan.{plan_of}
-use Rattle.vx_layout.specs.Pages.{IsOnGrid}
 use Rattle.vx_layout.specs.Printed.{PrintedPage, code_of, print_of_page, KeepsClear}
 use Rattle.vx_geom.specs.Slants.{Slant, slant_of}
 use Rattle.vx_geom.specs.Seen.{seen}
-use Rattle.vx_margin.specs.Marks.{image_of, LiesNear}
 use Rattle.vx_margin.specs.Flips.{flips, flips_in, differ}
-use Rattle.vx_margin.specs.Shown.{ShowsMarks, ShowsBorder, count_round}
+use Rattle.vx_margin.specs.Shown.{ShowsMarks, ShowsBorder}
 use Rattle.vx_margin.specs.Chains.{LieAtMarks}
-use Rattle.vx_margin.specs.Laws.{HoldsWindow, FindsBorder}
+use Rattle.vx_margin.specs.Laws.{FindsBorder}
 use Rattle.vx_scan_model.specs.declared.fault.PageFault.TheVariants.{FrameSize, OtherElection}
 use Rattle.vx_base.specs.Results.{◌>>=◌}
 use Rattle.vx_base.proofs.Numbers.{equal-yes, equal-no}
 use Rattle.vx_base.proofs.Booleans.{and-both}
-use Rattle.vx_grid.proofs.Papers.{last-row_low}
 use Rattle.vx_scan_model.specs.Border.{border_of}
 use Rattle.vx_scan_model.specs.Named.{named_plan, plan_on_card, plan_unless}
 use Rattle.vx_scan_model.specs.Reading.{is_allowed, box_count_of, code_read, bubble_score, scores_of, states_of, reading_on, reading_of_code, reading_of_border, upright_reading_of}
-use Rattle.vx_scan_model.specs.Ink.{added_to, bubble_at, HasInk}
-use Rattle.vx_scan_model.specs.Fits.{bubble_flips, code_flips, FitsUpright, state_of_mark, IsReadUpright}
+use Rattle.vx_scan_model.specs.Ink.{bubble_at}
+use Rattle.vx_scan_model.specs.Fits.{FitsUpright, state_of_mark, IsReadUpright}
+use Rattle.vx_scan_model.specs.Counted.{CountsTell}
 use Rattle.vx_scan_model.specs.Laws.{AreLaws}
 use Rattle.vx_scan_model.proofs.Borders.{IsBorderOf-border_of}
-use Rattle.vx_scan_model.proofs.Printed.{frame-printed, place-columns, place-rows}
-use Rattle.vx_scan_model.proofs.Inks.{zone-ink, box-ink, box-full, box-empty}
+use Rattle.vx_scan_model.proofs.Printed.{frame-printed}
+use Rattle.vx_scan_model.proofs.Counted.{shown-counted}
 use Rattle.vx_scan_model.proofs.Found.{IsFoundNear, found-near}
 
 -- a place of the paper in the frame zone has what is printed there
@@ -121,27 +115,12 @@ module _ (laws : AreLaws) (election : Election) (valid : IsValid election) (scan
     abbrev border : MarkPlaces
     border = record { paper = plan.paper; places = places }
 
-    -- the windows of the page code hold their boxes
-    box-window : (n : ℕ) → n < 84 → HoldsWindow scan plan.paper fits.paper sizes.code_box (place_of_box plan.paper n).0 (place_of_box plan.paper n).1 code_flips
-        (place_of border (place_of_box plan.paper n).0 (place_of_box plan.paper n).1)
-    box-window n few =
-        let columns = place-columns (first_code_row plan.paper) n few in
-        let rows = place-rows (first_code_row plan.paper) n few in
-        let c : ℕ = (place_of_box plan.paper n).0 in
-        let r : ℕ = (place_of_box plan.paper n).1 in
-        let close : LiesNear 6 4 (place_of border c r) (image_of s plan.paper c r) =
-        laws.places s border c r fits.shows.slant_is near (omega (arith, columns.1)) (omega (arith, rows.1, last-row_low plan.paper)) in
-        laws.windows s scan plan.paper fits.paper sizes.code_box c r code_flips (place_of border c r) fits.shows.slant_is (omega arith) (omega arith) (fits.shows.boxes n few) close
+    counts : CountsTell election scan border plan boxes marks
+    counts = shown-counted laws election scan printed plan marks s fits.paper places valid fits.planned fits.inked fits.shows near
 
     box-shown : (n : ℕ) → n < 84 → (is : Bool) → slice_index_or boxes n false ≡ is → IsShown is (box_count_of scan border n)
-    box-shown n few true is =
-        let full : count_round plan.paper sizes.code_box (place_of_box plan.paper n).0 (place_of_box plan.paper n).1 fits.paper ≡ 560 =
-        box-full laws.marks_are plan keeps boxes fits.paper fits.inked.printed n few is in
-        omega (arith, full, (box-window n few).at_least)
-    box-shown n few false is =
-        let empty : count_round plan.paper (zone_of sizes.code_box) (place_of_box plan.paper n).0 (place_of_box plan.paper n).1 fits.paper ≡ 0 =
-        box-empty laws.marks_are plan keeps boxes fits.paper fits.inked.printed n few fits.inked.codes is in
-        omega (arith, empty, (box-window n few).at_most)
+    box-shown n few true is = omega (arith, counts.printed n few is)
+    box-shown n few false is = omega (arith, counts.blank n few is)
 
     counts-show : Shows (map (box_count_of scan border) (range_with_len 0 84)) boxes
     counts-show = record {
@@ -157,27 +136,11 @@ module _ (laws : AreLaws) (election : Election) (valid : IsValid election) (scan
         laws.given_back plan.paper (map (box_count_of scan border) (range_with_len 0 84)) (code_of election printed)
         (length-map-range_with_len (box_count_of scan border) 0 84) code.1 (ap version_of (sym of_paper)) counts-show
 
-    -- the window of a bubble holds its box
-    bubble-window : (n : ℕ) → n < length plan.bubbles → HoldsWindow scan plan.paper fits.paper sizes.bubble (bubble_at plan n).col (bubble_at plan n).row bubble_flips
-        (place_of border (bubble_at plan n).col (bubble_at plan n).row)
-    bubble-window n few =
-        let c : ℕ = (bubble_at plan n).col in
-        let r : ℕ = (bubble_at plan n).row in
-        let grid : IsOnGrid plan.paper (bubble_at plan n) = keeps.on_grid n (record { contest = 0; option = 0; col = 0; row = 0 }) few in
-        let close : LiesNear 6 4 (place_of border c r) (image_of s plan.paper c r) =
-        laws.places s border c r fits.shows.slant_is near (omega (arith, grid.col, grid.few)) (omega (arith, grid.high, last-row_low plan.paper)) in
-        laws.windows s scan plan.paper fits.paper sizes.bubble c r bubble_flips (place_of border c r) fits.shows.slant_is (omega arith) (omega arith) (fits.shows.bubbles n few) close
-
-    scored : (n : ℕ) → n < length plan.bubbles → (mark : Bool) → HasInk mark election.thresholds plan.paper (bubble_at plan n) (added_to print fits.paper)
+    scored : (n : ℕ) → n < length plan.bubbles → (mark : Bool) → slice_index_or marks n false ≡ mark
         → state_of (bubble_score scan border (bubble_at plan n)) election.thresholds ≡ state_of_mark mark
-    scored n few true ink =
-        let own = box-ink laws.marks_are plan keeps boxes fits.paper fits.inked.printed n few in
-        let high : election.thresholds.def ≤ bubble_score scan border (bubble_at plan n) = omega (arith, own, ink, (bubble-window n few).at_least) in
-        marked-state (bubble_score scan border (bubble_at plan n)) election.thresholds high
-    scored n few false ink =
-        let own = zone-ink laws.marks_are plan keeps boxes fits.paper fits.inked.printed n few in
-        let low : bubble_score scan border (bubble_at plan n) < election.thresholds.marg = omega (arith, own, ink, (bubble-window n few).at_most) in
-        clear-state (bubble_score scan border (bubble_at plan n)) election.thresholds valid.thresholds.order low
+    scored n few true is = marked-state (bubble_score scan border (bubble_at plan n)) election.thresholds (counts.marked n few is)
+    scored n few false is =
+        clear-state (bubble_score scan border (bubble_at plan n)) election.thresholds valid.thresholds.order (omega (arith, counts.clear n few is))
 
     -- the states are those of the marks
     pub states-at : states_of election.thresholds (scores_of scan border plan.bubbles) ≡ map state_of_mark marks
@@ -194,7 +157,7 @@ module _ (laws : AreLaws) (election : Election) (valid : IsValid election) (scan
         let in_marks : n < length marks = omega (arith, few, fits.inked.all) in
         get_or-map (λ score. state_of score election.thresholds) scores n 0 Clear in_scores
         ∙ (ap (λ score. state_of score election.thresholds) (get_or-map (bubble_score scan border) plan.bubbles n (record { contest = 0; option = 0; col = 0; row = 0 }) 0 few)
-        ∙ (scored n few (slice_index_or marks n false) (fits.inked.ink n few)
+        ∙ (scored n few (slice_index_or marks n false) refl
         ∙ sym (get_or-map state_of_mark marks n false Clear in_marks))))
 
   -- the code of a printed page names its plan

@@ -5,7 +5,7 @@ use Rattle.vx_plane.specs.Plane.{Page}
 use Rattle.vx_grid.specs.Paper.{last_row}
 use Rattle.vx_grid.specs.Marks.{marks as marks_of}
 use Rattle.vx_grid.specs.Places.{point_at}
-use Rattle.vx_count.specs.Turned.{shown_page, IsWhole}
+use Rattle.vx_count.specs.Turned.{turned_page, shown_page, IsWhole}
 use Rattle.vx_grid.specs.declared.places.Point.{Point}
 use Rattle.vx_mark_model.specs.Region.{Region, IsIn, is_in}
 use Rattle.vx_mark_model.specs.Mark.{IsAccepted, is_accepted}
@@ -18,7 +18,7 @@ use Rattle.vx_layout.specs.declared.pages.PagePlan.{PagePlan}
 use Rattle.vx_layout.specs.Printed.{PrintedPage, IsPlanned, code_of}
 use Rattle.vx_scan_model.specs.declared.reading.PageReading.{PageReading}
 use Rattle.vx_scan_model.specs.Reading.{is_allowed, code_read, scores_of, states_of, reading_of}
-use Rattle.vx_scan_model.specs.Fits.{Fits, Says}
+use Rattle.vx_scan_model.specs.Fits.{FitsUpright, Fits, Says}
 
 -- a reading is a certificate of a scan as it lies: the frame is allowed; the said border is of the election's paper; its
 -- first place is where a corner may be, each place is accepted, each but the first lies near where the said places let
@@ -59,6 +59,13 @@ abbrev pub CertificatesSayWhatFits : Type 0
 CertificatesSayWhatFits =
     (election : Election) (scan : Page) (reading : PageReading) → IsValid election → IsWhole scan
     → Certifies election scan reading → SaysWhatFits election scan reading
+
+-- of a scan that fits a printed page with some marks when it is turned, nothing whatever is a certificate as it lies
+abbrev pub TurnedPagesAreNotCertified : Type 0
+TurnedPagesAreNotCertified =
+    (election : Election) (scan : Page) (printed : PrintedPage) (plan : PagePlan) (marks : List Bool) (reading : PageReading)
+    → IsValid election → IsWhole scan → FitsUpright election (turned_page scan) printed plan marks
+    → CertifiesUpright election scan reading → ⊥
 
 -- the tests of places say what the relations of places say
 pub record PlacesAreTested : Type 0 where

@@ -5,5 +5,6 @@ pub mod Named
 pub mod Faults
 pub mod Ink
 pub mod Fits
+pub mod Counted
 pub mod Laws
 pub mod Certificate

@@ -1,7 +1,8 @@
 //! Laws of borders and of scans that fit. These functions do nothing; their contracts are the laws.
 
 ghost use Rattle.vx_scan_model.specs.Border.{BorderIsGiven, EachScanHasItsBorder};
-ghost use Rattle.vx_scan_model.specs.Certificate.{ReadingsAreCertificates, CertificatesSayWhatFits, PlacesAreTested};
+ghost use Rattle.vx_scan_model.specs.Certificate.{ReadingsAreCertificates, CertificatesSayWhatFits, TurnedPagesAreNotCertified, PlacesAreTested};
+ghost use Rattle.vx_scan_model.specs.Counted.{ShownPagesAreCounted};
 ghost use Rattle.vx_scan_model.specs.Named.{NamedStandOnGrid, CodesNamePrintedPages};
 ghost use Rattle.vx_scan_model.specs.Ink.{BubblesAreOutlined};
 ghost use Rattle.vx_scan_model.specs.Fits.{TurnedPagesAreNone, FittingScansAreRead, FitsOnePage, ShearedPrintsFit, CleanPrintsFit};
@@ -60,6 +61,22 @@ fn laws_below()
 /// Where a scan fits a printed page with some marks when it is turned by 180 degrees, it has a fault as it lies.
 pub fn turned_pages_are_none_as_they_lie()
     ensures { TurnedPagesAreNone }
+{
+    laws_below();
+}
+
+/// Of a scan that fits a printed page with some marks when it is turned by 180 degrees no reading whatever is a
+/// certificate as it lies.
+pub fn turned_pages_are_not_certified_as_they_lie()
+    ensures { TurnedPagesAreNotCertified }
+{
+    laws_below();
+}
+
+/// In a scan that shows a printed page with its marks the printed and the blank boxes of the page code are told by
+/// their counts, and the marked and the clear bubbles by their scores.
+pub fn shown_pages_are_counted()
+    ensures { ShownPagesAreCounted }
 {
     laws_below();
 }

@@ -28,7 +28,8 @@ pub use laws::{
     a_border_is_the_border, bubbles_are_outlined, certificates_say_what_fits, clean_prints_fit,
     codes_name_printed_pages, every_scan_has_its_border, fitting_scans_are_read,
     named_pages_stand_on_the_grid, places_are_tested, readings_are_certificates,
-    turned_pages_are_none_as_they_lie,
+    shown_pages_are_counted, turned_pages_are_none_as_they_lie,
+    turned_pages_are_not_certified_as_they_lie,
 };
 pub use named::find_plan;
 pub use reading::{PageReading, Scores};
