@@ -1,17 +1,34 @@
 //! The election's contests, their candidates, and what may be selected in them.
 
-ghost use Rattle.std.specs.Prelude.{◌≡◌, ◌++◌, ◌<◌, ◌^◌, All, IfOk, OnOk, length, map};
+ghost use Rattle.std.specs.Prelude.{◌≡◌, ◌++◌, ◌<◌, ◌^◌, All, ◌∷◌, [], IfOk, OnOk, codes, length, map};
 ghost use Rattle.std.specs.List.{flat_map, range_with_len};
-ghost use Rattle.serde_json.specs.View.{view};
+ghost use Rattle.serde_json.specs.Data.{put as with_member};
+ghost use Rattle.serde_json.specs.View.{members_view, view};
 ghost use Rattle.vx_election_model.specs.Options.{options_of};
-ghost use Rattle.vx_cvr.specs.Json.{list};
+ghost use Rattle.vx_cvr.specs.Json.{list, members as members_of, text};
+ghost use Rattle.vx_cvr.specs.Names.{contest_name as contest_name_of};
 ghost use Rattle.vx_cvr.specs.Report as spec;
 
+use crate::members::{Members, put_list, texts};
 use crate::names::{candidate_name, contest_name, selection_name};
-use serde_json::{Value, json};
+use serde_json::{Value, put};
 use std::alloc::Global;
 use vx_base::OutOfMemory;
 use vx_election_model::{Contest, Election};
+
+/// The members of an object by its id and its class, with one text more.
+fn identified<'t>(
+    alloc: Global,
+    id: &'t str,
+    class: &'t str,
+    name: &'t str,
+    given: &'t str,
+) -> Result<Members, OutOfMemory>
+    ensures { IfOk result (λ members. members_view members.entries ≡ with_member name.now (text given.now)
+        (members_of ((codes "@id", text id.now) ∷ (codes "@type", text class.now) ∷ []))) }
+{
+    texts(alloc, &[("@id", id), ("@type", class), (name, given)])
+}
 
 /// A candidate of a contest, by its option's number.
 fn candidate(alloc: Global, contest: &Contest, option: usize) -> Result<Value, OutOfMemory>
@@ -20,7 +37,9 @@ fn candidate(alloc: Global, contest: &Contest, option: usize) -> Result<Value, O
 {
     let id = candidate_name(alloc, contest.id.as_str(), option)?;
     let choice = &contest.choices.as_slice()[option];
-    json!(in alloc; {"@id": id, "@type": "CVR.Candidate", "Name": choice.name.as_str()})
+    let text = choice.name.as_str();
+    let members = identified(alloc, id.as_str(), "CVR.Candidate", "Name", text)?;
+    Ok(Value::Object(members))
 }
 
 /// Adds the candidates of a contest; the answers of a yes/no contest are none.
@@ -61,11 +80,22 @@ fn candidate_selection(
     ensures { IfOk result (λ value. view value ≡ spec.candidate_selection contest.now option) }
 {
     let id = selection_name(alloc, contest.id.as_str(), option)?;
+    let mut members = texts(
+        alloc,
+        &[("@id", id.as_str()), ("@type", "CVR.CandidateSelection")],
+    )?;
     if contest.choices.len() <= option {
-        json!(in alloc; {"@id": id, "@type": "CVR.CandidateSelection", "IsWriteIn": true})
+        put(&mut members, alloc, "IsWriteIn", Value::Bool(true))?;
+        Ok(Value::Object(members))
     } else {
         let candidate = candidate_name(alloc, contest.id.as_str(), option)?;
-        json!(in alloc; {"@id": id, "@type": "CVR.CandidateSelection", "CandidateIds": [candidate]})
+        put_list(
+            &mut members,
+            alloc,
+            "CandidateIds",
+            Value::String(candidate),
+        )?;
+        Ok(Value::Object(members))
     }
 }
 
@@ -76,7 +106,15 @@ fn answer(alloc: Global, contest: &Contest, option: usize) -> Result<Value, OutO
 {
     let id = selection_name(alloc, contest.id.as_str(), option)?;
     let choice = &contest.choices.as_slice()[option];
-    json!(in alloc; {"@id": id, "@type": "CVR.BallotMeasureSelection", "Selection": choice.label.as_str()})
+    let text = choice.label.as_str();
+    let members = identified(
+        alloc,
+        id.as_str(),
+        "CVR.BallotMeasureSelection",
+        "Selection",
+        text,
+    )?;
+    Ok(Value::Object(members))
 }
 
 /// What may be selected in a contest of candidates, in order.
@@ -104,33 +142,41 @@ fn answers(alloc: Global, contest: &Contest) -> Result<Value, OutOfMemory>
     Ok(Value::Array(answers))
 }
 
+/// The members of a contest that are texts.
+fn contest_texts(alloc: Global, contest: &Contest, class: &str) -> Result<Members, OutOfMemory>
+    ensures { IfOk result (λ members. members_view members.entries ≡ members_of
+        ((codes "@id", text (contest_name_of contest.now.id)) ∷ (codes "@type", text class.now)
+        ∷ (codes "Name", text contest.now.title) ∷ [])) }
+{
+    let id = contest_name(alloc, contest.id.as_str())?;
+    let members = identified(alloc, id.as_str(), class, "Name", contest.title.as_str())?;
+    Ok(members)
+}
+
 fn candidate_contest(alloc: Global, contest: &Contest) -> Result<Value, OutOfMemory>
     requires { options_of contest.now < 2 ^ 32 }
     ensures { IfOk result (λ value. view value ≡ spec.candidate_contest contest.now) }
 {
-    let id = contest_name(alloc, contest.id.as_str())?;
+    let mut members = contest_texts(alloc, contest, "CVR.CandidateContest")?;
     let selections = candidate_selections(alloc, contest)?;
-    json!(in alloc; {
-        "@id": id,
-        "@type": "CVR.CandidateContest",
-        "ContestSelection": selections,
-        "Name": contest.title.as_str(),
-        "VotesAllowed": contest.seats
-    })
+    put(&mut members, alloc, "ContestSelection", selections)?;
+    put(
+        &mut members,
+        alloc,
+        "VotesAllowed",
+        Value::from(contest.seats),
+    )?;
+    Ok(Value::Object(members))
 }
 
 fn measure(alloc: Global, contest: &Contest) -> Result<Value, OutOfMemory>
     requires { options_of contest.now ≡ length contest.now.choices }
     ensures { IfOk result (λ value. view value ≡ spec.measure contest.now) }
 {
-    let id = contest_name(alloc, contest.id.as_str())?;
+    let mut members = contest_texts(alloc, contest, "CVR.BallotMeasureContest")?;
     let answers = answers(alloc, contest)?;
-    json!(in alloc; {
-        "@id": id,
-        "@type": "CVR.BallotMeasureContest",
-        "ContestSelection": answers,
-        "Name": contest.title.as_str()
-    })
+    put(&mut members, alloc, "ContestSelection", answers)?;
+    Ok(Value::Object(members))
 }
 
 /// A contest that a valid election may have.
@@ -166,15 +212,19 @@ pub fn election(alloc: Global, given: &Election) -> Result<Value, OutOfMemory>
     requires { All spec.HasOptions given.now.contests }
     ensures { IfOk result (λ value. view value ≡ spec.election_object given.now) }
 {
+    let mut members = texts(
+        alloc,
+        &[
+            ("@id", "election"),
+            ("@type", "CVR.Election"),
+            ("ElectionScopeId", "scope"),
+            ("Name", given.title.as_str()),
+        ],
+    )?;
     let candidates = candidates(alloc, given.contests.as_slice())?;
+    put(&mut members, alloc, "Candidate", candidates)?;
     let mut contests = Vec::new(alloc);
     push_contests(alloc, &mut contests, given.contests.as_slice())?;
-    json!(in alloc; {
-        "@id": "election",
-        "@type": "CVR.Election",
-        "Candidate": candidates,
-        "Contest": contests,
-        "ElectionScopeId": "scope",
-        "Name": given.title.as_str()
-    })
+    put(&mut members, alloc, "Contest", Value::Array(contests))?;
+    Ok(Value::Object(members))
 }

@@ -9,6 +9,7 @@
 
 mod contests;
 mod laws;
+mod members;
 mod names;
 mod places;
 mod reporting;

@@ -5,8 +5,9 @@ ghost use Rattle.serde_json.specs.View.{view};
 ghost use Rattle.vx_cvr.specs.Json.{list};
 ghost use Rattle.vx_cvr.specs.Report as spec;
 
+use crate::members::object_of_texts;
 use crate::names::{device_name, precinct_name};
-use serde_json::{Value, json};
+use serde_json::Value;
 use std::alloc::Global;
 use vx_base::OutOfMemory;
 use vx_election_model::{Election, Named};
@@ -16,14 +17,25 @@ pub fn device(alloc: Global, id: &str) -> Result<Value, OutOfMemory>
     ensures { IfOk result (λ value. view value ≡ spec.device id.now) }
 {
     let name = device_name(alloc, id)?;
-    json!(in alloc; {"@id": name, "@type": "CVR.ReportingDevice"})
+    object_of_texts(
+        alloc,
+        &[("@id", name.as_str()), ("@type", "CVR.ReportingDevice")],
+    )
 }
 
 /// A place that votes.
-fn place(alloc: Global, id: &str, name: &str, kind: &str) -> Result<Value, OutOfMemory>
+fn place<'t>(alloc: Global, id: &'t str, name: &'t str, kind: &'t str) -> Result<Value, OutOfMemory>
     ensures { IfOk result (λ value. view value ≡ spec.place id.now name.now kind.now) }
 {
-    json!(in alloc; {"@id": id, "@type": "CVR.GpUnit", "Name": name, "Type": kind})
+    object_of_texts(
+        alloc,
+        &[
+            ("@id", id),
+            ("@type", "CVR.GpUnit"),
+            ("Name", name),
+            ("Type", kind),
+        ],
+    )
 }
 
 fn precinct(alloc: Global, named: &Named) -> Result<Value, OutOfMemory>

@@ -8,10 +8,11 @@ ghost use Rattle.vx_cvr.specs.Report as spec;
 ghost use Rattle.vx_cvr.specs.Rows.{rows_of};
 
 use crate::contests::election as election_object;
+use crate::members::{put_list, texts};
 use crate::names::device_name;
 use crate::places::{device as device_object, places};
 use crate::sheets::push_sheets;
-use serde_json::{Value, json};
+use serde_json::{Value, put};
 use std::alloc::Global;
 use vx_base::{Bytes, OutOfMemory};
 use vx_center::{Center, ExportSheet, ExportSheets, sheets_have_own_keys};
@@ -37,18 +38,21 @@ fn behind_sheets(
     ensures { IfOk result (λ value. view value
         ≡ described (spec.behind_sheets election.now moment.now device.now)) }
 {
+    let mut members = texts(alloc, &[("GeneratedDate", moment), ("Version", "1.0.0")])?;
     let given = election_object(alloc, election)?;
+    put_list(&mut members, alloc, "Election", given)?;
     let places = places(alloc, election)?;
+    put(&mut members, alloc, "GpUnit", places)?;
     let name = device_name(alloc, device)?;
+    put_list(
+        &mut members,
+        alloc,
+        "ReportGeneratingDeviceIds",
+        Value::String(name),
+    )?;
     let reporting = device_object(alloc, device)?;
-    json!(in alloc; {
-        "Election": [given],
-        "GeneratedDate": moment,
-        "GpUnit": places,
-        "ReportGeneratingDeviceIds": [name],
-        "ReportingDevice": [reporting],
-        "Version": "1.0.0"
-    })
+    put_list(&mut members, alloc, "ReportingDevice", reporting)?;
+    Ok(Value::Object(members))
 }
 
 /// Writes the members of an object behind others, and its closing brace.

@@ -1,21 +1,23 @@
 //! The sheets, with their exported contests and what they count as.
 
-ghost use Rattle.std.specs.Prelude.{◌≡◌, ◌++◌, ◌+◌, ◌/◌, All, IfOk, OnOk, false, map, slice_index_or, string_bytes};
-ghost use Rattle.serde_json.specs.View.{items_of, view};
+ghost use Rattle.std.specs.Prelude.{◌≡◌, ◌++◌, ◌+◌, ◌/◌, ◌∷◌, [], All, IfOk, OnOk, codes, false, map, slice_index_or, string_bytes};
+ghost use Rattle.serde_json.specs.Data.{object, put as with_member};
+ghost use Rattle.serde_json.specs.View.{items_of, members_view, view};
 ghost use Rattle.serde_json.specs.Written.{comma_if, compact_text, has_float, items_text};
 ghost use Rattle.std.specs.Fmt.{decimal};
 ghost use Rattle.vx_styles.specs.Cards.{cards_of, no_card, no_style};
-ghost use Rattle.vx_cvr.specs.Json.{list, text};
+ghost use Rattle.vx_cvr.specs.Json.{described, list, members as members_of, text};
 ghost use Rattle.vx_cvr.specs.Names as spec_names;
 ghost use Rattle.vx_cvr.specs.Votes as votes;
 ghost use Rattle.vx_cvr.specs.Report as spec;
 
+use crate::members::{Members, list_of_one, object_of_texts, put_list, put_numbers, texts};
 use crate::names::{contest_name, precinct_name, selection_name, sheet_name, snapshot_name};
 use crate::votes::{
     allocable, indication_of, is_overvoted, name_of, overvotes, snapshot_kind, undervotes,
     voted_for, votes_of, write_ins,
 };
-use serde_json::{Value, json};
+use serde_json::{Value, put};
 use std::alloc::Global;
 use vx_base::{Bytes, OutOfMemory};
 use vx_center::{ExportSheet, Final, WriteInName};
@@ -37,6 +39,17 @@ fn written_name<'a>(contest: &'a Contest, name: &'a WriteInName) -> &'a str
     }
 }
 
+/// An object with the name of a write-in slot among its members.
+fn with_write_in(alloc: Global, mut members: Members, name: &str) -> Result<Value, OutOfMemory>
+    ensures { IfOk result (λ value. view value ≡ object (with_member (codes "CVRWriteIn") (described
+        ((codes "@type", text (codes "CVR.CVRWriteIn")) ∷ (codes "Text", text name.now) ∷ []))
+        (members_view members.entries))) }
+{
+    let written = object_of_texts(alloc, &[("@type", "CVR.CVRWriteIn"), ("Text", name)])?;
+    put(&mut members, alloc, "CVRWriteIn", written)?;
+    Ok(Value::Object(members))
+}
+
 /// How a selected option counts.
 fn position(
     alloc: Global,
@@ -46,23 +59,19 @@ fn position(
 ) -> Result<Value, OutOfMemory>
     ensures { IfOk result (λ value. view value ≡ spec.position contest.now counted.now option) }
 {
-    let indication = indication_of(counted, option);
-    let allocable = allocable(contest, counted, option);
+    let mut members = texts(
+        alloc,
+        &[
+            ("@type", "CVR.SelectionPosition"),
+            ("HasIndication", indication_of(counted, option)),
+            ("IsAllocable", allocable(contest, counted, option)),
+        ],
+    )?;
     let votes = votes_of(contest, counted, option);
+    put(&mut members, alloc, "NumberVotes", Value::from(votes))?;
     match name_of(contest, counted, option) {
-        None => json!(in alloc; {
-            "@type": "CVR.SelectionPosition",
-            "HasIndication": indication,
-            "IsAllocable": allocable,
-            "NumberVotes": votes
-        }),
-        Some(name) => json!(in alloc; {
-            "@type": "CVR.SelectionPosition",
-            "CVRWriteIn": {"@type": "CVR.CVRWriteIn", "Text": written_name(contest, name)},
-            "HasIndication": indication,
-            "IsAllocable": allocable,
-            "NumberVotes": votes
-        }),
+        None => Ok(Value::Object(members)),
+        Some(name) => with_write_in(alloc, members, written_name(contest, name)),
     }
 }
 
@@ -75,14 +84,13 @@ fn selected(
 ) -> Result<Value, OutOfMemory>
     ensures { IfOk result (λ value. view value ≡ spec.selected contest.now counted.now option) }
 {
+    let mut members = texts(alloc, &[("@type", "CVR.CVRContestSelection")])?;
     let selection = voted_for(contest, counted, option) as usize;
     let id = selection_name(alloc, contest.id.as_str(), selection)?;
+    put(&mut members, alloc, "ContestSelectionId", Value::String(id))?;
     let position = position(alloc, contest, counted, option)?;
-    json!(in alloc; {
-        "@type": "CVR.CVRContestSelection",
-        "ContestSelectionId": id,
-        "SelectionPosition": [position]
-    })
+    put_list(&mut members, alloc, "SelectionPosition", position)?;
+    Ok(Value::Object(members))
 }
 
 /// Adds selected options in order.
@@ -102,6 +110,14 @@ fn push_selected(
     Ok(())
 }
 
+/// A list of one text.
+fn one_text(alloc: Global, word: &str) -> Result<Value, OutOfMemory>
+    ensures { IfOk result (λ value. view value ≡ list (text word.now ∷ [])) }
+{
+    let value = Value::try_from_str(alloc, word)?;
+    list_of_one(alloc, value)
+}
+
 /// The words of a contest's status.
 fn status(alloc: Global, contest: &Contest, counted: &Final) -> Result<Value, OutOfMemory>
     ensures { IfOk result (λ value. view value
@@ -109,13 +125,13 @@ fn status(alloc: Global, contest: &Contest, counted: &Final) -> Result<Value, Ou
 {
     let count = counted.selected.as_slice().len();
     if is_overvoted(contest, counted) {
-        json!(in alloc; ["overvoted"])
+        one_text(alloc, "overvoted")
     } else if count == 0 {
-        json!(in alloc; ["not-indicated"])
+        one_text(alloc, "not-indicated")
     } else if count < contest.seats as usize {
-        json!(in alloc; ["undervoted"])
+        one_text(alloc, "undervoted")
     } else {
-        json!(in alloc; [])
+        Ok(Value::Array(Vec::new(alloc)))
     }
 }
 
@@ -123,20 +139,30 @@ fn status(alloc: Global, contest: &Contest, counted: &Final) -> Result<Value, Ou
 fn counted(alloc: Global, contest: &Contest, counted: &Final) -> Result<Value, OutOfMemory>
     ensures { IfOk result (λ value. view value ≡ spec.counted contest.now counted.now) }
 {
+    let mut members = texts(alloc, &[("@type", "CVR.CVRContest")])?;
     let mut selections = Vec::new(alloc);
     let options = counted.selected.as_slice();
     push_selected(alloc, &mut selections, contest, counted, options)?;
+    put(
+        &mut members,
+        alloc,
+        "CVRContestSelection",
+        Value::Array(selections),
+    )?;
     let id = contest_name(alloc, contest.id.as_str())?;
+    put(&mut members, alloc, "ContestId", Value::String(id))?;
     let status = status(alloc, contest, counted)?;
-    json!(in alloc; {
-        "@type": "CVR.CVRContest",
-        "CVRContestSelection": selections,
-        "ContestId": id,
-        "Overvotes": overvotes(contest, counted),
-        "Status": status,
-        "Undervotes": undervotes(contest, counted),
-        "WriteIns": write_ins(contest, counted)
-    })
+    put(&mut members, alloc, "Status", status)?;
+    put_numbers(
+        &mut members,
+        alloc,
+        &[
+            ("Overvotes", u64::from(overvotes(contest, counted))),
+            ("Undervotes", u64::from(undervotes(contest, counted))),
+            ("WriteIns", write_ins(contest, counted) as u64),
+        ],
+    )?;
+    Ok(Value::Object(members))
 }
 
 /// An exported contest of a sheet, which the election has.
@@ -172,16 +198,20 @@ fn snapshot(alloc: Global, election: &Election, row: &ExportSheet) -> Result<Val
     requires { All (spec.IsOfElection election.now) row.now.finals }
     ensures { IfOk result (λ value. view value ≡ spec.snapshot election.now row.now) }
 {
-    let id = snapshot_name(alloc, &row.key)?;
     let finals = row.finals.as_slice();
+    let mut members = texts(
+        alloc,
+        &[
+            ("@type", "CVR.CVRSnapshot"),
+            ("Type", snapshot_kind(finals)),
+        ],
+    )?;
+    let id = snapshot_name(alloc, &row.key)?;
+    put(&mut members, alloc, "@id", Value::String(id))?;
     let mut contests = Vec::new(alloc);
     push_counted(alloc, &mut contests, election, finals)?;
-    json!(in alloc; {
-        "@id": id,
-        "@type": "CVR.CVRSnapshot",
-        "CVRContest": contests,
-        "Type": snapshot_kind(finals)
-    })
+    put(&mut members, alloc, "CVRContest", Value::Array(contests))?;
+    Ok(Value::Object(members))
 }
 
 /// The id of a style, by its place.
@@ -225,58 +255,45 @@ fn leaf(alloc: Global, front: u32) -> Result<String, OutOfMemory>
     format!(in alloc; "{number}")
 }
 
-/// How a sheet is known: the names of its leaf, its precinct, its snapshot and itself.
-struct SheetNames {
-    leaf: String,
-    precinct: String,
-    snapshot: String,
-    sheet: String,
-}
-
-fn sheet_names(alloc: Global, row: &ExportSheet, precinct: &str) -> Result<SheetNames, OutOfMemory>
-    ensures { IfOk result (λ names.
-        (string_bytes names.leaf ≡ decimal ((row.now.front + 1) / 2))
-        × (string_bytes names.precinct ≡ spec_names.precinct_name precinct.now)
-        × (string_bytes names.snapshot ≡ spec_names.snapshot_name row.now.key)
-        × (string_bytes names.sheet ≡ spec_names.sheet_name row.now.key)) }
+/// The members of a sheet that are texts and not names: its class, its card's style, its batch and its election.
+fn sheet_texts<'t>(alloc: Global, style: &'t str, batch: &'t str) -> Result<Members, OutOfMemory>
+    ensures { IfOk result (λ members. members_view members.entries ≡ members_of
+        ((codes "@type", text (codes "CVR.CVR")) ∷ (codes "BallotStyleId", text style.now)
+        ∷ (codes "BatchId", text batch.now) ∷ (codes "ElectionId", text (codes "election")) ∷ [])) }
 {
-    Ok(SheetNames {
-        leaf: leaf(alloc, row.front)?,
-        precinct: precinct_name(alloc, precinct)?,
-        snapshot: snapshot_name(alloc, &row.key)?,
-        sheet: sheet_name(alloc, &row.key)?,
-    })
+    texts(
+        alloc,
+        &[
+            ("@type", "CVR.CVR"),
+            ("BallotStyleId", style),
+            ("BatchId", batch),
+            ("ElectionId", "election"),
+        ],
+    )
 }
 
-/// A sheet, by its names, its batch, the id of its card's style, and its snapshot.
-fn sheet_with(
+/// Puts the names of a sheet among its members: those of its leaf, its precinct, its snapshot and itself.
+fn put_names(
+    members: &mut Members,
     alloc: Global,
-    names: SheetNames,
-    batch: &str,
-    style: &str,
-    taken: Value,
-) -> Result<Value, OutOfMemory>
-    ensures { IfOk result (λ value. view value ≡ spec.sheet_named (string_bytes names.leaf) style.now
-        (string_bytes names.precinct) batch.now (view taken) (string_bytes names.snapshot)
-        (string_bytes names.sheet)) }
+    row: &ExportSheet,
+    precinct: &str,
+) -> Result<(), OutOfMemory>
+    ensures { OnOk result (members_view members.new.entries
+        ≡ with_member (codes "UniqueId") (text (spec_names.sheet_name row.now.key))
+        (with_member (codes "CurrentSnapshotId") (text (spec_names.snapshot_name row.now.key))
+        (with_member (codes "BallotStyleUnitId") (text (spec_names.precinct_name precinct.now))
+        (with_member (codes "BallotSheetId") (text (decimal ((row.now.front + 1) / 2)))
+        (members_view members.old.entries))))) }
 {
-    let SheetNames {
-        leaf,
-        precinct,
-        snapshot,
-        sheet,
-    } = names;
-    json!(in alloc; {
-        "@type": "CVR.CVR",
-        "BallotSheetId": leaf,
-        "BallotStyleId": style,
-        "BallotStyleUnitId": precinct,
-        "BatchId": batch,
-        "CVRSnapshot": [taken],
-        "CurrentSnapshotId": snapshot,
-        "ElectionId": "election",
-        "UniqueId": sheet
-    })
+    let leaf = leaf(alloc, row.front)?;
+    put(members, alloc, "BallotSheetId", Value::String(leaf))?;
+    let unit = precinct_name(alloc, precinct)?;
+    put(members, alloc, "BallotStyleUnitId", Value::String(unit))?;
+    let snapshot = snapshot_name(alloc, &row.key)?;
+    put(members, alloc, "CurrentSnapshotId", Value::String(snapshot))?;
+    let name = sheet_name(alloc, &row.key)?;
+    put(members, alloc, "UniqueId", Value::String(name))
 }
 
 /// A sheet; `cards` are the election's.
@@ -291,10 +308,17 @@ fn sheet(
     ensures { IfOk result (λ value. view value ≡ spec.sheet election.now row.now) }
 {
     let card = card_at(cards, row.card);
-    let taken = snapshot(alloc, election, row)?;
-    let names = sheet_names(alloc, row, precinct_id(election, card.precinct))?;
     let style = style_id(election, card.style);
-    sheet_with(alloc, names, row.key.batch.as_str(), style, taken)
+    let mut members = sheet_texts(alloc, style, row.key.batch.as_str())?;
+    put_names(
+        &mut members,
+        alloc,
+        row,
+        precinct_id(election, card.precinct),
+    )?;
+    let taken = snapshot(alloc, election, row)?;
+    put_list(&mut members, alloc, "CVRSnapshot", taken)?;
+    Ok(Value::Object(members))
 }
 
 /// Writes a value behind others of a list: a comma, where one stands before, and its text.

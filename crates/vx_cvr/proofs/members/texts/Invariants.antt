@@ -1,0 +1,11 @@
+use Rattle.std.proofs.Common.{◌≡◌, drop}
+use Rattle.std.specs.List.{fold}
+use Rattle.serde_json.specs.Data.{no_members, put}
+use Rattle.serde_json.specs.View.{members_view}
+use Rattle.vx_cvr.specs.Json.{text}
+use Rattle.vx_cvr.proofs.members.texts.Given as goal
+
+abbrev pub invariant-loop-named : goal.invariant-loop-named
+invariant-loop-named l =
+    fold (λ others named. put named.0.now (text named.1.now) others) (members_view l.members.entries) (drop l.named-index l.given)
+    ≡ fold (λ others named. put named.0.now (text named.1.now) others) no_members l.given
