@@ -1,6 +1,7 @@
--- Passes of the tests.
-use Rattle.std.specs.Prelude.{◌≡◌, ℕ}
+-- Passes and scripts of the tests.
+use Rattle.std.specs.Prelude.{◌≡◌, ◌≤◌, ℕ, All, List, length}
 use Rattle.atomic_table.specs.Seated.{TableId}
+use Rattle.vx_election_model.specs.declared.election.Election.{Election}
 use Rattle.vx_events.specs.declared.event.Event.{Event}
 use Rattle.vx_events.specs.Fits.{Fits}
 use Rattle.vx_shared.specs.Calls.{Known}
@@ -13,3 +14,11 @@ IsSame old now = (now.of ≡ old.of) × (now.origin ≡ old.origin) × (now.shar
 abbrev pub MayCall : TableId → ℕ → Event → Event → Known → Type 0
 MayCall of shares one other pass =
     (pass.of ≡ of) × (pass.shares ≡ shares) × Fits pass.origin.election one × Fits pass.origin.election other
+
+-- at most so many events that fit an election
+abbrev pub IsScript : Election → ℕ → List Event → Type 0
+IsScript election most script = (length script ≤ most) × All (Fits election) script
+
+-- so many such scripts
+abbrev pub AreScripts : Election → ℕ → ℕ → List (List Event) → Type 0
+AreScripts election most count scripts = (length scripts ≡ count) × All (IsScript election most) scripts

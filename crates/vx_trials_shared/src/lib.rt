@@ -5,6 +5,8 @@
 #[cfg(test)]
 mod calls;
 #[cfg(test)]
+mod ended;
+#[cfg(test)]
 mod hall;
 #[cfg(test)]
 mod side_by_side;

@@ -1,19 +1,18 @@
-ghost use Rattle.std.specs.Prelude.{◌≡◌, All, IfOk, length};
+ghost use Rattle.std.specs.Prelude.{IfOk};
 ghost use Rattle.vx_election_model.specs.Valid.{IsValid};
-ghost use Rattle.vx_events.specs.Fits.{Fits};
+ghost use Rattle.vx_trials_shared.specs.Same.{AreScripts, IsScript};
 
-use crate::hall::{HALL, added, claimed};
-use crate::threads::assert_replayed;
+use crate::ended::{Ended, assert_fits, assert_replayed, drop_ended, run_scripts};
+use crate::hall::{added, claimed, hall};
 use std::alloc::Global;
 use std::process::Abort;
 use std::sync::Wait;
 use std::sync::atomic::{AtomicBool, AtomicU64, Ordering};
 use std::test::Fail;
 use std::thread::Threads;
-use vx_center::{Center, Event, Events};
-use vx_election::read_election;
-use vx_election_model::Election;
-use vx_shared::{Scripts, SharedCenter, run_all};
+use vx_base::OutOfMemory;
+use vx_center::{Center, Event, Events, drop_center};
+use vx_election_model::{Election, drop_election};
 use vx_workers::Gate;
 
 /// The turns for which a gate holds a script, each of them one load.
@@ -73,17 +72,69 @@ fn script<R: Abort>(
     center: &Center<'_>,
     one: Event,
     other: Event,
-) -> Result<Events, Fail>
-    ensures long { IfOk result (λ events. length events ≡ 2) }
-    ensures fits { IfOk result (λ events. All (Fits center.now.election) events) }
+) -> Result<Events, OutOfMemory>
+    ensures { IfOk result (IsScript center.now.election 2) }
 {
-    assert!(rt; center.fits(&one));
-    assert!(rt; center.fits(&other));
+    assert_fits(rt, center, &one);
+    assert_fits(rt, center, &other);
     Ok(Events::from_vec(vec![in alloc; one, other]?))
 }
 
-/// Two scripts of a sheet that is added and claimed are run by two threads, each held until the other has
-/// called.
+/// The sheet is added, and claimed by the first station.
+fn first_script<R: Abort>(rt: &R, alloc: Global, center: &Center<'_>) -> Result<Events, OutOfMemory>
+    ensures { IfOk result (IsScript center.now.election 2) }
+{
+    let claim = claimed(alloc, 1)?;
+    let add = added(alloc)?;
+    script(rt, alloc, center, add, claim)
+}
+
+/// The second station claims the sheet, and it is added.
+fn second_script<R: Abort>(
+    rt: &R,
+    alloc: Global,
+    center: &Center<'_>,
+) -> Result<Events, OutOfMemory>
+    ensures { IfOk result (IsScript center.now.election 2) }
+{
+    let claim = claimed(alloc, 2)?;
+    let add = added(alloc)?;
+    script(rt, alloc, center, claim, add)
+}
+
+/// Both scripts.
+fn both<R: Abort>(rt: &R, alloc: Global, center: &Center<'_>) -> Result<Vec<Events>, OutOfMemory>
+    ensures { IfOk result (λ scripts. AreScripts center.now.election 2 2 scripts.items) }
+{
+    let one = first_script(rt, alloc, center)?;
+    let other = second_script(rt, alloc, center)?;
+    Ok(vec![in alloc; one, other]?)
+}
+
+/// Both are run by two threads, each held until the other has called.
+fn run_both<'e, R: Threads + Wait + Sync + Abort>(
+    rt: &R,
+    alloc: Global,
+    election: &'e Election,
+    gate: &Crossing,
+) -> Result<Ended<'e>, OutOfMemory>
+    requires { IsValid election.now }
+{
+    let center = Center::new(alloc, election);
+    match both(rt, alloc, &center) {
+        Ok(scripts) => {
+            let (ended, answer) = run_scripts(rt, alloc, center, scripts.as_slice(), 2, gate)?;
+            answer?;
+            Ok(ended)
+        }
+        Err(no_memory) => {
+            drop_center(center);
+            Err(no_memory)
+        }
+    }
+}
+
+/// Two scripts of a sheet that is added and claimed cross, and all four calls make one history.
 fn assert_side_by_side<R: Threads + Wait + Sync + Abort>(
     rt: &R,
     alloc: Global,
@@ -91,22 +142,19 @@ fn assert_side_by_side<R: Threads + Wait + Sync + Abort>(
 ) -> Result<(), Fail>
     requires { IsValid election.now }
 {
-    let center = Center::new(alloc, election);
-    let one = script(rt, alloc, &center, added(alloc)?, claimed(alloc, 1)?)?;
-    let other = script(rt, alloc, &center, claimed(alloc, 2)?, added(alloc)?)?;
-    let (shared, pass) = SharedCenter::new(alloc, center, 2, 4)?;
     let gate = Crossing::new();
-    let (pass, answer) = run_all(rt, alloc, &shared, pass, &Scripts, &[one, other], &gate);
-    answer?;
+    let ended = run_both(rt, alloc, election, &gate)?;
     assert!(rt; gate.is_met());
-    assert_eq!(rt; (pass.shares(), pass.calls_left(), pass.seen()), (2, 0, 4));
-    let (_center, history) = shared.close(pass);
-    assert_replayed(rt, alloc, election, history.as_slice())
+    assert_eq!(rt; ended.left, (2, 0, 4));
+    let done = assert_replayed(rt, alloc, election, ended.history.as_slice());
+    drop_ended(ended);
+    done
 }
 
 #[test]
 fn two_scripts_run_side_by_side(rt: HostRuntime) -> Result<(), Fail> {
-    let alloc = rt.alloc();
-    let election = read_election(alloc, HALL.as_bytes())?;
-    assert_side_by_side(&rt, alloc, &election)
+    let election = hall(rt.alloc())?;
+    let done = assert_side_by_side(&rt, rt.alloc(), &election);
+    drop_election(election);
+    done
 }

@@ -1,19 +1,27 @@
-ghost use Rattle.std.specs.Prelude.{◌≡◌, All, IfOk, length};
+ghost use Rattle.std.specs.Prelude.{◌≡◌, ◌++◌, [], ◌∷◌, IfOk, OnOk};
 ghost use Rattle.vx_election_model.specs.Valid.{IsValid};
 ghost use Rattle.vx_events.specs.Fits.{Fits};
+ghost use Rattle.vx_trials_shared.specs.Same.{AreScripts, IsScript};
 
-use crate::hall::{HALL, added, claimed};
+use crate::ended::{Ended, assert_fits, assert_replayed, drop_ended, run_scripts};
+use crate::hall::{added, claimed, hall};
 use std::alloc::Global;
 use std::process::Abort;
 use std::sync::Wait;
 use std::test::Fail;
 use std::thread::Threads;
-use vx_base::OutOfMemory;
-use vx_center::{Center, Event, Events};
-use vx_election::read_election;
-use vx_election_model::Election;
-use vx_shared::{Entry, Scripts, SharedCenter, run_all};
+use vx_base::{Bytes, OutOfMemory};
+use vx_center::{Center, Event, Events, drop_center};
+use vx_election_model::{Election, drop_election};
 use vx_workers::OpenGate;
+
+/// Adds a copy of an event to a script.
+fn push_copy(alloc: Global, script: &mut Events, event: &Event) -> Result<(), OutOfMemory>
+    ensures { OnOk result (script.new ≡ script.old ++ event.now ∷ []) }
+{
+    script.push(event.copy(alloc)?)?;
+    Ok(())
+}
 
 /// A script that adds the sheet and claims it, 625 times each, in turns.
 fn script(
@@ -24,76 +32,120 @@ fn script(
 ) -> Result<Events, OutOfMemory>
     requires add { Fits _election.now add.now }
     requires claim { Fits _election.now claim.now }
-    ensures long { IfOk result (λ events. length events ≡ 1250) }
-    ensures fits { IfOk result (λ events. All (Fits _election.now) events) }
+    ensures { IfOk result (IsScript _election.now 1250) }
 {
     let mut events = Events::new(alloc);
     let mut turns: u32 = 0;
     while turns < 625 {
-        events.push(add.copy(alloc)?)?;
-        events.push(claim.copy(alloc)?)?;
+        push_copy(alloc, &mut events, add)?;
+        push_copy(alloc, &mut events, claim)?;
         turns += 1;
     }
     Ok(events)
 }
 
-/// A second center answers each event of a history as it says.
-pub fn assert_replayed<R: Abort>(
+/// Such a script for each of eight threads.
+fn scripts(
+    alloc: Global,
+    _election: &Election,
+    add: &Event,
+    claim: &Event,
+) -> Result<Vec<Events>, OutOfMemory>
+    requires add { Fits _election.now add.now }
+    requires claim { Fits _election.now claim.now }
+    ensures { IfOk result (λ scripts. AreScripts _election.now 1250 8 scripts.items) }
+{
+    let mut scripts = Vec::new(alloc);
+    let mut threads: u32 = 0;
+    while threads < 8 {
+        scripts.push(script(alloc, _election, add, claim)?)?;
+        threads += 1;
+    }
+    Ok(scripts)
+}
+
+/// Eight threads run them.
+fn run_eight<'e, R: Threads + Wait + Sync>(
+    rt: &R,
+    alloc: Global,
+    center: Center<'e>,
+    scripts: &[Events],
+) -> Result<(Ended<'e>, Bytes), OutOfMemory>
+    requires { AreScripts center.election 1250 8 scripts.now }
+{
+    let (ended, answer) = run_scripts(rt, alloc, center, scripts, 1250, &OpenGate)?;
+    Ok((ended, answer?))
+}
+
+/// All calls are used up. One add is kept, and each claim behind it.
+fn assert_ended<R: Abort>(
     rt: &R,
     alloc: Global,
     election: &Election,
-    history: &[Entry],
+    ended: &Ended<'_>,
+    text: &Bytes,
 ) -> Result<(), Fail>
     requires { IsValid election.now }
 {
-    let mut center = Center::new(alloc, election);
-    for entry in history {
-        assert!(rt; center.fits(&entry.event));
-        assert_eq!(rt; center.apply(alloc, &entry.event)?, entry.reply);
-    }
-    Ok(())
+    assert!(rt; text.is_empty());
+    assert_eq!(rt; ended.left, (8, 0, 10_000));
+    assert_eq!(rt; ended.center.events().len(), 5_001);
+    assert_replayed(rt, alloc, election, ended.history.as_slice())
 }
 
-/// Eight threads use 10,000 calls up. One add is kept, and each claim behind it.
+/// The scripts of a center whose election the events fit.
+fn scripts_for<R: Abort>(
+    rt: &R,
+    alloc: Global,
+    election: &Election,
+    center: &Center<'_>,
+) -> Result<Vec<Events>, OutOfMemory>
+    requires { center.now.election ≡ election.now }
+    ensures { IfOk result (λ scripts. AreScripts election.now 1250 8 scripts.items) }
+{
+    let claim = claimed(alloc, 1)?;
+    let add = added(alloc)?;
+    assert_fits(rt, center, &claim);
+    assert_fits(rt, center, &add);
+    scripts(alloc, election, &add, &claim)
+}
+
+/// Eight threads use 10,000 calls up.
+fn ended<'e, R: Threads + Wait + Sync + Abort>(
+    rt: &R,
+    alloc: Global,
+    election: &'e Election,
+) -> Result<(Ended<'e>, Bytes), OutOfMemory>
+    requires { IsValid election.now }
+{
+    let center = Center::new(alloc, election);
+    match scripts_for(rt, alloc, election, &center) {
+        Ok(scripts) => run_eight(rt, alloc, center, scripts.as_slice()),
+        Err(no_memory) => {
+            drop_center(center);
+            Err(no_memory)
+        }
+    }
+}
+
+/// Eight threads end.
 fn assert_ends<R: Threads + Wait + Sync + Abort>(
     rt: &R,
     alloc: Global,
     election: &Election,
-    add: &Event,
-    claim: &Event,
 ) -> Result<(), Fail>
     requires { IsValid election.now }
 {
-    let center = Center::new(alloc, election);
-    assert!(rt; center.fits(add));
-    assert!(rt; center.fits(claim));
-    let scripts = [
-        script(alloc, election, add, claim)?,
-        script(alloc, election, add, claim)?,
-        script(alloc, election, add, claim)?,
-        script(alloc, election, add, claim)?,
-        script(alloc, election, add, claim)?,
-        script(alloc, election, add, claim)?,
-        script(alloc, election, add, claim)?,
-        script(alloc, election, add, claim)?,
-    ];
-    let (shared, pass) = SharedCenter::new(alloc, center, 8, 10_000)?;
-    let (pass, answer) = run_all(rt, alloc, &shared, pass, &Scripts, &scripts, &OpenGate);
-    assert!(rt; answer?.is_empty());
-    assert_eq!(rt;
-        (pass.shares(), pass.calls_left(), pass.seen()),
-        (8, 0, 10_000)
-    );
-    let (center, history) = shared.close(pass);
-    assert_eq!(rt; center.events().len(), 5_001);
-    assert_replayed(rt, alloc, election, history.as_slice())
+    let (ended, text) = ended(rt, alloc, election)?;
+    let done = assert_ended(rt, alloc, election, &ended, &text);
+    drop_ended(ended);
+    done
 }
 
 #[test]
 fn eight_threads_end(rt: HostRuntime) -> Result<(), Fail> {
-    let alloc = rt.alloc();
-    let election = read_election(alloc, HALL.as_bytes())?;
-    let add = added(alloc)?;
-    let claim = claimed(alloc, 1)?;
-    assert_ends(&rt, alloc, &election, &add, &claim)
+    let election = hall(rt.alloc())?;
+    let done = assert_ends(&rt, rt.alloc(), &election);
+    drop_election(election);
+    done
 }
