@@ -33,7 +33,7 @@ pub(crate) enum Act<'a> {
 
 /// An open file: one that takes records, or the records of one that is only read.
 #[derive(Drop)]
-enum OpenFile<S: Alter> {
+pub(crate) enum OpenFile<S: Alter> {
     Kept(Table<S>),
     Sealed(Shelf),
 }
@@ -110,15 +110,13 @@ fn opened<'t, S: Opens>(
         .ok_or(Error::SqliteFailure(ErrorCode::CannotOpen))
 }
 
-/// The journal's file: the path that it was made with, and what is open of it. No call is handed a path, so
-/// each is about that one.
+/// The path that a journal's file was made with. No call is handed one, so each is about that one.
 #[derive(Drop)]
-pub(crate) struct JournalFile<S: Alter> {
+pub(crate) struct FilePath {
     path: String,
-    open: Option<OpenFile<S>>,
 }
 
-impl<S: Alter> Model for JournalFile<S> {
+impl Model for FilePath {
     ghost use Rattle.std.specs.Prelude.{List, ℕ, string_bytes};
 
     ghost Value = { List ℕ };
@@ -126,17 +124,37 @@ impl<S: Alter> Model for JournalFile<S> {
     ghost view = { λ file. string_bytes file.path };
 }
 
-impl<S: Opens> JournalFile<S> {
-    /// The file at a path, which isn't opened yet. It takes memory for the path alone.
-    pub(crate) fn new(alloc: Global, path: &str) -> Result<JournalFile<S>, AllocError>
+impl FilePath {
+    /// A copy of a path. It takes memory for that alone.
+    pub(crate) fn new(alloc: Global, path: &str) -> Result<FilePath, AllocError>
         ensures { IfOk result (λ file. file ≡ path.now) }
     {
-        Ok(JournalFile {
+        Ok(FilePath {
             path: String::from_str(alloc, path)?,
-            open: None,
         })
     }
 
+    fn as_str(&self) -> &str {
+        self.path.as_str()
+    }
+}
+
+/// The journal's file: its path, and what is open of it.
+#[derive(Drop)]
+pub(crate) struct JournalFile<S: Alter> {
+    pub(crate) path: FilePath,
+    pub(crate) open: Option<OpenFile<S>>,
+}
+
+impl<S: Alter> Model for JournalFile<S> {
+    ghost use Rattle.std.specs.Prelude.{List, ℕ};
+
+    ghost Value = { List ℕ };
+
+    ghost view = { λ file. file.path };
+}
+
+impl<S: Opens> JournalFile<S> {
     /// Does what is asked; the answer is a count, or 0. The file is opened at the first call.
     pub(crate) fn act(
         &mut self,

@@ -3,7 +3,7 @@ ghost use Rattle.vx_io.specs.Fakes.{raised};
 ghost use Rattle.vx_io.specs.Keeping.{has_failed};
 ghost use Rattle.vx_io.specs.Outside.{Appends, CountsFaults, IsCountOf, IsRecordAt, MayAppend};
 
-use crate::file::{Act, JournalFile};
+use crate::file::{Act, FilePath, JournalFile};
 use crate::refusal::told;
 use sqlite::{File, FileStore};
 use std::alloc::AllocError;
@@ -47,12 +47,16 @@ impl<'r> SqliteKeeper<'r> {
         SqliteKeeper::at(rt, path, true)
     }
 
+    /// The keeper is put together here: a call that is generic in the store has its clauses taken along.
     fn at(rt: &'r HostRuntime, path: &str, only_reads: bool) -> Result<SqliteKeeper<'r>, AllocError>
         ensures { IfOk result (λ keeper. keeper ≡ record { file = record { path = path.now; only_reads = only_reads }; faults = 0 }) }
     {
         Ok(SqliteKeeper {
             rt,
-            file: JournalFile::new(rt.alloc(), path)?,
+            file: JournalFile {
+                path: FilePath::new(rt.alloc(), path)?,
+                open: None,
+            },
             only_reads,
             faults: 0,
         })

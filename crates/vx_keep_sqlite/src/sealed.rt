@@ -146,6 +146,6 @@ fn open_sealed(rt: &HostRuntime, path: &str) -> Result<Connection<FileStore<Memo
 
 /// The records that the file and its log hold.
 pub(crate) fn sealed_records(rt: &HostRuntime, path: &str) -> Result<Shelf, Error> {
-    let mut connection = open_sealed(rt, path)?;
-    Shelf::of(rt.alloc(), &mut connection)
+    let connection = open_sealed(rt, path)?;
+    Shelf::over(rt.alloc(), connection)
 }

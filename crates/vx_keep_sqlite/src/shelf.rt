@@ -38,10 +38,7 @@ fn read_all<S: Alter>(connection: &mut Connection<S>, shelf: &mut Shelf) -> Resu
 
 impl Shelf {
     /// The records of an open file.
-    pub(crate) fn of<S: Alter>(
-        alloc: Global,
-        connection: &mut Connection<S>,
-    ) -> Result<Shelf, Error> {
+    fn of<S: Alter>(alloc: Global, connection: &mut Connection<S>) -> Result<Shelf, Error> {
         let mut shelf = Shelf {
             bytes: Bytes::new(alloc),
             ends: Vec::new(alloc),
@@ -49,6 +46,14 @@ impl Shelf {
         };
         read_all(connection, &mut shelf)?;
         Ok(shelf)
+    }
+
+    /// The records of an open file, which is let go.
+    pub(crate) fn over<S: Alter + Drop>(
+        alloc: Global,
+        mut connection: Connection<S>,
+    ) -> Result<Shelf, Error> {
+        Shelf::of(alloc, &mut connection)
     }
 
     /// Ends a record where the bytes end.
