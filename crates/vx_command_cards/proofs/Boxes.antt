@@ -1,5 +1,5 @@
 -- The hollow box is drawn for the characters above U+007F and for no others.
-use Rattle.std.proofs.Common.{◌≡◌, ◌<◌, ◌≤◌, ◌+◌, ◌==◌, ◌⊎◌, inl, inr, ℕ, Bool, true, false, cond, List, [], ◌∷◌, refl, sym, ap, ap₂, ◌∙◌, arith}
+use Rattle.std.proofs.Common.{◌≡◌, ◌<◌, ◌≤◌, ◌+◌, ◌⊎◌, inl, inr, ℕ, Bool, true, false, cond, List, [], ◌∷◌, refl, sym, ap, ◌∙◌, arith}
 use Rattle.std.specs.Prelude.{nat_lt, chars, count_by, fold}
 use Rattle.std.proofs.lemmas.Bool.{agree_below_at, cases_lt}
 use Rattle.vx_base.proofs.Numbers.{below-yes, below-no, equal-no}

@@ -1,5 +1,6 @@
 -- Lines of a text are cut where the characters at their ends say so.
 use Rattle.std.proofs.Common.{◌≡◌, ◌<◌, ◌+◌, ◌-◌, ◌*◌, ℕ, zero, suc, Bool, true, false, not, ◌&&◌, List, [], ◌∷◌, length, take, drop, chars, refl, sym, ap, ap₂, ◌∙◌, arith, length-take, length-drop}
+use Rattle.std.specs.Fork.{slice_chunk}
 use Rattle.std.specs.Prelude.{slice_index}
 use Rattle.std.specs.Str.{IsUtf8}
 use Rattle.std.proofs.lemmas.List.{get_or-take, get_or-drop}
@@ -7,7 +8,7 @@ use Rattle.std.proofs.lemmas.Str.{chars-encodes, scalars-chars}
 use Rattle.std.proofs.lemmas.Bool.{and_parts, and_from}
 use lib.Utf8.{scalar, scalars}
 use Rattle.vx_layout.specs.Lines.{line_of, lines_of}
-use Rattle.vx_command_cards.specs.Drawn.{first_of, last_of, is_blank, is_cut}
+use Rattle.vx_command_cards.specs.Drawn.{first_of, last_of, is_blank, is_cut, end_word, front_word}
 use Rattle.vx_command_cards.specs.Texts.{cut_at, cut_line}
 
 -- some of the characters of a text are characters
@@ -69,8 +70,13 @@ cut-from text characters k b is same low said =
     ∙ sym said
 
 -- what is told of it
-pub cut_at-yes : (contest what text : List ℕ) (k : ℕ) → is_cut text k ≡ true → cut_at contest what text k ≡ cut_line contest what (k + 1) ∷ []
-cut_at-yes contest what text k cut = rw cut refl
+pub cut_at-yes : (contest what text characters : List ℕ) (k : ℕ) → IsUtf8 text → characters ≡ chars text → is_cut text k ≡ true → cut_line contest what (k + 1) (end_word (slice_chunk characters 29 k)) (front_word (slice_chunk characters 29 (k + 1))) ∷ [] ≡ cut_at contest what text k
+unfolding cut_at
+cut_at-yes contest what text characters k is same cut =
+    ap (λ (cs : List ℕ). cut_line contest what (k + 1) (end_word (slice_chunk cs 29 k)) (front_word (slice_chunk cs 29 (k + 1))) ∷ []) same
+    ∙ ap₂ (λ (a b : List ℕ). cut_line contest what (k + 1) (end_word a) (front_word b) ∷ []) (sym (chars-line text k is)) (sym (chars-line text (k + 1) is))
+    ∙ rw cut refl
 
 pub cut_at-no : (contest what text : List ℕ) (k : ℕ) → is_cut text k ≡ false → cut_at contest what text k ≡ []
+unfolding cut_at
 cut_at-no contest what text k whole = rw whole refl

@@ -20,6 +20,13 @@ lines_then first further a b c m n o p q = record {
   counted = omega (arith, q.counted, p.counted, length-append first further);
 }
 
+-- those of a text and a count that had none
+pub lines_from : (lines : List (List ℕ)) (a b : List ℕ) (m n : ℕ) → a ≡ [] → m ≡ 0 → GotLines lines a b m n → GotLines lines [] b 0 n
+lines_from lines a b m n empty zero p = record {
+  got = p.got ∙ ap (λ (text : List ℕ). text ++ text_of lines) empty;
+  counted = omega (arith, p.counted, zero);
+}
+
 pub lines_are : (some all : List (List ℕ)) (a b : List ℕ) (m n : ℕ) → some ≡ all → GotLines some a b m n → GotLines all a b m n
 lines_are some all a b m n is got = let Got : List (List ℕ) → Type 0 = λ lines. GotLines lines a b m n in subst Got is got
 

@@ -1,6 +1,7 @@
 -- What `cards` tells of each card: its number, its style and precinct, its pages or why it can't be planned, and its
 -- contests.
-use Rattle.std.specs.Prelude.{ℕ, List, [], ◌∷◌, length, codes, slice_index_or, Result, Ok, Err}
+use Rattle.std.specs.Prelude.{ℕ, ◌==◌, false, List, [], ◌∷◌, ◌++◌, length, chars, codes, encode_utf8, slice_index_or, if◌then◌else◌, Result, Ok, Err}
+use Rattle.std.specs.Char.{is_ascii_control}
 use Rattle.std.specs.List.{flat_map, range_with_len}
 use Rattle.std.specs.Fmt.{decimal}
 use Rattle.vx_election_model.specs.declared.election.Election.{Election}
@@ -10,7 +11,7 @@ use Rattle.vx_layout.specs.declared.plan.CardPlan.{CardPlan}
 use Rattle.vx_layout.specs.declared.fault.LayoutFault.{LayoutFault}
 use Rattle.vx_layout.specs.FaultTexts.{layout_fault_text}
 use Rattle.vx_layout.specs.Plan.{plan_of, precinct_name}
-use Rattle.vx_command_cards.specs.Lines.{with_blanks}
+use Rattle.vx_command_cards.specs.Lines.{hexadecimal, with_blanks}
 
 -- the id of a style, by its place
 abbrev pub style_id : Election → ℕ → List ℕ
@@ -36,11 +37,26 @@ abbrev pub planned_words : Result CardPlan LayoutFault → List ℕ
 planned_words (Ok plan) = with_blanks (codes "pages" ∷ decimal (length plan.pages) ∷ [])
 planned_words (Err fault) = with_blanks (codes "layout" ∷ layout_fault_text fault ∷ [])
 
+-- a control character as `\u00XX`
+abbrev pub code_word : ℕ → List ℕ
+code_word c = codes "\\u" ++ hexadecimal false c
+
+-- a character of a name as it is told: a backslash twice, a control character by its code, any other as it is
+unfoldable pub told_character : ℕ → List ℕ
+told_character c =
+    if c == 92 then codes "\\\\"
+    else if is_ascii_control c then code_word c
+    else encode_utf8 c
+
+-- a name as it is told
+abbrev pub told_name : List ℕ → List ℕ
+told_name name = flat_map told_character (chars name)
+
 -- `contests C NAME`
 abbrev pub card_tail : Election → ℕ → List ℕ
 card_tail election number =
     with_blanks (codes "contests" ∷ decimal (length (contests_of_card election number))
-    ∷ precinct_name election.precincts (card_at election number).precinct ∷ [])
+    ∷ told_name (precinct_name election.precincts (card_at election number).precinct) ∷ [])
 
 -- the line of the card with a number
 unfoldable pub card_line : Election → ℕ → List ℕ

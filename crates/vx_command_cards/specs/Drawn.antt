@@ -1,7 +1,7 @@
--- What of a text shows on paper: which of its characters are hollow boxes, where a line of it ends within a word, and
--- whether two texts look alike.
-use Rattle.std.specs.Prelude.{ℕ, Bool, ◌&&◌, not, ◌+◌, ◌-◌, ◌==◌, max, List, [], ◌∷◌, length, take, chars, bytes_eq, slice_index, slice_index_or, if◌then◌else◌}
-use Rattle.std.specs.List.{flat_map, list_all, list_any, range_with_len}
+-- What of a text shows on paper: which of its characters are hollow boxes, whether it shows nothing, where a line of it
+-- ends within a word and which word that is, and whether two texts look alike.
+use Rattle.std.specs.Prelude.{ℕ, Bool, ◌&&◌, not, ◌+◌, ◌-◌, ◌==◌, max, List, [], ◌∷◌, length, take, chars, encode_utf8_all, bytes_eq, slice_index, slice_index_or, if◌then◌else◌}
+use Rattle.std.specs.List.{after_last, before_first, flat_map, list_all, list_any, range_with_len}
 use Rattle.vx_font.specs.Font.{dots_of}
 use Rattle.vx_layout.specs.Lines.{size_of, line_of}
 
@@ -32,6 +32,10 @@ hollow_at characters place =
 abbrev pub hollow_in : List ℕ → List ℕ
 hollow_in characters = flat_map (hollow_at characters) (range_with_len 0 (length characters))
 
+-- whether characters show nothing: there is one at least, and each is drawn as a blank
+unfoldable pub shows_nothing : List ℕ → Bool
+shows_nothing characters = not (length characters == 0) && list_all is_blank characters
+
 -- the first and the last character of a line that has one
 abbrev pub first_of : List ℕ → ℕ
 first_of line = slice_index (chars line) 0
@@ -43,6 +47,14 @@ last_of line = slice_index (chars line) (size_of line - 1)
 -- first one of the next line is a blank
 unfoldable pub is_cut : List ℕ → ℕ → Bool
 is_cut text k = not (is_blank (last_of (line_of text k))) && not (is_blank (first_of (line_of text (k + 1))))
+
+-- what of a line's characters stands behind the last blank, as a text; all of them where none is blank
+abbrev pub end_word : List ℕ → List ℕ
+end_word characters = encode_utf8_all (after_last is_blank characters)
+
+-- what of them stands before the first blank
+abbrev pub front_word : List ℕ → List ℕ
+front_word characters = encode_utf8_all (before_first is_blank characters)
 
 -- the character in a cell of a row of characters; a cell behind the last one is blank
 abbrev pub cell_of : List ℕ → ℕ → ℕ

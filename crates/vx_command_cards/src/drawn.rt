@@ -1,6 +1,7 @@
 //! What characters show on paper, by the dots that the font draws for them.
 
 ghost use Rattle.std.specs.Prelude.{◌≡◌, ◌&&◌, ◌<◌, ◌+◌, ◌*◌, ◌-◌, length, not, slice_index, slice_index_or};
+ghost use Rattle.std.specs.List.{list_all};
 ghost use Rattle.vx_command_cards.specs.Drawn as drawn;
 
 use vx_font::dots;
@@ -26,10 +27,24 @@ fn is_hollow(c: char) -> bool
 }
 
 /// Whether a character is drawn as a blank.
-fn is_blank(c: char) -> bool
+pub(crate) fn is_blank(c: char) -> bool
     ensures { result ≡ drawn.is_blank c }
 {
     is_drawn_as(c, ' ')
+}
+
+/// Whether each of some characters is drawn as a blank.
+fn are_blank(characters: &[char]) -> bool
+    ensures { result ≡ list_all drawn.is_blank characters.now }
+{
+    characters.iter().all(|c| is_blank(*c))
+}
+
+/// Whether characters show nothing: there is one at least, and each is drawn as a blank.
+pub(crate) fn shows_nothing(characters: &[char]) -> bool
+    ensures { result ≡ drawn.shows_nothing characters.now }
+{
+    !characters.is_empty() && are_blank(characters)
 }
 
 /// Whether a hollow character stands at a place, and at none before it.

@@ -1,5 +1,6 @@
 //! The command `cards`: a line for each card of an election, and then what nobody wants to find on
-//! paper: hollow boxes, words that are cut at the end of a line, and choices that look alike.
+//! paper: hollow boxes, texts that show nothing, words that are cut at the end of a line, and choices
+//! that look alike.
 //!
 //! What it writes and does stands in `specs/Outcome.antt`: a line for each card
 //! (`specs/Cards.antt`), lines on printed texts (`specs/Texts.antt`) and on choices
@@ -9,16 +10,20 @@
 #![tactic(auto)]
 
 mod alike;
+mod blank;
 mod cut;
 mod drawn;
 mod flaw;
+mod foot;
 mod hollow;
 mod laws;
 mod lines;
 mod listing;
+mod names;
 mod printed;
 mod telling;
 mod texts;
+mod words;
 
 pub use laws::hollow_boxes_are_those_of_plans;
 pub use telling::cards;

@@ -7,6 +7,7 @@ ghost use Rattle.vx_command_cards.specs.Cards.{card_at_line, card_lines, planned
 ghost use Rattle.vx_command_cards.specs.Lines.{GotLines};
 
 use crate::lines::Lines;
+use crate::names::told_name;
 use std::alloc::Global;
 use vx_base::OutOfMemory;
 use vx_election_model::Election;
@@ -102,7 +103,7 @@ fn push_tail(
         ≡ string_bytes line.old ++ 32 ∷ listed.card_tail election.now number) }
 {
     let contests = contests_of(alloc, election, number)?;
-    let name = precinct_name(election, card.precinct);
+    let name = told_name(alloc, precinct_name(election, card.precinct))?;
     write!(line, " contests {} {name}", contests.len())
 }
 

@@ -31,6 +31,7 @@ use vx_io::{Inputs, Sink};
 struct Told {
     cards: Lines,
     hollow: Lines,
+    blank: Lines,
     cut: Lines,
     alike: Lines,
 }
@@ -42,6 +43,8 @@ fn tell_all(alloc: Global, election: &Election) -> Result<Told, OutOfMemory>
         [] (string_bytes told.cards.text) 0 told.cards.count) }
     ensures hollow { IfOk result (λ told. GotLines (flaw_lines flaw.Hollow election.now)
         [] (string_bytes told.hollow.text) 0 told.hollow.count) }
+    ensures blank { IfOk result (λ told. GotLines (flaw_lines flaw.Blank election.now)
+        [] (string_bytes told.blank.text) 0 told.blank.count) }
     ensures cut { IfOk result (λ told. GotLines (flaw_lines flaw.Cut election.now)
         [] (string_bytes told.cut.text) 0 told.cut.count) }
     ensures alike { IfOk result (λ told. GotLines (alike_lines election.now)
@@ -50,6 +53,7 @@ fn tell_all(alloc: Global, election: &Election) -> Result<Told, OutOfMemory>
     Ok(Told {
         cards: list_cards(alloc, election)?,
         hollow: list_flaws(alloc, election, Flaw::Hollow)?,
+        blank: list_flaws(alloc, election, Flaw::Blank)?,
         cut: list_flaws(alloc, election, Flaw::Cut)?,
         alike: list_alike(alloc, election)?,
     })
@@ -58,26 +62,29 @@ fn tell_all(alloc: Global, election: &Election) -> Result<Told, OutOfMemory>
 /// How many lines of each kind there are.
 fn sums_line(alloc: Global, told: &Told) -> Result<String, OutOfMemory>
     ensures { IfOk result (λ line. string_bytes line ≡ outcome.sums_line
-        told.now.cards.count told.now.hollow.count told.now.cut.count told.now.alike.count) }
+        told.now.cards.count told.now.hollow.count told.now.blank.count told.now.cut.count
+        told.now.alike.count) }
 {
     let cards = told.cards.count;
     let hollow = told.hollow.count;
+    let blank = told.blank.count;
     let cut = told.cut.count;
     let alike = told.alike.count;
-    format!(in alloc; "cards {cards} hollow {hollow} cut {cut} alike {alike}")
+    format!(in alloc; "cards {cards} hollow {hollow} blank {blank} cut {cut} alike {alike}")
 }
 
 /// The lines of all kinds, and then a line.
 fn join_all(alloc: Global, told: &Told, last: &str) -> Result<String, OutOfMemory>
     ensures { IfOk result (λ text. string_bytes text ≡ string_bytes told.now.cards.text
-        ++ string_bytes told.now.hollow.text ++ string_bytes told.now.cut.text
-        ++ string_bytes told.now.alike.text ++ ended last.now) }
+        ++ string_bytes told.now.hollow.text ++ string_bytes told.now.blank.text
+        ++ string_bytes told.now.cut.text ++ string_bytes told.now.alike.text ++ ended last.now) }
 {
     let cards = told.cards.text.as_str();
     let hollow = told.hollow.text.as_str();
+    let blank = told.blank.text.as_str();
     let cut = told.cut.text.as_str();
     let alike = told.alike.text.as_str();
-    let text = format!(in alloc; "{cards}{hollow}{cut}{alike}{last}\n")?;
+    let text = format!(in alloc; "{cards}{hollow}{blank}{cut}{alike}{last}\n")?;
     Ok(text)
 }
 
@@ -107,8 +114,8 @@ fn write_cards<S: Sink>(alloc: Global, election: &Election, out: &mut S) -> Resu
 }
 
 /// Does the command `cards`: takes the election under its name, which is word 1, and writes a line for
-/// each of its cards, then the texts with hollow boxes, the lines of text that end within a word, the
-/// choices that look alike, and how many lines of each there are. A card that can't be planned has a
+/// each of its cards, then the texts with hollow boxes, those that show nothing, the lines of text that
+/// end within a word, the choices that look alike, and how many lines of each there are. A card that can't be planned has a
 /// line that says why, so the answer is no `Layout`: it is that of an election that can't be taken or
 /// read, or a device's fault, or want of memory.
 pub fn cards<I: Inputs, S: Sink>(

@@ -1,9 +1,12 @@
 ghost use Rattle.std.specs.Prelude.{◌≡◌, ◌≤◌, ◌<◌, [], length, IfOk, OnOk, string_bytes};
+ghost use Rattle.std.specs.List.{flat_map};
 ghost use Rattle.vx_command_cards.specs.Lines.{GotLines};
 ghost use Rattle.vx_command_cards.specs.Texts as texts;
 
+use crate::blank::push_blank;
 use crate::cut::push_cuts;
 use crate::flaw::Flaw;
+use crate::foot::push_foot;
 use crate::hollow::push_hollow;
 use crate::lines::Lines;
 use crate::printed::{characters_in, choice_id, description_of, label_at};
@@ -11,8 +14,8 @@ use std::alloc::Global;
 use vx_base::OutOfMemory;
 use vx_election_model::{Contest, Election};
 
-/// Adds what is told of a text of a contest, by what it is.
-fn push_text(
+/// Adds what is told of a text, by whose it is and what it is.
+pub(crate) fn push_text(
     alloc: Global,
     lines: &mut Lines,
     flaw: Flaw,
@@ -29,6 +32,7 @@ fn push_text(
     let characters = characters.as_slice();
     match flaw {
         Flaw::Hollow => push_hollow(alloc, lines, contest, what, characters),
+        Flaw::Blank => push_blank(alloc, lines, contest, what, characters),
         Flaw::Cut => push_cuts(alloc, lines, contest, what, text, characters),
     }
 }
@@ -118,7 +122,25 @@ fn push_contest(
     Ok(())
 }
 
-/// What is told of the texts of all contests, in order.
+/// Adds what is told of the texts of all contests, in order.
+fn push_contests(
+    alloc: Global,
+    lines: &mut Lines,
+    flaw: Flaw,
+    election: &Election,
+) -> Result<(), OutOfMemory>
+    requires { lines.old.count ≤ length (string_bytes lines.old.text) }
+    ensures lines { OnOk result (GotLines (flat_map (texts.contest_lines flaw) election.now.contests)
+        (string_bytes lines.old.text) (string_bytes lines.new.text) lines.old.count lines.new.count) }
+    ensures room { OnOk result (lines.new.count ≤ length (string_bytes lines.new.text)) }
+{
+    for contest in election.contests.as_slice() {
+        push_contest(alloc, lines, flaw, contest)?;
+    }
+    Ok(())
+}
+
+/// What is told of the texts of the foot line and of all contests.
 pub(crate) fn list_flaws(
     alloc: Global,
     election: &Election,
@@ -128,8 +150,7 @@ pub(crate) fn list_flaws(
         [] (string_bytes lines.text) 0 lines.count) }
 {
     let mut lines = Lines::new(alloc);
-    for contest in election.contests.as_slice() {
-        push_contest(alloc, &mut lines, flaw, contest)?;
-    }
+    push_foot(alloc, &mut lines, flaw, election)?;
+    push_contests(alloc, &mut lines, flaw, election)?;
     Ok(lines)
 }

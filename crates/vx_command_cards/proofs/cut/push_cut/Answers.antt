@@ -7,7 +7,7 @@ pub returns-in_ok-push-clause-lines : goal.returns-in_ok-push-clause-lines
 returns-in_ok-push-clause-lines c =
     let cut = cut-from c.args.text.now c.args.characters.now c.args.line c.ends_within.result c.utf8.text c.requires.same c.requires.there c.ends_within.ensures ∙ c.if-ends_within.true in
     lines_are _ _ _ _ _ _
-    (ap (λ (line : List ℕ). line ∷ []) (c.as_str.ensures.value ∙ c.in_ok-told.ensures.ok) ∙ sym (cut_at-yes c.args.contest.now c.args.what.now c.args.text.now c.args.line cut))
+    (ap (λ (line : List ℕ). line ∷ []) (c.as_str.ensures.value ∙ c.in_ok-told.ensures) ∙ cut_at-yes c.args.contest.now c.args.what.now c.args.text.now c.args.characters.now c.args.line c.utf8.text c.requires.same cut)
     c.in_ok-push.ensures.lines
 
 pub returns-else-ends_within-clause-lines : goal.returns-else-ends_within-clause-lines

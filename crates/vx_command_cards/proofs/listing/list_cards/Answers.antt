@@ -1,4 +1,4 @@
-use Rattle.std.proofs.Common.{◌≡◌, length, ap, ◌∙◌, arith}
+use Rattle.std.proofs.Common.{◌≡◌, length, ap, arith}
 use Rattle.vx_styles.specs.Cards.{cards_of}
 use Rattle.vx_command_cards.specs.Cards.{card_at_line, card_lines}
 use Rattle.vx_command_cards.proofs.Lined.{lines_on, lines_up_to}
