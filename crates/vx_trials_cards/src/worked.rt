@@ -14,23 +14,48 @@ const TOWN: &str =
 
 const TOWN_TEXT: &str = "card 0 style s precinct p pages 2 contests 2 North Side
 card 1 style s precinct q pages 2 contests 2 Süd
+hollow * precinct q U+00FC
 hollow mayor option a U+00E9
 hollow mayor option b U+00FC
 hollow bond description U+00D6 U+00C4 U+1F600
-cut bond title 1
+cut bond title 1 300, 000
 alike mayor a b
 alike mayor c e
-cards 2 hollow 3 cut 1 alike 2
+cards 2 hollow 4 blank 0 cut 1 alike 2
 ";
 
-/// One card, which can't be planned: a name has 59 characters, so three lines of which two are cut.
+/// One card, which can't be planned: a name has 59 characters, so three lines of which two are cut. The
+/// title shows nothing.
 const LONG: &str =
-    r#"{"title":"T","date":"2025-05-06","districts":[{"id":"d","name":"D"}],"precincts":[{"id":"p","name":"N"}],"contests":[{"id":"c","type":"candidate","districtId":"d","title":"Mayor","seats":1,"candidates":[{"id":"a","name":"xxxxxxxxxxxxxxxxxxxxxxxxxxxxxxxxxxxxxxxxxxxxxxxxxxxxxxxxxxx"}]}],"ballotStyles":[{"id":"s","precincts":["p"],"districts":["d"]}]}"#;
+    r#"{"title":"\u007f","date":"2025-05-06","districts":[{"id":"d","name":"D"}],"precincts":[{"id":"p","name":"N"}],"contests":[{"id":"c","type":"candidate","districtId":"d","title":"Mayor","seats":1,"candidates":[{"id":"a","name":"xxxxxxxxxxxxxxxxxxxxxxxxxxxxxxxxxxxxxxxxxxxxxxxxxxxxxxxxxxx"}]}],"ballotStyles":[{"id":"s","precincts":["p"],"districts":["d"]}]}"#;
 
 const LONG_TEXT: &str = "card 0 style s precinct p layout 2 c 59 contests 1 N
-cut c option a 1
-cut c option a 2
-cards 1 hollow 0 cut 2 alike 0
+blank * title
+cut c option a 1 xxxxxxxxxxxxxxxxxxxxxxxxxxxxx xxxxxxxxxxxxxxxxxxxxxxxxxxxxx
+cut c option a 2 xxxxxxxxxxxxxxxxxxxxxxxxxxxxx x
+cards 1 hollow 0 blank 1 cut 2 alike 0
+";
+
+/// An accented title, a precinct's name with a line feed, a backslash and two more control characters,
+/// and one of blanks alone; a contest with a blank title and two blank names; a title whose word of
+/// hollow characters is cut, a description whose cut word stands between control characters, and a name
+/// with a control character at the end of its line, which is no cut.
+const ODD: &str =
+    r#"{"title":"Année","date":"2025-05-06","districts":[{"id":"d","name":"D"}],"precincts":[{"id":"p","name":"A\nB\\C\u007f\u0001é"},{"id":"q","name":" \t"}],"contests":[{"id":"c","type":"candidate","districtId":"d","title":" ","seats":1,"candidates":[{"id":"a","name":"\t\u007f"},{"id":"b","name":"Ada"},{"id":"e","name":" "}]},{"id":"bond","type":"yesno","districtId":"d","title":"éééééééééééééééééééééééééé üüüü","description":"Shall the village borrow\t300,000\u007fdollars","yesOption":{"label":"xxxxxxxxxxxxxxxxxxxxxxxxxxxx\u001fyyy"}}],"ballotStyles":[{"id":"s","precincts":["p","q"],"districts":["d"]}]}"#;
+
+const ODD_TEXT: &str = r"card 0 style s precinct p pages 2 contests 2 A\u000aB\\C\u007f\u0001é
+card 1 style s precinct q pages 2 contests 2  \u0009
+hollow * title U+00E9
+hollow * precinct p U+00E9
+hollow bond title U+00E9 U+00FC
+blank * precinct q
+blank c title
+blank c option a
+blank c option e
+cut bond title 1 üü üü
+cut bond description 1 300, 000
+alike c a e
+cards 2 hollow 3 blank 4 cut 2 alike 1
 ";
 
 /// What a `cards` answered, and what the sink had taken.
@@ -94,6 +119,7 @@ fn worked_elections_are_told(rt: HostRuntime) -> Result<(), Fail> {
     for (name, definition, status, text) in [
         ("E", TOWN, "ok", TOWN_TEXT),
         ("E", LONG, "ok", LONG_TEXT),
+        ("E", ODD, "ok", ODD_TEXT),
         ("F", TOWN, "no input 1", ""),
         ("E", "{}", "election 2 title", ""),
     ] {
