@@ -1,8 +1,12 @@
 mod Boxes
 mod Cutting
+mod Faults
+mod Feeds
+mod Ids
 mod Lined
 mod Looking
 mod Named
 mod Padded
 mod Told
+mod Whole
 mod Worded

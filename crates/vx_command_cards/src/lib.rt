@@ -5,8 +5,8 @@
 //! What it writes and does stands in `specs/Outcome.antt`: a line for each card
 //! (`specs/Cards.antt`), lines on printed texts (`specs/Texts.antt`) and on choices
 //! (`specs/Alike.antt`). What of a text shows is said by the font and the layout, in
-//! `specs/Drawn.antt`; that the hollow boxes are those that a card's plan counts is the law of
-//! `specs/Laws.antt`.
+//! `specs/Drawn.antt`; that the hollow boxes are those that a card's plan counts, and that no name
+//! makes a line, are the laws of `specs/Laws.antt`.
 #![tactic(auto)]
 
 mod alike;
@@ -25,5 +25,5 @@ mod telling;
 mod texts;
 mod words;
 
-pub use laws::hollow_boxes_are_those_of_plans;
+pub use laws::{hollow_boxes_are_those_of_plans, line_feeds_are_those_of_lines};
 pub use telling::cards;
