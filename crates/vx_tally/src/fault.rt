@@ -1,10 +1,10 @@
 //! Why a report is refused.
 
-ghost use Rattle.std.specs.Prelude.{◌≡◌};
-ghost use Rattle.vx_tally.specs.declared.fault.ReportFault.TheVariants.{OutOfMemory};
+ghost use Rattle.std.specs.Prelude.{◌≡◌, IfOk};
+ghost use Rattle.vx_tally.specs.declared.fault.ReportFault.TheVariants.{OutOfMemory, RepeatedId, UnknownId};
 ghost use Rattle.vx_tally.specs.Faults.{fault_of};
 
-use std::alloc::AllocFailed;
+use std::alloc::{AllocFailed, Global};
 use std::fmt;
 use vx_base::OutOfMemory as AllocError;
 use vx_json::{JsonFault, Path, Text};
@@ -26,6 +26,24 @@ pub enum ReportFault {
     UnknownId(Path, Text),
     /// Memory ran out.
     OutOfMemory,
+}
+
+impl ReportFault {
+    /// The fault of an id at a path that stands earlier.
+    pub(crate) fn repeated(alloc: Global, path: &Path, id: &str) -> Result<ReportFault, AllocError>
+        ensures { IfOk result (λ fault. fault ≡ RepeatedId path.now id.now) }
+    {
+        let id = Text::from_str(alloc, id)?;
+        Ok(ReportFault::RepeatedId(path.copy(alloc)?, id))
+    }
+
+    /// The fault of an id at a path that the report has not.
+    pub(crate) fn unknown(alloc: Global, path: &Path, id: &str) -> Result<ReportFault, AllocError>
+        ensures { IfOk result (λ fault. fault ≡ UnknownId path.now id.now) }
+    {
+        let id = Text::from_str(alloc, id)?;
+        Ok(ReportFault::UnknownId(path.copy(alloc)?, id))
+    }
 }
 
 impl From<JsonFault> for ReportFault {

@@ -161,10 +161,7 @@ pub(crate) fn new_id_of<'v>(
     let id = id_of(alloc, value, path)?;
     match ids.find(id) {
         None => Ok(id),
-        Some(_) => {
-            let text = Text::from_str(alloc, id)?;
-            Err(ReportFault::RepeatedId(path.copy(alloc)?, text))
-        }
+        Some(_) => Err(ReportFault::repeated(alloc, path, id)?),
     }
 }
 
@@ -182,10 +179,7 @@ pub(crate) fn reference_of(
     let id = id_of(alloc, value, path)?;
     match ids.find(id) {
         Some(place) => Ok(place as u32),
-        None => {
-            let text = Text::from_str(alloc, id)?;
-            Err(ReportFault::UnknownId(path.copy(alloc)?, text))
-        }
+        None => Err(ReportFault::unknown(alloc, path, id)?),
     }
 }
 
@@ -206,13 +200,11 @@ pub(crate) fn new_reference_of(
 {
     let id = id_of(alloc, value, path)?;
     let Some(place) = ids.find(id) else {
-        let text = Text::from_str(alloc, id)?;
-        return Err(ReportFault::UnknownId(path.copy(alloc)?, text));
+        return Err(ReportFault::unknown(alloc, path, id)?);
     };
     let place = place as u32;
     if found.has(place) {
-        let text = Text::from_str(alloc, id)?;
-        return Err(ReportFault::RepeatedId(path.copy(alloc)?, text));
+        return Err(ReportFault::repeated(alloc, path, id)?);
     }
     Ok(place)
 }
