@@ -67,9 +67,9 @@ impl Tally {
         ensures { self.new ≡ (if is_ok result then self.old ++ cvr.now ∷ [] else self.old) }
     {
         let next = self.next.checked_add(1).ok_or(OutOfMemory)?;
-        let copy = cvr.copy(alloc)?;
         self.sums.reserve(2 * size_of(cvr))?;
         let mark = mark_of(cvr.unique.as_str());
+        let copy = cvr.copy(alloc)?;
         self.records.insert((mark, self.next), copy)?;
         self.next = next;
         change_record(&mut self.sums, Change::Raise, cvr);
