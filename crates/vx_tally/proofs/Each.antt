@@ -4,7 +4,7 @@ use Rattle.std.proofs.lemmas.List.{at_drop_more}
 use Rattle.serde_json.specs.Data.{Data}
 use Rattle.vx_base.specs.Results.{◌>>=◌}
 use Rattle.vx_tally.specs.declared.fault.ReportFault.{ReportFault}
-use Rattle.vx_base.specs.Refusals.{Unless, Gives}
+use Rattle.vx_base.specs.Refusals.{Unless, GivesAs}
 use Rattle.vx_tally.specs.Faults.{is_no_memory}
 use Rattle.vx_tally.specs.Members.{with_next, each_of}
 
@@ -28,6 +28,6 @@ module _ {A V : Type 0} (read : List A → Data → Result A ReportFault) (view 
         sym so_far ∙ rest ∙ ap (λ (r : Result (List A) ReportFault). r >>= λ more. each_of read more (map view (drop (i + 1) values))) gives
 
 -- an answer that hands a refusal on, where all is refused so
-pub hands-on : {A : Type 0} (result : Result A ReportFault) (fault : ReportFault) (total : Result A ReportFault) → result ≡ Err fault
-    → Unless (is_no_memory fault) (total ≡ Err fault) → Gives is_no_memory result total
-hands-on {A} result fault total is h = subst (λ (r : Result A ReportFault). Gives is_no_memory r total) (sym is) h
+pub hands-on : {A B : Type 0} (given : A → B) (result : Result A ReportFault) (fault : ReportFault) (total : Result B ReportFault) → result ≡ Err fault
+    → Unless (is_no_memory fault) (total ≡ Err fault) → GivesAs given is_no_memory result total
+hands-on {A} given result fault total is h = subst (λ (r : Result A ReportFault). GivesAs given is_no_memory r total) (sym is) h

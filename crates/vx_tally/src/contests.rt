@@ -1,15 +1,19 @@
 //! The units of a report, and the contests of its election with their selections.
 
-ghost use Rattle.std.specs.Prelude.{◌≡◌, ◌<◌, ◌≤◌, ◌+◌, ◌++◌, ◌∷◌, [], None, codes, length, map, IfOk, OnOk, is_ok, if◌then◌else◌};
+ghost use Rattle.std.specs.Prelude.{◌≡◌, ◌<◌, ◌≤◌, ◌+◌, ◌++◌, ◌∷◌, [], None, codes, length, map, vec_len, vec_capacity, IfOk, OnOk, is_ok, if◌then◌else◌};
 ghost use Rattle.serde_json.specs.View.{view};
 ghost use Rattle.vx_base.specs.Refusals.{Gives, GivesAs};
 ghost use Rattle.vx_tally.specs.Faults.{is_no_memory};
 ghost use Rattle.vx_tally.specs.Ids.{place_in};
-ghost use Rattle.vx_tally.specs.Contests.{selection_ids, own_ids_in, units_in, contest_at, with_contest, contest_list_in, election_path, contests_in};
+ghost use Rattle.vx_json.specs.Paths.{member_path, element_path};
+ghost use Rattle.vx_base.specs.Results.{◌>>=◌ as and_then};
+ghost use Rattle.vx_tally.specs.Names as names;
+ghost use Rattle.vx_tally.specs.Members.{id_member, list_member};
+ghost use Rattle.vx_tally.specs.Contests.{selection_ids, own_ids_in, units_in, with_contest, contest_list_in, election_path, contests_in};
 
 use crate::fault::ReportFault;
 use crate::ids::Ids;
-use crate::members::{LIST_LIMIT, first_member, id_member, list_member};
+use crate::members::{LIST_LIMIT, first_member, first_path, id_member, list_member};
 use crate::names;
 use crate::report::{ReportContest, ReportContests};
 use serde_json::Value;
@@ -38,6 +42,32 @@ impl Model for Directory {
     ghost invariant = { λ self. IsIndexed self.contests.items self.ids self.selections.items };
 }
 
+/// Makes room for one more contest and the ids of its selections.
+fn make_room(
+    contests: &mut Vec<ReportContest>,
+    selections: &mut Vec<Ids>,
+) -> Result<(), OutOfMemory>
+    ensures contests { contests.new.items ≡ contests.old.items }
+    ensures selections { selections.new.items ≡ selections.old.items }
+    ensures room { OnOk result (vec_len contests.new < vec_capacity contests.new) }
+    ensures selections_room { OnOk result (vec_len selections.new < vec_capacity selections.new) }
+{
+    contests.reserve(1)?;
+    selections.reserve(1)?;
+    Ok(())
+}
+
+/// The contest with an id and selections of its own.
+fn contest_with(alloc: Global, id: &str, own: &Ids) -> Result<ReportContest, OutOfMemory>
+    ensures { IfOk result (λ contest. contest ≡ record { id = id.now; selections = own.now }) }
+{
+    let selections = own.to_texts(alloc)?;
+    Ok(ReportContest {
+        id: Text::from_str(alloc, id)?,
+        selections,
+    })
+}
+
 impl Directory {
     ghost use Rattle.vx_tally.specs.Contests.{contest_ids, own_selections};
     ghost use Rattle.vx_tally.specs.Records.{selections_at};
@@ -53,19 +83,19 @@ impl Directory {
         }
     }
 
-    /// Puts a contest behind the others.
-    fn push(&mut self, alloc: Global, contest: ReportContest, own: Ids) -> Result<(), OutOfMemory>
+    /// Puts a contest with an id and selections of its own behind the others.
+    fn push(&mut self, alloc: Global, id: &str, own: Ids) -> Result<(), OutOfMemory>
         requires few { length self.old < 1000000 }
-        requires is_new { place_in contest.id (contest_ids self.old) ≡ None }
-        requires own { own ≡ contest.selections }
+        requires is_new { place_in id.now (contest_ids self.old) ≡ None }
         requires own_few { length own ≤ 1000000 }
-        ensures { self.new ≡ (if is_ok result then self.old ++ contest ∷ [] else self.old) }
+        ensures { self.new ≡ (if is_ok result
+            then self.old ++ record { id = id.now; selections = own } ∷ [] else self.old) }
     {
-        self.contests.reserve(1)?;
-        self.selections.reserve(1)?;
-        self.ids.push(alloc, contest.id.as_str())?;
-        self.contests.push(contest).unwrap();
-        self.selections.push(own).unwrap();
+        make_room(&mut self.contests, &mut self.selections)?;
+        let contest = contest_with(alloc, id, &own)?;
+        self.ids.push(alloc, id)?;
+        self.contests.push_reserved(contest);
+        self.selections.push_reserved(own);
         Ok(())
     }
 
@@ -108,9 +138,47 @@ impl Directory {
 /// Lets a directory go.
 pub(crate) fn drop_directory(_directory: Directory) {}
 
+/// The id of the object at a place of a list, lent, that none of those is.
+fn own_id_of<'v>(
+    alloc: Global,
+    value: &'v Value,
+    path: &Path,
+    place: usize,
+    ids: &Ids,
+) -> Result<&'v str, ReportFault>
+    ensures exact { GivesAs (λ id. id.now) is_no_memory result
+        (id_member (view value.now) (element_path path.now place) (codes "@id") ids.now) }
+    ensures is_new { IfOk result (λ id. place_in id.now ids.now ≡ None) }
+{
+    let at = path.element(alloc, place)?;
+    id_member(alloc, value, &at, "@id", ids)
+}
+
+/// Puts the ids of the objects of a list behind those before, and into a list of their own.
+#[tactic(auto, unfolding(crate::specs::Contests::own_ids_in))]
+fn push_own_ids(
+    alloc: Global,
+    values: &[Value],
+    path: &Path,
+    found: &mut Ids,
+    all: &mut Ids,
+) -> Result<(), ReportFault>
+    requires { found.old ≡ [] }
+    ensures exact { GivesAs (λ _. found.new) is_no_memory result
+        (own_ids_in path.now all.old (map view values.now)) }
+    ensures all { OnOk result (all.new ≡ all.old ++ found.new) }
+    ensures count { OnOk result (length found.new ≡ length values.now) }
+{
+    for value in values {
+        let id = own_id_of(alloc, value, path, found.len(), all)?;
+        found.push(alloc, id)?;
+        all.push(alloc, id)?;
+    }
+    Ok(())
+}
+
 /// The ids of the objects of a list, which none before the list is, nor any before it in the list.
 /// They are put behind those before.
-#[tactic(auto, unfolding(crate::specs::Contests::own_ids_in))]
 fn own_ids_of(
     alloc: Global,
     values: &[Value],
@@ -122,12 +190,7 @@ fn own_ids_of(
     ensures count { IfOk result (λ ids. length ids ≡ length values.now) }
 {
     let mut found = Ids::new(alloc);
-    for value in values {
-        let at = path.element(alloc, found.len())?;
-        let id = id_member(alloc, value, &at, "@id", all)?;
-        found.push(alloc, id)?;
-        all.push(alloc, id)?;
-    }
+    push_own_ids(alloc, values, path, &mut found, all)?;
     Ok(found)
 }
 
@@ -143,34 +206,26 @@ pub(crate) fn units_of(alloc: Global, value: &Value) -> Result<Ids, ReportFault>
     own_ids_of(alloc, list, &at, &mut Ids::new(alloc))
 }
 
-/// A contest, after those that have those ids and those selections, and the ids of its own
-/// selections, which are put behind the others.
-#[tactic(auto, unfolding(crate::specs::Contests::contest_at))]
-fn contest_of(
+/// The ids of the selections of a contest, which are put behind those before.
+fn selections_of(
     alloc: Global,
     value: &Value,
     path: &Path,
-    ids: &Ids,
     all: &mut Ids,
-) -> Result<(ReportContest, Ids), ReportFault>
-    ensures exact { GivesAs (λ listed. listed.0) is_no_memory result
-        (contest_at path.now ids.now all.old (view value.now)) }
-    ensures own { IfOk result (λ listed. listed.1 ≡ listed.0.selections) }
-    ensures few { IfOk result (λ listed. length listed.1 ≤ 1000000) }
-    ensures all { IfOk result (λ listed. all.new ≡ all.old ++ listed.1) }
-    ensures is_new { IfOk result (λ listed. place_in listed.0.id ids.now ≡ None) }
+) -> Result<Ids, ReportFault>
+    ensures exact { Gives is_no_memory result
+        (and_then (list_member (view value.now) path.now names.contest_selection 1000000)
+        (own_ids_in (member_path path.now names.contest_selection) all.old)) }
+    ensures all { IfOk result (λ own. all.new ≡ all.old ++ own) }
+    ensures few { IfOk result (λ own. length own ≤ 1000000) }
 {
-    let id = id_member(alloc, value, path, "@id", ids)?;
     let list = list_member(alloc, value, path, names::contest_selection(), LIST_LIMIT)?;
     let at = path.member(alloc, names::contest_selection())?;
-    let own = own_ids_of(alloc, list, &at, all)?;
-    let id = Text::from_str(alloc, id)?;
-    let selections = own.to_texts(alloc)?;
-    Ok((ReportContest { id, selections }, own))
+    own_ids_of(alloc, list, &at, all)
 }
 
 /// Reads a contest after those of the directory, and puts it behind them.
-#[tactic(auto, unfolding(crate::specs::Contests::with_contest))]
+#[tactic(auto, unfolding(crate::specs::Contests::with_contest, crate::specs::Contests::contest_at))]
 fn next_contest(
     alloc: Global,
     value: &Value,
@@ -185,24 +240,53 @@ fn next_contest(
     ensures all { OnOk result (all.new ≡ selection_ids directory.new) }
     ensures count { OnOk result (length directory.new ≡ length directory.old + 1) }
 {
-    let (contest, own) = contest_of(alloc, value, path, directory.ids(), all)?;
-    directory.push(alloc, contest, own)?;
+    let id = id_member(alloc, value, path, "@id", directory.ids())?;
+    let own = selections_of(alloc, value, path, all)?;
+    directory.push(alloc, id, own)?;
+    Ok(())
+}
+
+/// Puts the contests of a list into a directory that has none, and the ids of their selections
+/// into a list.
+#[tactic(auto, unfolding(crate::specs::Contests::contest_list_in))]
+fn push_contests(
+    alloc: Global,
+    values: &[Value],
+    path: &Path,
+    directory: &mut Directory,
+    all: &mut Ids,
+) -> Result<(), ReportFault>
+    requires few { length values.now ≤ 1000000 }
+    requires directory { directory.old ≡ [] }
+    requires all { all.old ≡ [] }
+    ensures { GivesAs (λ _. directory.new) is_no_memory result
+        (contest_list_in path.now (map view values.now)) }
+{
+    for value in values {
+        let at = path.element(alloc, directory.len())?;
+        next_contest(alloc, value, &at, directory, all)?;
+    }
     Ok(())
 }
 
 /// The contests of a list.
-#[tactic(auto, unfolding(crate::specs::Contests::contest_list_in))]
 fn contest_list_of(alloc: Global, values: &[Value], path: &Path) -> Result<Directory, ReportFault>
     requires { length values.now ≤ 1000000 }
     ensures { Gives is_no_memory result (contest_list_in path.now (map view values.now)) }
 {
     let mut directory = Directory::new(alloc);
-    let mut all = Ids::new(alloc);
-    for value in values {
-        let at = path.element(alloc, directory.len())?;
-        next_contest(alloc, value, &at, &mut directory, &mut all)?;
-    }
+    push_contests(alloc, values, path, &mut directory, &mut Ids::new(alloc))?;
     Ok(directory)
+}
+
+/// The contests of an election that stands at a path.
+fn contests_at(alloc: Global, election: &Value, path: &Path) -> Result<Directory, ReportFault>
+    ensures { Gives is_no_memory result
+        (and_then (list_member (view election.now) path.now (codes "Contest") 1000000)
+        (contest_list_in (member_path path.now (codes "Contest")))) }
+{
+    let list = list_member(alloc, election, path, "Contest", LIST_LIMIT)?;
+    contest_list_of(alloc, list, &path.member(alloc, "Contest")?)
 }
 
 /// The contests of a report, those of its first election.
@@ -212,7 +296,5 @@ pub(crate) fn contests_of(alloc: Global, value: &Value) -> Result<Directory, Rep
 {
     let top = Path::root(alloc);
     let election = first_member(alloc, value, &top, "Election")?;
-    let at = top.member(alloc, "Election")?.element(alloc, 0)?;
-    let list = list_member(alloc, election, &at, "Contest", LIST_LIMIT)?;
-    contest_list_of(alloc, list, &at.member(alloc, "Contest")?)
+    contests_at(alloc, election, &first_path(alloc, &top, "Election")?)
 }

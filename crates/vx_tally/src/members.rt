@@ -1,9 +1,13 @@
 //! Members of an object, each of which is needed.
 
-ghost use Rattle.std.specs.Prelude.{◌≡◌, ◌<◌, ◌≤◌, None, false, length, map, IfOk};
+ghost use Rattle.std.specs.Prelude.{◌≡◌, ◌<◌, ◌≤◌, None, false, length, map, nat_le, IfOk, Ok, Err, if◌then◌else◌};
 ghost use Rattle.serde_json.specs.View.{view};
 ghost use Rattle.vx_base.specs.Refusals.{Gives, GivesAs};
-ghost use Rattle.vx_tally.specs.Faults.{is_no_memory};
+ghost use Rattle.vx_base.specs.Results.{◌>>=◌ as and_then};
+ghost use Rattle.vx_json.specs.Paths.{member_path, element_path};
+ghost use Rattle.vx_json.specs.Reading.{list_in};
+ghost use Rattle.vx_tally.specs.declared.fault.ReportFault.TheVariants.{OutOfRange};
+ghost use Rattle.vx_tally.specs.Faults.{is_no_memory, of_json};
 ghost use Rattle.vx_tally.specs.Ids.{place_in, is_among};
 ghost use Rattle.vx_tally.specs.Members.{id_member, reference_member, new_reference_member, votes_member, list_member, first_member};
 
@@ -11,6 +15,7 @@ use crate::fault::ReportFault;
 use crate::ids::{Ids, Places, new_id_of, new_reference_of, reference_of};
 use serde_json::Value;
 use std::alloc::Global;
+use vx_base::OutOfMemory;
 use vx_json::{Path, list_of, need, whole_of};
 
 /// How many elements a list has at most.
@@ -93,6 +98,25 @@ pub(crate) fn votes_member(
     Ok(votes as u32)
 }
 
+/// The list that a value is, where it has at most `limit` elements.
+fn list_up_to<'v>(
+    alloc: Global,
+    value: &'v Value,
+    path: &Path,
+    limit: usize,
+) -> Result<&'v [Value], ReportFault>
+    ensures exact { GivesAs (λ list. map view list.now) is_no_memory result
+        (and_then (of_json (list_in (view value.now) path.now))
+        (λ list. if nat_le (length list) limit then Ok list else Err (OutOfRange path.now))) }
+    ensures within { IfOk result (λ list. length list.now ≤ limit) }
+{
+    let list = list_of(alloc, value, path)?;
+    if limit < list.len() {
+        return Err(ReportFault::OutOfRange(path.copy(alloc)?));
+    }
+    Ok(list)
+}
+
 /// A list with at most `limit` elements.
 #[tactic(auto, unfolding(crate::specs::Members::list_member))]
 pub(crate) fn list_member<'v>(
@@ -108,11 +132,14 @@ pub(crate) fn list_member<'v>(
 {
     let member = need(alloc, value, path, name)?;
     let at = path.member(alloc, name)?;
-    let list = list_of(alloc, member, &at)?;
-    if limit < list.len() {
-        return Err(ReportFault::OutOfRange(at));
-    }
-    Ok(list)
+    list_up_to(alloc, member, &at, limit)
+}
+
+/// Where the first element stands of the list that is a member.
+pub(crate) fn first_path(alloc: Global, path: &Path, name: &str) -> Result<Path, OutOfMemory>
+    ensures { IfOk result (λ at. at ≡ element_path (member_path path.now name.now) 0) }
+{
+    path.member(alloc, name)?.element(alloc, 0)
 }
 
 /// The first element of a list that has one.

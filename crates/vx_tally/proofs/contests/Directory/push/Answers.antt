@@ -9,8 +9,8 @@ invariant_of-self-2 c =
     let is = c.self.invariant in
     let few_own : List (List ℕ) → Type 0 = λ own. length own ≤ list_limit in
     let before = c.self.inside.selections.items in
-    let contests : c.push-2.new.self.items ≡ c.self.inside.contests.items ++ c.args.contest ∷ [] = search rules in
-    let selections : c.push-3.new.self.items ≡ before ++ c.args.own ∷ [] = search rules in
+    let contests : c.push_reserved.new.self.items ≡ c.self.inside.contests.items ++ c.in_ok-contest.contest ∷ [] = search rules in
+    let selections : c.push_reserved-2.new.self.items ≡ before ++ c.args.own ∷ [] = search rules in
     record {
       ids_are = grind (arith, common_steps);
       selections_are = grind (arith, common_steps);

@@ -7,7 +7,7 @@ use Rattle.vx_tally.specs.Faults.{is_no_memory}
 use Rattle.vx_tally.specs.Members.{with_next}
 use Rattle.vx_tally.specs.Contests.{contest_in, with_contest, contest_list_in}
 use Rattle.vx_tally.proofs.Each.{next-turn, next-refused, hands-on}
-use Rattle.vx_tally.proofs.contests.contest_list_of.Goals as goal
+use Rattle.vx_tally.proofs.contests.push_contests.Goals as goal
 
 pub returns-in_err-next_contest : goal.returns-in_err-next_contest
 unfolding contest_list_in with_contest
@@ -16,7 +16,7 @@ returns-in_err-next_contest c =
     let p = err_from_is_err_and c.from_residual-in_err-next_contest.result c.from_residual-in_err-next_contest.ensures.1 in
     let fault = p.0 in
     let refused : Unless (is_no_memory fault) (with_next read c.loop-value.directory (view c.value-item.result) ≡ Err fault) = search rules in
-    hands-on _ fault _ p.1
+    hands-on (λ _. c.next_contest.new.directory) _ fault _ p.1
     (Unless-weaker (is_no_memory fault) (next-refused read view c.loop-value.directory c.args.values.now c.loop-value.value-index c.value-item.result
     (search rules) c.value-item.is _ c.loop-value.invariant.so_far fault) refused)
 

@@ -2,7 +2,7 @@ use Rattle.std.proofs.Common.{◌∙◌, sym, ap, List, ℕ}
 use Rattle.vx_tally.specs.Ids.{place_in}
 use Rattle.vx_tally.proofs.Finding.{position-behind}
 use Rattle.std.specs.Prelude.{bytes_eq}
-use Rattle.vx_tally.proofs.contests.own_ids_of.Goals as goal
+use Rattle.vx_tally.proofs.contests.push_own_ids.Goals as goal
 
 pub push-requires : goal.push-requires
 push-requires c =
