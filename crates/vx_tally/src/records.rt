@@ -2,7 +2,11 @@
 
 ghost use Rattle.std.specs.Prelude.{◌≡◌, ◌<◌, ◌≤◌, ◌∷◌, [], None, false, codes, length, map, IfOk};
 ghost use Rattle.serde_json.specs.View.{view};
-ghost use Rattle.vx_base.specs.Refusals.{Gives};
+ghost use Rattle.vx_base.specs.Refusals.{Gives, GivesAs};
+ghost use Rattle.vx_base.specs.Results.{◌>>=◌ as and_then};
+ghost use Rattle.vx_json.specs.Paths.{member_path};
+ghost use Rattle.vx_tally.specs.Names as names;
+ghost use Rattle.vx_tally.specs.Members.{list_member};
 ghost use Rattle.vx_tally.specs.Faults.{is_no_memory};
 ghost use Rattle.vx_tally.specs.Ids.{place_in, is_among};
 ghost use Rattle.vx_tally.specs.Contests.{contest_ids, own_selections};
@@ -12,8 +16,8 @@ use crate::contests::Directory;
 use crate::fault::ReportFault;
 use crate::ids::{Ids, Places};
 use crate::members::{
-    LIST_LIMIT, RECORD_LIMIT, first_member, id_member, list_member, new_reference_member,
-    reference_member, votes_member,
+    LIST_LIMIT, RECORD_LIMIT, first_member, first_path, id_member, list_member,
+    new_reference_member, reference_member, votes_member,
 };
 use crate::names;
 use crate::report::{CvrRecord, CvrRecords, RecordContest, RecordContests, VoteRow, VoteRows};
@@ -27,9 +31,7 @@ fn votes_of(alloc: Global, value: &Value, path: &Path) -> Result<u32, ReportFaul
     ensures { Gives is_no_memory result (votes_in (view value.now) path.now) }
 {
     let position = first_member(alloc, value, path, names::selection_position())?;
-    let at = path
-        .member(alloc, names::selection_position())?
-        .element(alloc, 0)?;
+    let at = first_path(alloc, path, names::selection_position())?;
     votes_member(alloc, position, &at, names::number_votes())
 }
 
@@ -50,8 +52,28 @@ fn row_of(
     Ok(VoteRow { selection, votes })
 }
 
-/// The selections of a list.
+/// Puts the selections of a list into a list that has none.
 #[tactic(auto, unfolding(crate::specs::Records::rows_in))]
+fn push_rows(
+    alloc: Global,
+    selections: &Ids,
+    values: &[Value],
+    path: &Path,
+    rows: &mut VoteRows,
+) -> Result<(), ReportFault>
+    requires few { length selections.now ≤ 1000000 }
+    requires none { rows.old ≡ [] }
+    ensures { GivesAs (λ _. rows.new) is_no_memory result
+        (rows_in selections.now path.now (map view values.now)) }
+{
+    for value in values {
+        let at = path.element(alloc, rows.len())?;
+        rows.push(row_of(alloc, selections, value, &at)?)?;
+    }
+    Ok(())
+}
+
+/// The selections of a list.
 fn rows_of(
     alloc: Global,
     selections: &Ids,
@@ -62,10 +84,7 @@ fn rows_of(
     ensures { Gives is_no_memory result (rows_in selections.now path.now (map view values.now)) }
 {
     let mut rows = VoteRows::new(alloc);
-    for value in values {
-        let at = path.element(alloc, rows.len())?;
-        rows.push(row_of(alloc, selections, value, &at)?)?;
-    }
+    push_rows(alloc, selections, values, path, &mut rows)?;
     Ok(rows)
 }
 
@@ -103,8 +122,31 @@ fn counted_of(
     })
 }
 
-/// The contests of a list.
+/// Puts the contests of a list into a list that has none, and their places into another.
 #[tactic(auto, unfolding(crate::specs::Records::counted_list_in))]
+fn push_counted(
+    alloc: Global,
+    contests: &Directory,
+    values: &[Value],
+    path: &Path,
+    found: &mut Places,
+    counted: &mut RecordContests,
+) -> Result<(), ReportFault>
+    requires places { found.old ≡ [] }
+    requires none { counted.old ≡ [] }
+    ensures { GivesAs (λ _. counted.new) is_no_memory result (counted_list_in
+        (contest_ids contests.now) (own_selections contests.now) path.now (map view values.now)) }
+{
+    for value in values {
+        let at = path.element(alloc, counted.len())?;
+        let one = counted_of(alloc, contests, value, &at, found)?;
+        found.push(one.contest)?;
+        counted.push(one)?;
+    }
+    Ok(())
+}
+
+/// The contests of a list.
 fn counted_list_of(
     alloc: Global,
     contests: &Directory,
@@ -115,14 +157,26 @@ fn counted_list_of(
         (own_selections contests.now) path.now (map view values.now)) }
 {
     let mut counted = RecordContests::new(alloc);
-    let mut found = Places::new(alloc);
-    for value in values {
-        let at = path.element(alloc, counted.len())?;
-        let one = counted_of(alloc, contests, value, &at, &found)?;
-        found.push(one.contest)?;
-        counted.push(one)?;
-    }
+    let found = &mut Places::new(alloc);
+    push_counted(alloc, contests, values, path, found, &mut counted)?;
     Ok(counted)
+}
+
+/// The contests of a snapshot.
+fn contests_in(
+    alloc: Global,
+    contests: &Directory,
+    snapshot: &Value,
+    path: &Path,
+) -> Result<RecordContests, ReportFault>
+    ensures { Gives is_no_memory result
+        (and_then (list_member (view snapshot.now) path.now names.cvr_contest 1000)
+        (counted_list_in (contest_ids contests.now) (own_selections contests.now)
+        (member_path path.now names.cvr_contest))) }
+{
+    let name = names::cvr_contest();
+    let list = list_member(alloc, snapshot, path, name, RECORD_LIMIT)?;
+    counted_list_of(alloc, contests, list, &path.member(alloc, name)?)
 }
 
 /// The contests of a record, those of its first snapshot.
@@ -137,16 +191,8 @@ fn snapshot_of(
         (own_selections contests.now) (view value.now) path.now) }
 {
     let snapshot = first_member(alloc, value, path, names::cvr_snapshot())?;
-    let at = path
-        .member(alloc, names::cvr_snapshot())?
-        .element(alloc, 0)?;
-    let list = list_member(alloc, snapshot, &at, names::cvr_contest(), RECORD_LIMIT)?;
-    counted_list_of(
-        alloc,
-        contests,
-        list,
-        &at.member(alloc, names::cvr_contest())?,
-    )
+    let at = first_path(alloc, path, names::cvr_snapshot())?;
+    contests_in(alloc, contests, snapshot, &at)
 }
 
 /// A record with an id that none of those is.
@@ -166,16 +212,42 @@ fn record_of(
 {
     let unique = id_member(alloc, value, path, "UniqueId", uniques)?;
     let unit = reference_member(alloc, value, path, names::ballot_style_unit_id(), units)?;
+    let unique = Text::from_str(alloc, unique)?;
     let contests = snapshot_of(alloc, contests, value, path)?;
     Ok(CvrRecord {
-        unique: Text::from_str(alloc, unique)?,
+        unique,
         unit,
         contests,
     })
 }
 
-/// The records of a list.
+/// Puts the records of a list into a list that has none, and their ids into another.
 #[tactic(auto, unfolding(crate::specs::Records::record_list_in))]
+fn push_records(
+    alloc: Global,
+    units: &Ids,
+    contests: &Directory,
+    values: &[Value],
+    path: &Path,
+    uniques: &mut Ids,
+    records: &mut CvrRecords,
+) -> Result<(), ReportFault>
+    requires few { length units.now ≤ 1000000 }
+    requires ids { uniques.old ≡ [] }
+    requires none { records.old ≡ [] }
+    ensures { GivesAs (λ _. records.new) is_no_memory result (record_list_in units.now
+        (contest_ids contests.now) (own_selections contests.now) path.now (map view values.now)) }
+{
+    for value in values {
+        let at = path.element(alloc, records.len())?;
+        let one = record_of(alloc, units, contests, value, &at, uniques)?;
+        uniques.push(alloc, one.unique.as_str())?;
+        records.push(one)?;
+    }
+    Ok(())
+}
+
+/// The records of a list.
 fn record_list_of(
     alloc: Global,
     units: &Ids,
@@ -188,13 +260,8 @@ fn record_list_of(
         (own_selections contests.now) path.now (map view values.now)) }
 {
     let mut records = CvrRecords::new(alloc);
-    let mut uniques = Ids::new(alloc);
-    for value in values {
-        let at = path.element(alloc, records.len())?;
-        let one = record_of(alloc, units, contests, value, &at, &uniques)?;
-        uniques.push(alloc, one.unique.as_str())?;
-        records.push(one)?;
-    }
+    let ids = &mut Ids::new(alloc);
+    push_records(alloc, units, contests, values, path, ids, &mut records)?;
     Ok(records)
 }
 

@@ -3,7 +3,7 @@ use Rattle.serde_json.specs.View.{view}
 use Rattle.vx_tally.specs.Members.{each_of}
 use Rattle.vx_tally.specs.Contests.{contest_ids, own_selections}
 use Rattle.vx_tally.specs.Records.{record_in, unique_ids}
-use Rattle.vx_tally.proofs.records.record_list_of.Given as goal
+use Rattle.vx_tally.proofs.records.push_records.Given as goal
 
 abbrev pub invariant-loop-value : goal.invariant-loop-value
 invariant-loop-value l = record {

@@ -3,7 +3,7 @@ use Rattle.serde_json.specs.View.{view}
 use Rattle.vx_tally.specs.Members.{each_of}
 use Rattle.vx_tally.specs.Contests.{contest_ids, own_selections}
 use Rattle.vx_tally.specs.Records.{counted_in, counted_places}
-use Rattle.vx_tally.proofs.records.counted_list_of.Given as goal
+use Rattle.vx_tally.proofs.records.push_counted.Given as goal
 
 abbrev pub invariant-loop-value : goal.invariant-loop-value
 invariant-loop-value l = record {

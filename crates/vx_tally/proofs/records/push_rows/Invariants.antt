@@ -2,7 +2,7 @@ use Rattle.std.proofs.Common.{◌≡◌, [], length, map, drop}
 use Rattle.serde_json.specs.View.{view}
 use Rattle.vx_tally.specs.Members.{each_of}
 use Rattle.vx_tally.specs.Records.{row_in}
-use Rattle.vx_tally.proofs.records.rows_of.Given as goal
+use Rattle.vx_tally.proofs.records.push_rows.Given as goal
 
 abbrev pub invariant-loop-value : goal.invariant-loop-value
 invariant-loop-value l = record {
