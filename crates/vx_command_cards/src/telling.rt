@@ -115,9 +115,9 @@ fn write_cards<S: Sink>(alloc: Global, election: &Election, out: &mut S) -> Resu
 
 /// Does the command `cards`: takes the election under its name, which is word 1, and writes a line for
 /// each of its cards, then the texts with hollow boxes, those that show nothing, the lines of text that
-/// end within a word, the choices that look alike, and how many lines of each there are. A card that can't be planned has a
-/// line that says why, so the answer is no `Layout`: it is that of an election that can't be taken or
-/// read, or a device's fault, or want of memory.
+/// end within a word, the choices that look alike, and how many lines of each there are. A card that
+/// can't be planned has a line that says why, so the answer is no `Layout`: it is that of an election
+/// that can't be taken or read, or a device's fault, or want of memory.
 pub fn cards<I: Inputs, S: Sink>(
     alloc: Global,
     election: &str,

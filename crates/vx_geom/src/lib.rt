@@ -2,7 +2,8 @@
 //!
 //! A shear takes each place of the paper to a place of the scan and back. What it does is defined in
 //! `specs/Slants.antt`; that slants, of which shears are some, are bijections, almost rigid on small
-//! rectangles, and conserve counts, is said in `specs/Laws.antt` and `Back.antt`, each a law that a function here carries.
+//! rectangles, and conserve counts, is said in `specs/Laws.antt` and `Back.antt`, each a law that a
+//! function here carries.
 #![tactic(auto)]
 
 mod laws;
