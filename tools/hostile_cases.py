@@ -28,7 +28,10 @@ WORDS = {
     "decide": ["E", "S"],
     "export": ["E", MOMENT, DEVICE],
     "results": ["E"],
+    "summary": ["E"],
     "sample": ["E", SEED, "20", "H"],
+    "board": ["E", SEED, "20"],
+    "risk": ["E", SEED, "20", "H", "50"],
     "center": ["E", MOMENT, DEVICE, "script:S", "scan:b2:A"],
     "ranked": ["E", "K"],
     "gray": ["G"],
@@ -37,9 +40,9 @@ WORDS = {
     "demo": ["7", "1"],
 }
 # What each may answer that gets good inputs which don't belong to each other, beside 0.
-OTHERWISE = {"check": {7}, "try": {19}, "decide": {8}, "sample": {15}, "audit": {15}, "ranked": {16}}
+OTHERWISE = {"check": {7}, "try": {19}, "decide": {8}, "sample": {15}, "risk": {15}, "audit": {15}, "ranked": {16}}
 FILES = "EARSGPHK"
-OF_JOURNAL = ("queue", "export", "decide", "count", "desk", "results", "sample", "ranked", "center")
+OF_JOURNAL = ("queue", "export", "decide", "count", "desk", "results", "summary", "sample", "board", "risk", "ranked", "center")
 OF_ELECTION = [name for name, words in WORDS.items() if "E" in words]
 
 
@@ -488,7 +491,7 @@ def of_report(pick, room, good):
 
 def of_hands(pick, room, good):
     put(room, "H", good.broken(pick, good.hands))
-    command = pick.choice(("audit", "sample"))
+    command = pick.choice(("audit", "sample", "risk"))
     if command == "audit":
         return case_of("hands", command, "-", {3, 15})
     put_journal(room, good.records)

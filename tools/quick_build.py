@@ -61,8 +61,8 @@ class Run(threading.Thread):
         # (a signal's handler is set by its first call, which only the main thread may)
         self.rt.rtlib.guarded()
         os.chdir(top)
-        self.rt.Crate.allowed = self.rt.handles_of(top)
-        self.crates = {it.name: it for it in self.rt.crates_of(top)}
+        self.rt.Crate.allowed, self.rt.rtlib.Crate = self.rt.handles_of(top), self.rt.Crate
+        self.crates = {it.name: it for it in self.rt.rtlib.crates_below(top)}
         self.printing = threading.Lock()
 
     def poll(self):
@@ -102,7 +102,7 @@ class Run(threading.Thread):
     def sum_of(self, crate):
         """A sum of all that a proof of the crate reads: its own text, the kit, and the libraries below as they were built."""
         below = [(it.name, self.rt.rtlib.sum_of(f"{it.rlib}/format")) for it in crate.below()]
-        return sum_of([self.rt.own_sum(crate), below])
+        return sum_of([crate.stamp(), below])
 
     def is_kept(self, crate):
         with contextlib.suppress(OSError), open(self.made(crate)) as file:

@@ -7,7 +7,7 @@ use Rattle.vx_election_model.specs.declared.election.Election.{Election}
 use Rattle.vx_command.specs.Acts.{Answer, Outcome, records_of}
 use Rattle.vx_command.specs.Done.{IsDone, Taken}
 use Rattle.vx_words.specs.declared.command.Command.{Command}
-use Rattle.vx_words.specs.declared.command.Command.TheVariants.{Print, Read, Check, Count, Decide, Queue, Export, Demo, Center, Try, Cards, Results, Sample, Desk}
+use Rattle.vx_words.specs.declared.command.Command.TheVariants.{Print, Read, Check, Count, Decide, Queue, Export, Demo, Center, Try, Cards, Results, Sample, Desk, Summary, Board, Risk}
 use Rattle.vx_app.specs.Outcome.{appends}
 use Rattle.vx_app.specs.Journals.{AddsRecords, AreRuns, IsDoneOf, IsRun, Run, RunsAddRecords}
 
@@ -36,6 +36,9 @@ module _ (records left : List (List ℕ)) where
   by (Results name) files taken taken_now answer done held = none (held refl)
   by (Sample name seed size hand) files taken taken_now answer done held = none (held refl)
   by (Desk name batch scans) files taken taken_now answer done held = none (held refl)
+  by (Summary name) files taken taken_now answer done held = none (held refl)
+  by (Board name seed size) files taken taken_now answer done held = none (held refl)
+  by (Risk name seed size hand limit) files taken taken_now answer done held = none (held refl)
   by (Center name moment device items) files taken taken_now answer done held = some _ taken taken_now answer done.done
 
 one-adds : (election : Election) (records : List (List ℕ)) (one : Run) → IsRun election records one → AddsRecords records one.left

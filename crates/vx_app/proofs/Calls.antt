@@ -6,7 +6,7 @@ use Rattle.vx_election_model.specs.declared.election.Election.{Election}
 use Rattle.vx_command.specs.Acts.{Answer, Outcome, records_of}
 use Rattle.vx_command.specs.Done.{Held, IsDone, Taken}
 use Rattle.vx_words.specs.declared.command.Command.{Command}
-use Rattle.vx_words.specs.declared.command.Command.TheVariants.{Print, Read, Check, Count, Decide, Queue, Export, Demo, Center, Try, Cards, Results, Sample, Desk}
+use Rattle.vx_words.specs.declared.command.Command.TheVariants.{Print, Read, Check, Count, Decide, Queue, Export, Demo, Center, Try, Cards, Results, Sample, Desk, Summary, Board, Risk}
 use Rattle.vx_words.specs.Words.{Spells}
 use Rattle.vx_app.specs.Outcome.{appends}
 use Rattle.vx_app.specs.Journals.{IsDoneOf, IsFor, IsRunOver}
@@ -34,6 +34,9 @@ tells-of (Cards name) files records taken taken_now held_now answer done = tells
 tells-of (Results name) files records taken taken_now held_now answer done = tells _ records taken taken_now held_now answer done
 tells-of (Sample name seed size hand) files records taken taken_now held_now answer done = tells _ records taken taken_now held_now answer done
 tells-of (Desk name batch scans) files records taken taken_now held_now answer done = tells _ records taken taken_now held_now answer done
+tells-of (Summary name) files records taken taken_now held_now answer done = tells _ records taken taken_now held_now answer done
+tells-of (Board name seed size) files records taken taken_now held_now answer done = tells _ records taken taken_now held_now answer done
+tells-of (Risk name seed size hand limit) files records taken taken_now held_now answer done = tells _ records taken taken_now held_now answer done
 tells-of (Center name moment device items) files records taken taken_now held_now answer done = tells _ records taken taken_now held_now answer done.done
 
 pub is-run : (election : Election) (records words : List (List ℕ)) (command : Command) (files : Files) (taken taken_now : Taken) (held_now : Held) (answer : Answer)

@@ -10,7 +10,7 @@ use Rattle.vx_command.specs.Acts.{Answer, Outcome, records_of}
 use Rattle.vx_command.specs.Done.{BreaksOff, Held, IsDone, IsWhole, Taken}
 use Rattle.vx_journal.specs.Laws.{JournalsAreTheirEvents}
 use Rattle.vx_words.specs.declared.command.Command.{Command}
-use Rattle.vx_words.specs.declared.command.Command.TheVariants.{Print, Read, Check, Count, Decide, Queue, Export, Demo, Center, Try, Cards, Results, Sample, Desk}
+use Rattle.vx_words.specs.declared.command.Command.TheVariants.{Print, Read, Check, Count, Decide, Queue, Export, Demo, Center, Try, Cards, Results, Sample, Desk, Summary, Board, Risk}
 use Rattle.vx_app.specs.Outcome.{outcome_of}
 use Rattle.vx_app.specs.Journals.{EndedRunsKeepTheirActs, IsDoneOf, RunsKeepEvents}
 use Rattle.vx_app.specs.Runs.{is_run}
@@ -31,6 +31,9 @@ is-done (Cards name) files records taken taken_now held_now answer runs done = d
 is-done (Results name) files records taken taken_now held_now answer runs done = done
 is-done (Sample name seed size hand) files records taken taken_now held_now answer runs done = done
 is-done (Desk name batch scans) files records taken taken_now held_now answer runs done = done
+is-done (Summary name) files records taken taken_now held_now answer runs done = done
+is-done (Board name seed size) files records taken taken_now held_now answer runs done = done
+is-done (Risk name seed size hand limit) files records taken taken_now held_now answer runs done = done
 is-done (Center name moment named items) files records taken taken_now held_now answer runs done = absurd (false≢true runs)
 
 -- where all acts are done, all their records are kept

@@ -17,7 +17,7 @@ use Rattle.vx_command_decide.specs.Outcome.{decide_outcome}
 use Rattle.vx_journal.specs.Laws.{FrontsAreJournals, HoldsJournal, IsJournal, JournalsStay, StaysJournal}
 use Rattle.vx_journal.specs.Replay.{replay_of}
 use Rattle.vx_words.specs.declared.command.Command.{Command}
-use Rattle.vx_words.specs.declared.command.Command.TheVariants.{Print, Read, Check, Count, Decide, Queue, Export, Demo, Center, Try, Cards, Results, Sample, Desk}
+use Rattle.vx_words.specs.declared.command.Command.TheVariants.{Print, Read, Check, Count, Decide, Queue, Export, Demo, Center, Try, Cards, Results, Sample, Desk, Summary, Board, Risk}
 use Rattle.vx_words.specs.Words.{IsSound}
 use Rattle.vx_app.specs.Outcome.{appends, outcome_of}
 use Rattle.vx_app.specs.Journals.{AreRuns, HoldsMore, IsDoneOf, IsFor, IsRun, KeepsMore, Run, RunsKeepEvents, RunsLeaveJournals}
@@ -66,6 +66,9 @@ done-of (Cards name) files records taken taken_now held_now answer runs done = d
 done-of (Results name) files records taken taken_now held_now answer runs done = done
 done-of (Sample name seed size hand) files records taken taken_now held_now answer runs done = done
 done-of (Desk name batch scans) files records taken taken_now held_now answer runs done = done
+done-of (Summary name) files records taken taken_now held_now answer runs done = done
+done-of (Board name seed size) files records taken taken_now held_now answer runs done = done
+done-of (Risk name seed size hand limit) files records taken taken_now held_now answer runs done = done
 done-of (Center name moment named items) files records taken taken_now held_now answer runs done = absurd (false≢true runs)
 
 module _ (count : CountKeepsJournals) (decide : DecideKeepsJournals) (center : CenterKeepsJournals) (stays : JournalsStay) (fronts : FrontsAreJournals) where
@@ -87,6 +90,9 @@ module _ (count : CountKeepsJournals) (decide : DecideKeepsJournals) (center : C
   kept-over (Results name) device files election records events taken taken_now held_now answer sound for_it is held done = unchanged election records events is held_now (held refl)
   kept-over (Sample name seed size hand) device files election records events taken taken_now held_now answer sound for_it is held done = unchanged election records events is held_now (held refl)
   kept-over (Desk name batch scans) device files election records events taken taken_now held_now answer sound for_it is held done = unchanged election records events is held_now (held refl)
+  kept-over (Summary name) device files election records events taken taken_now held_now answer sound for_it is held done = unchanged election records events is held_now (held refl)
+  kept-over (Board name seed size) device files election records events taken taken_now held_now answer sound for_it is held done = unchanged election records events is held_now (held refl)
+  kept-over (Risk name seed size hand limit) device files election records events taken taken_now held_now answer sound for_it is held done = unchanged election records events is held_now (held refl)
   kept-over (Center name moment named items) device files election records events taken taken_now held_now answer sound for_it is held done =
       appended election records events is stays fronts (center_outcome name moment named items files records done.history) taken taken_now held_now answer
       (center name moment named items files records done.history election sound.are_items for_it (is-ok_from (replay_of election records) events is)

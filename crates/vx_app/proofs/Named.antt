@@ -6,7 +6,7 @@ use Rattle.std.proofs.lemmas.Bool.{false_from_ne_true, not_from_false, true≢fa
 use Rattle.std.proofs.lemmas.Option.{same_Some}
 use Rattle.std.proofs.lemmas.Slice.Eq.{bytes_eq-Decides}
 use Rattle.vx_words.specs.declared.command.Command.{Command}
-use Rattle.vx_words.specs.declared.command.Command.TheVariants.{Print, Read, Check, Count, Decide, Queue, Export, Demo, Center, Try, Cards, Results, Sample, Desk}
+use Rattle.vx_words.specs.declared.command.Command.TheVariants.{Print, Read, Check, Count, Decide, Queue, Export, Demo, Center, Try, Cards, Results, Sample, Desk, Summary, Board, Risk}
 use Rattle.vx_words.specs.declared.command.ItemWord.{ItemWord}
 use Rattle.vx_words.specs.Names.{name_word}
 use Rattle.vx_words.specs.Words.{Spells, name_of}
@@ -50,6 +50,9 @@ center_alone words (Cards election) is spelled none = true≢false is
 center_alone words (Results election) is spelled none = true≢false is
 center_alone words (Sample election seed size hand) is spelled none = true≢false is
 center_alone words (Desk election batch scans) is spelled none = true≢false is
+center_alone words (Summary election) is spelled none = true≢false is
+center_alone words (Board election seed size) is spelled none = true≢false is
+center_alone words (Risk election seed size hand limit) is spelled none = true≢false is
 
 pub no_other : (words : List (List ℕ)) (command : Command) → NamesCenter words → Spells words command → NoCenter words → ⊥
 no_other words command first spelled = center_alone words command (is_center words command first spelled) spelled

@@ -11,7 +11,7 @@ use Rattle.vx_command_center.specs.Runs.{Centers}
 use Rattle.vx_journal.specs.Laws.{AreRecordsOf, IsJournal}
 use Rattle.vx_journal.specs.Replay.{replay_of}
 use Rattle.vx_words.specs.declared.command.Command.{Command}
-use Rattle.vx_words.specs.declared.command.Command.TheVariants.{Print, Read, Check, Count, Decide, Queue, Export, Demo, Center, Try, Cards, Results, Sample, Desk}
+use Rattle.vx_words.specs.declared.command.Command.TheVariants.{Print, Read, Check, Count, Decide, Queue, Export, Demo, Center, Try, Cards, Results, Sample, Desk, Summary, Board, Risk}
 use Rattle.vx_words.specs.Words.{Spells}
 use Rattle.vx_app.specs.Outcome.{appends, outcome_of}
 use Rattle.vx_app.specs.Runs.{is_run}
@@ -36,6 +36,9 @@ IsFor (Cards name) = IsNamed name
 IsFor (Results name) = IsNamed name
 IsFor (Sample name seed size hand) = IsNamed name
 IsFor (Desk name batch scans) = IsNamed name
+IsFor (Summary name) = IsNamed name
+IsFor (Board name seed size) = IsNamed name
+IsFor (Risk name seed size hand limit) = IsNamed name
 
 -- a keeper holds a journal of an election that keeps these events, and perhaps more behind them
 pub record HoldsMore (election : Election) (events : List Event) (held : Held) : Type 0 where

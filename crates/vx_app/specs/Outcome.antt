@@ -12,11 +12,13 @@ use Rattle.vx_command_export.specs.Outcome.{export_outcome}
 use Rattle.vx_command_demo.specs.Outcome.{demo_outcome}
 use Rattle.vx_command_try.specs.Outcome.{try_outcome}
 use Rattle.vx_command_cards.specs.Outcome.{cards_outcome}
-use Rattle.vx_results.specs.Outcome.{results_outcome}
+use Rattle.vx_results.specs.Outcome.{results_outcome, summary_outcome}
 use Rattle.vx_results.specs.Sampling.{sample_outcome}
 use Rattle.vx_command_desk.specs.Outcome.{desk_outcome}
+use Rattle.vx_board.specs.Outcome.{board_outcome}
+use Rattle.vx_command_risk.specs.Outcome.{risk_outcome}
 use Rattle.vx_words.specs.declared.command.Command.{Command}
-use Rattle.vx_words.specs.declared.command.Command.TheVariants.{Print, Read, Check, Count, Decide, Queue, Export, Demo, Center, Try, Cards, Results, Sample, Desk}
+use Rattle.vx_words.specs.declared.command.Command.TheVariants.{Print, Read, Check, Count, Decide, Queue, Export, Demo, Center, Try, Cards, Results, Sample, Desk, Summary, Board, Risk}
 
 -- what a command does, by the files and the records of the journal; the acts of `center`, which its history tells besides, stand
 -- in its own `Centers`, and nothing here
@@ -36,6 +38,9 @@ outcome_of (Cards election) files records = cards_outcome election files
 outcome_of (Results election) files records = results_outcome election files records
 outcome_of (Sample election seed size hand) files records = sample_outcome election seed size hand files records
 outcome_of (Desk election batch scans) files records = desk_outcome election batch scans files records
+outcome_of (Summary election) files records = summary_outcome election files records
+outcome_of (Board election seed size) files records = board_outcome election seed size files records
+outcome_of (Risk election seed size hand limit) files records = risk_outcome election seed size hand limit files records
 
 -- a command that has an act of the keeper
 abbrev pub uses_keeper : Command → Bool
@@ -78,3 +83,6 @@ inputs_of (Cards election) = election ∷ []
 inputs_of (Results election) = election ∷ []
 inputs_of (Sample election seed size hand) = election ∷ hand ∷ []
 inputs_of (Desk election batch scans) = election ∷ scans
+inputs_of (Summary election) = election ∷ []
+inputs_of (Board election seed size) = election ∷ []
+inputs_of (Risk election seed size hand limit) = election ∷ hand ∷ []

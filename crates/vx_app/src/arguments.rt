@@ -3,7 +3,7 @@ ghost use Rattle.vx_app.specs.Arguments.{IsCommandLine, status_without};
 
 use std::alloc::{AllocError, Global};
 use std::io::ErrorKind;
-use vx_command::{Halt, Status};
+use vx_command::Status;
 use vx_io::Words;
 
 /// The most words that a command is read from; a command line never has so many.
@@ -32,7 +32,7 @@ pub fn command_words(alloc: Global, arguments: &[String]) -> Result<Words, Statu
     }
     match words_behind(alloc, arguments) {
         Ok(words) => Ok(words),
-        Err(_refused) => Err(Status::Halted(Halt::NoMemory)),
+        Err(_refused) => Err(Status::NoMemory),
     }
 }
 
@@ -42,6 +42,6 @@ pub fn arguments_status(fault: ErrorKind) -> Status
 {
     match fault {
         ErrorKind::InvalidData => Status::Usage,
-        _ => Status::Halted(Halt::NoMemory),
+        _ => Status::NoMemory,
     }
 }

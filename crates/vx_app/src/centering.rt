@@ -21,7 +21,7 @@ use crate::laws::fitting_sheets_are_in_their_items;
 use std::alloc::Global;
 use std::sync::Wait;
 use std::thread::Threads;
-use vx_command::{Halt, Status, acts_in_order, asks_in_order, status_of};
+use vx_command::{Status, acts_in_order, asks_in_order, status_of};
 use vx_command_center::{
     center, center_keeps_journals, center_reports_what_is_kept, centers_may_not_begin,
 };
@@ -78,7 +78,7 @@ fn center_words<R: Threads + Wait + Sync, I: Inputs, S: Sink, K: Keeper, G: Gate
         return Status::Usage;
     }
     match parse(alloc, words) {
-        Err(UsageFault::OutOfMemory) => Status::Halted(Halt::NoMemory),
+        Err(UsageFault::OutOfMemory) => Status::NoMemory,
         Err(UsageFault::Usage) => Status::Usage,
         Ok(
             Command::Center {

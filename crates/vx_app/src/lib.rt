@@ -24,3 +24,4 @@ pub use laws::{
     runs_add_records, runs_keep_events, runs_leave_journals,
 };
 pub use top::{run, run_count};
+pub use vx_command_center::{Item, run_items};

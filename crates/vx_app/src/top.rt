@@ -23,6 +23,7 @@ ghost use Rattle.vx_app.specs.Runs.{NoRun, SpellsRun, is_run};
 use crate::centering::is_center;
 use std::alloc::Global;
 use std::thread::Threads;
+use vx_board::board;
 use vx_command::{Halt, Status, acts_in_order, asks_in_order, status_of};
 use vx_command_cards::cards;
 use vx_command_center::center_keeps_journals;
@@ -35,10 +36,11 @@ use vx_command_export::{export, exports_write_what_was_kept};
 use vx_command_print::{Ballot, print};
 use vx_command_queue::{queue, queues_write_what_waits};
 use vx_command_read::{fitting_scans_are_told, read};
+use vx_command_risk::risk;
 use vx_command_try::try_sheets;
 use vx_io::{Inputs, Keeper, Sink, Words};
 use vx_journal::{fronts_are_journals, journals_stay};
-use vx_results::{results, sample};
+use vx_results::{results, sample, summary};
 use vx_words::{Command, UsageFault, parse, words_spell_one_command};
 use vx_workers::{Gate, OpenGate};
 
@@ -173,6 +175,37 @@ fn obey<R: Threads + Sync, I: Inputs, S: Sink, K: Keeper, G: Gate>(
             out,
             keeper,
         ),
+        Command::Summary { election } => summary(alloc, election.as_str(), inputs, out, keeper),
+        Command::Board {
+            election,
+            seed,
+            size,
+        } => board(
+            alloc,
+            election.as_str(),
+            seed.as_str(),
+            *size,
+            inputs,
+            out,
+            keeper,
+        ),
+        Command::Risk {
+            election,
+            seed,
+            size,
+            hand,
+            limit,
+        } => risk(
+            alloc,
+            election.as_str(),
+            seed.as_str(),
+            *size,
+            hand.as_str(),
+            *limit,
+            inputs,
+            out,
+            keeper,
+        ),
     }
 }
 
@@ -213,7 +246,7 @@ fn run_words<R: Threads + Sync, I: Inputs, S: Sink, K: Keeper, G: Gate>(
         return Status::Usage;
     }
     match parse(alloc, words) {
-        Err(UsageFault::OutOfMemory) => Status::Halted(Halt::NoMemory),
+        Err(UsageFault::OutOfMemory) => Status::NoMemory,
         Err(UsageFault::Usage) => Status::Usage,
         Ok(command) => {
             let done = obey(rt, alloc, &command, inputs, out, keeper, gate);

@@ -1,8 +1,9 @@
 -- Which places are drawn.
 use Rattle.std.proofs.Common.{◌≡◌, ◌⊎◌, inl, inr, ◌≢◌, ℕ, zero, suc, ◌+◌, ◌%◌, ◌<◌, ◌==◌, ◌||◌, Bool, true, false, cond, List, [], ◌∷◌, ◌++◌, length, get_or, set, refl, ap, sym, ◌∙◌, arith}
-use Rattle.std.specs.Prelude.{All, filter}
+use Rattle.std.specs.Prelude.{All, filter, map}
 use Rattle.std.specs.List.{list_any, range_with_len}
 use Rattle.std.proofs.lemmas.Bool.{cases_eq}
+use Rattle.std.proofs.lemmas.Nat.{mod_below}
 use Rattle.std.proofs.lemmas.List.{get_or-set_same, get_or-set_other}
 use Rattle.std.proofs.lemmas.List.Elements.{All-nil, All-cons, All-filter}
 use Rattle.std.proofs.lemmas.List.Folds.{list_any-append}
@@ -75,3 +76,9 @@ range-below a (suc n) end is = All-cons (λ k. k < end) a (range_with_len (a + 1
 
 pub filter-below : (test : ℕ → Bool) (n : ℕ) → All (λ k. k < n) (filter test (range_with_len 0 n))
 filter-below test n = All-filter test (λ k. k < n) (range_with_len 0 n) (range-below 0 n n (omega arith))
+
+-- what is left of numbers by a number lies below it
+pub rest-below : (f : ℕ → ℕ) (count : ℕ) → 0 < count → (words : List ℕ) → All (λ k. k < count) (map (λ word. f word % count) words)
+rest-below f count some [] = All-nil (λ k. k < count)
+rest-below f count some (word ∷ words) =
+    All-cons (λ k. k < count) (f word % count) (map (λ other. f other % count) words) (mod_below (f word) count some) (rest-below f count some words)

@@ -1,5 +1,5 @@
 -- The sample: the places of records that the words of a generator draw.
-use Rattle.std.specs.Prelude.{ℕ, ◌%◌, ◌==◌, Bool, if◌then◌else◌, List, [], ◌∷◌, filter}
+use Rattle.std.specs.Prelude.{ℕ, ◌%◌, ◌==◌, Bool, if◌then◌else◌, List, [], ◌∷◌, filter, map}
 use Rattle.std.specs.List.{list_any, range_with_len}
 use Rattle.rand_chacha.specs.ChaCha.{ChaCha, word_at, key_of}
 
@@ -18,6 +18,10 @@ is_drawn seed size count place = list_any (draws seed count place) (range_with_l
 -- all that are drawn, each once and ascending
 unfoldable pub sample_of : List ℕ → ℕ → ℕ → List ℕ
 sample_of seed size count = filter (is_drawn seed size count) (range_with_len 0 count)
+
+-- what each of the first words draws, in their order, so that a record may be drawn again; nothing where there is no record
+unfoldable pub draws_of : List ℕ → ℕ → ℕ → List ℕ
+draws_of seed size count = if count == 0 then [] else map (λ word. word_of seed word % count) (range_with_len 0 size)
 
 -- a generator before its word at a place
 abbrev pub at_word : List ℕ → ℕ → ChaCha

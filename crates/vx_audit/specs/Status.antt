@@ -11,7 +11,6 @@ use Rattle.vx_audit.specs.declared.hand.HandFault.TheVariants as hand
 use Rattle.vx_command.specs.declared.halt.Halt.{Halt}
 use Rattle.vx_command.specs.declared.halt.Halt.TheVariants as halt
 use Rattle.vx_command.specs.Acts.{Answer}
-use Rattle.vx_command.specs.Halts.{halt_line, halt_number}
 use Rattle.vx_audit.specs.declared.status.AuditStatus.{AuditStatus}
 use Rattle.vx_audit.specs.declared.status.AuditStatus.TheVariants.{Ok, Usage, NoInput, TooLong, ReadFault, WriteFault, NoMemory, Report, Hand}
 
@@ -66,7 +65,7 @@ number_of ReadFault = 10
 number_of WriteFault = 11
 number_of NoMemory = 13
 number_of (Report fault) = 14
-number_of (Hand line) = halt_number (halt.Hand line)
+number_of (Hand line) = 15
 
 -- a status in words
 abbrev pub line_of : AuditStatus → List ℕ
@@ -78,7 +77,7 @@ line_of ReadFault = codes "read fault"
 line_of WriteFault = codes "write fault"
 line_of NoMemory = codes "no memory"
 line_of (Report fault) = codes "report " ++ text_of fault
-line_of (Hand line) = halt_line (halt.Hand line)
+line_of (Hand line) = codes "hand " ++ decimal line
 
 -- what the program writes to standard error: a line, but nothing where all was written
 abbrev pub message_of : AuditStatus → List ℕ

@@ -80,6 +80,13 @@ impl Hand {
         self.lines.len()
     }
 
+    /// The lines, in their order.
+    pub fn lines(&self) -> &[HandLine]
+        ensures { result.now ≡ self.now }
+    {
+        self.lines.as_slice()
+    }
+
     /// Whether there is a line of a contest of a ballot.
     pub fn has(&self, ballot: u32, contest: u32) -> bool
         ensures { result ≡ list_any (is_for ballot contest) self.now }

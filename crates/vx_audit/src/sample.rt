@@ -1,7 +1,8 @@
 //! The sample of an audit, drawn by a generator.
 
-ghost use Rattle.std.specs.Prelude.{◌≡◌, ◌<◌, ◌≤◌, ℕ, All, false, length, slice_index_or, IfOk};
-ghost use Rattle.vx_audit.specs.Sample.{is_drawn, sample_of, where_held};
+ghost use Rattle.std.specs.Prelude.{◌≡◌, ◌<◌, ◌≤◌, ◌%◌, ℕ, All, false, length, map, slice_index_or, IfOk};
+ghost use Rattle.std.specs.List.{range_with_len};
+ghost use Rattle.vx_audit.specs.Sample.{draws_of, is_drawn, sample_of, where_held, word_of};
 ghost use Rattle.vx_audit.specs.Walk.{by_place};
 
 use crate::drawing::{draw, generator};
@@ -64,5 +65,46 @@ pub fn draw_sample(
     }
     let drawn = drawn_of(alloc, seed, size, count)?;
     let places = places_of(alloc, drawn.as_slice())?;
+    Ok(places)
+}
+
+/// What each of the first `size` words draws of so many records, in their order.
+fn drawn_places(
+    alloc: Global,
+    seed: [u8; 32],
+    size: u32,
+    count: usize,
+) -> Result<Places, OutOfMemory>
+    requires some { 0 < count }
+    requires few { count ≤ 1000000 }
+    ensures { IfOk result (λ places. places ≡ map (λ word. word_of seed word % count) (range_with_len 0 size)) }
+{
+    let mut places = Places::new(alloc);
+    let mut words = generator(seed);
+    for index in 0..size {
+        let word = draw(&mut words, &seed, index);
+        places.push((word as usize % count) as u32)?;
+    }
+    Ok(places)
+}
+
+/// The places of the records, of so many, that the first `size` words draw of the generator whose key is the
+/// seed: one for each word, in their order, so that a record may be drawn more than once; none where there is
+/// no record.
+#[tactic(auto, unfolding(crate::specs::Sample::draws_of))]
+pub fn draw_places(
+    alloc: Global,
+    seed: [u8; 32],
+    size: u32,
+    count: usize,
+) -> Result<Places, OutOfMemory>
+    requires { count ≤ 1000000 }
+    ensures value { IfOk result (λ places. places ≡ draws_of seed size count) }
+    ensures within { IfOk result (λ places. All (λ place. place < count) places) }
+{
+    if count == 0 {
+        return Ok(Places::new(alloc));
+    }
+    let places = drawn_places(alloc, seed, size, count)?;
     Ok(places)
 }

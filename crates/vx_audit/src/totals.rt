@@ -13,7 +13,7 @@ use vx_json::Text;
 use vx_tally::{CvrRecord, Report, ReportContest, Tally, drop_tally};
 
 /// Records, summed.
-fn tally_of(alloc: Global, records: &[CvrRecord]) -> Result<Tally, OutOfMemory>
+pub fn tally_of(alloc: Global, records: &[CvrRecord]) -> Result<Tally, OutOfMemory>
     requires { AreCountable records.now }
     ensures { IfOk result (λ tally. tally ≡ records.now) }
 {

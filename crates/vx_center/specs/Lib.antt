@@ -1,5 +1,6 @@
 pub mod Kept
 pub mod Sheets
+pub mod Places
 pub mod Holders
 pub mod Decisions
 pub mod Finals

@@ -1,9 +1,10 @@
-ghost use Rattle.std.specs.Prelude.{◌≡◌, ◌++◌, ◌∷◌, [], ℕ, false, IfNone, IfOk, ◌≤◌, IsSome, MatchOption, OnErr, OnOk, length, slice_get};
+ghost use Rattle.std.specs.Prelude.{◌≡◌, ◌++◌, ◌∷◌, [], ℕ, false, IfNone, IfOk, ◌<◌, ◌≤◌, IsSome, MatchOption, OnErr, OnOk, length, slice_get};
 ghost use Rattle.vx_election_model.specs.Valid.{IsValid};
 ghost use Rattle.vx_events.specs.Fits.{fits as fits_of, Fits};
 ghost use Rattle.vx_rules.specs.declared.marks.SheetMarks.{SheetMarks};
 ghost use Rattle.vx_center.specs.Histories.{IsHistory};
 ghost use Rattle.vx_center.specs.Holders.{holder_of};
+ghost use Rattle.vx_center.specs.Places as places;
 ghost use Rattle.vx_center.specs.Replies.{next_of, reply_of};
 ghost use Rattle.vx_center.specs.Sheets.{place_in, sheets_in};
 ghost use Rattle.vx_center.specs.States.{HandsTo, IsAt, IsFound, IsUnknown, is_add};
@@ -282,11 +283,19 @@ impl<'e> Center<'e> {
     }
 
     /// How many sheets were added.
-    pub(crate) fn sheet_count(&self) -> usize
+    pub fn sheet_count(&self) -> usize
         ensures count { result ≡ length (sheets_in self.now.events) }
         ensures few { result ≤ 1000000 }
     {
         self.sheets.len()
+    }
+
+    /// What the sheet at a place in the order of adding was read as.
+    pub fn sheet_at(&self, place: usize) -> &SheetMarks
+        requires { place < length (sheets_in self.now.events) }
+        ensures { result.now ≡ (places.sheet_at self.now.events place).sheet }
+    {
+        self.found(place).unwrap().sheet
     }
 
     /// The election, lent.

@@ -6,6 +6,7 @@ ghost use Rattle.vx_events.specs.Fits.{is_read};
 ghost use Rattle.vx_center.specs.Decisions.{decisions_on};
 ghost use Rattle.vx_center.specs.Exports as spec;
 ghost use Rattle.vx_center.specs.Exports.{AreExportRows};
+ghost use Rattle.vx_center.specs.Places.{sheet_at};
 ghost use Rattle.vx_center.specs.Sheets.{sheets_in};
 ghost use Rattle.vx_center.specs.Finals.{is_overvoted, marked_options, names_of, selected_by};
 
@@ -181,6 +182,18 @@ fn key_order(one: &Key, other: &Key) -> Ordering
 }
 
 impl<'e> Center<'e> {
+    /// What is exported of the sheet at a place in the order of adding.
+    #[tactic(auto, using(crate::proofs::Rowed::row_found))]
+    pub fn row_at(&self, alloc: Global, place: usize) -> Result<ExportSheet, OutOfMemory>
+        requires { place < length (sheets_in self.now.events) }
+        ensures { IfOk result (λ made. made
+            ≡ spec.row_of self.now.election self.now.events (sheet_at self.now.events place)) }
+    {
+        let found = self.found(place).unwrap();
+        let decided = found.entry.decided();
+        row(alloc, self.election(), found.key, found.sheet, decided)
+    }
+
     /// Adds the row of the sheet at a place in the order of adding.
     fn add_row(
         &self,

@@ -1,7 +1,7 @@
 -- What a step of a command may answer: what its definition says, or that it broke off.
 use Rattle.std.specs.Prelude.{◌≡◌, ◌⊎◌, ℕ, Bool, true, false, [], ◌∷◌, Result, Ok, Err}
 use Rattle.vx_command.specs.declared.halt.Halt.{Halt}
-use Rattle.vx_command.specs.declared.halt.Halt.TheVariants.{NoInput, TooLong, ReadFault, NoMemory}
+use Rattle.vx_command.specs.declared.halt.Halt.TheVariants.{NoInput, TooLong, Election, Layout, ReadFault, NoMemory}
 use Rattle.vx_command.specs.Acts.{Take}
 use Rattle.vx_command.specs.Done.{BreaksAt}
 
@@ -22,3 +22,14 @@ IsTakingHalt word (TooLong other size) = other ≡ word
 IsTakingHalt word ReadFault = Unit {0}
 IsTakingHalt word NoMemory = Unit {0}
 IsTakingHalt word cause = ⊥
+
+-- a halt that the taking and reading of the election may answer
+abbrev pub IsElectionHalt : Halt → Type 0
+IsElectionHalt (Election fault) = Unit {0}
+IsElectionHalt cause = IsTakingHalt 1 cause
+
+-- a halt that the planning of cards may answer
+abbrev pub IsPlanHalt : Halt → Type 0
+IsPlanHalt (Layout card fault) = Unit {0}
+IsPlanHalt NoMemory = Unit {0}
+IsPlanHalt cause = ⊥

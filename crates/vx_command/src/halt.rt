@@ -1,18 +1,17 @@
 ghost use Rattle.std.specs.Prelude.{◌≡◌};
-ghost use Rattle.vx_command.specs.Halts.{bitmap_halt, card_halt, election_halt, halt_number, taking_halt};
+ghost use Rattle.vx_command.specs.Halts.{bitmap_halt, card_halt, election_halt, taking_halt};
 
 use crate::causes::SheetCause;
 use std::alloc::AllocError;
-use std::fmt;
 use vx_election::ElectionFault;
 use vx_io::TakeFault;
 use vx_layout::{CardFault, LayoutFault};
 use vx_pbm::PbmFault;
 use vx_refusals::{CertFault, DecisionFault, JournalStop};
 
-/// Why a command halts before its work is done. Words are counted from 0. A further cause is a variant
-/// here, with its number and its line, in `specs/Halts.antt` too.
-#[derive(Debug, Drop)]
+/// Why a command halts before its work is done. Words are counted from 0. A further cause is a variant here
+/// and of `Status`, which has its number and its line.
+#[derive(Drop)]
 pub enum Halt {
     /// The inputs hold nothing under that word.
     NoInput(u32),
@@ -45,59 +44,6 @@ pub enum Halt {
     KeeperFault,
     /// There was no memory.
     NoMemory,
-}
-
-impl Halt {
-    /// The number that the program ends with.
-    pub fn number(&self) -> u8
-        ensures { result ≡ halt_number self.now }
-    {
-        match self {
-            Halt::NoInput(_) => 2,
-            Halt::TooLong(_, _) => 3,
-            Halt::Election(_) => 4,
-            Halt::Layout(_, _) => 5,
-            Halt::Pbm(_, _) => 6,
-            Halt::NotCertified(_) => 7,
-            Halt::Decision(_, _) => 8,
-            Halt::Journal(_, _) => 9,
-            Halt::ReadFault => 10,
-            Halt::WriteFault => 11,
-            Halt::KeeperFault => 12,
-            Halt::NoMemory => 13,
-            Halt::Hand(_) => 15,
-            Halt::TooManyEvents(_, _) => 18,
-            Halt::NoSheet(_, _) => 19,
-        }
-    }
-}
-
-/// The cause in words.
-impl fmt::Display for Halt {
-    ghost use Rattle.std.specs.Prelude.{Some};
-    ghost use Rattle.vx_command.specs.Halts.{halt_line};
-
-    ghost output = { λ halt. Some (halt_line halt) };
-
-    fn fmt<W: fmt::Write>(&self, f: &mut fmt::Formatter<W>) -> fmt::Result {
-        match self {
-            Halt::NoInput(word) => write!(f, "no input {word}"),
-            Halt::TooLong(word, size) => write!(f, "too long {word} {size}"),
-            Halt::Election(fault) => write!(f, "election {fault}"),
-            Halt::Layout(card, fault) => write!(f, "layout {card} {fault}"),
-            Halt::Pbm(word, fault) => write!(f, "pbm {word} {fault}"),
-            Halt::NotCertified(fault) => write!(f, "not certified {fault}"),
-            Halt::Decision(line, fault) => write!(f, "decision line {line} {fault}"),
-            Halt::Journal(index, stop) => write!(f, "journal {index} {stop}"),
-            Halt::TooManyEvents(word, count) => write!(f, "too many events {word} {count}"),
-            Halt::NoSheet(number, cause) => write!(f, "sheet {number} {cause}"),
-            Halt::Hand(line) => write!(f, "hand {line}"),
-            Halt::ReadFault => f.write_str("read fault"),
-            Halt::WriteFault => f.write_str("write fault"),
-            Halt::KeeperFault => f.write_str("keeper fault"),
-            Halt::NoMemory => f.write_str("no memory"),
-        }
-    }
 }
 
 impl From<AllocError> for Halt {

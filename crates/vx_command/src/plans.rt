@@ -1,10 +1,10 @@
-ghost use Rattle.std.specs.Prelude.{IfOk};
+ghost use Rattle.std.specs.Prelude.{IfErr, IfOk};
 ghost use Rattle.vx_base.specs.Refusals.{Gives};
 ghost use Rattle.vx_election_model.specs.Valid.{IsValid};
 ghost use Rattle.vx_layout.specs.Plans.{ArePlansOf};
 ghost use Rattle.vx_command.specs.Devices.{TouchesNothing};
 ghost use Rattle.vx_command.specs.Elections.{plans_in};
-ghost use Rattle.vx_command.specs.Steps.{is_no_memory};
+ghost use Rattle.vx_command.specs.Steps.{is_no_memory, IsPlanHalt};
 
 use crate::halt::{Halt, halt_of_card};
 use std::alloc::Global;
@@ -16,6 +16,7 @@ pub fn plan_all(alloc: Global, election: &Election) -> Result<CardPlans, Halt>
     requires { IsValid election.now }
     ensures exact { Gives is_no_memory result (plans_in election.now) }
     ensures are_plans { IfOk result (ArePlansOf election.now) }
+    ensures halts { IfErr result IsPlanHalt }
     ensures devices { TouchesNothing result }
 {
     match plan_cards(alloc, election) {

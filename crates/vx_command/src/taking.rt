@@ -7,7 +7,7 @@ ghost use Rattle.vx_command.specs.Acts.{input_of};
 ghost use Rattle.vx_command.specs.Asking.{Asks};
 ghost use Rattle.vx_command.specs.Devices.{TouchesInputs, TouchesNothing};
 ghost use Rattle.vx_command.specs.Elections.{election_read, election_in};
-ghost use Rattle.vx_command.specs.Steps.{is_no_memory, GivesTaking, IsTakingHalt};
+ghost use Rattle.vx_command.specs.Steps.{is_no_memory, GivesTaking, IsElectionHalt, IsTakingHalt};
 
 use crate::halt::{Halt, halt_of_election, halt_of_taking};
 use crate::laws::asks_in_order;
@@ -46,6 +46,7 @@ pub fn take_input<I: Inputs>(
 fn read_bytes(alloc: Global, bytes: &[u8]) -> Result<Election, Halt>
     ensures exact { Gives is_no_memory result (election_read (election_of bytes.now)) }
     ensures valid { IfOk result IsValid }
+    ensures halts { IfErr result IsElectionHalt }
     ensures devices { TouchesNothing result }
 {
     match read_election(alloc, bytes) {
@@ -59,6 +60,7 @@ pub fn take_election<I: Inputs>(alloc: Global, inputs: &mut I, name: &str) -> Re
     ensures told { ForSome (I.held inputs.old) (λ files.
         GivesTaking 1 result (election_in (files name.now))) }
     ensures valid { IfOk result IsValid }
+    ensures halts { IfErr result IsElectionHalt }
     ensures inputs { TouchesInputs I.Inputs inputs.old inputs.new result }
     ensures asked { Asks I.Inputs (name.now ∷ []) inputs.old inputs.new (is_ok result) }
 {

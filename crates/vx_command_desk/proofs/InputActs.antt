@@ -13,22 +13,22 @@ use Rattle.vx_command_desk.specs.Setting.{waits}
 use Rattle.vx_command_desk.specs.Steps.{WalksFirst, WalksScan}
 
 -- what follows once the scan of a word is taken
-abbrev scan_rest : SheetTexts → (ℕ → List ℕ) → Files → ℕ → Walked → List (List ℕ) → List ℕ → Outcome
-scan_rest text closing files word old names bytes =
-    scan_outcome text word old.sheets (waits old.waiting) (images_of bytes) (λ now left. scans_outcome text closing files (word + 1) now left names)
+abbrev scan_rest : (List ℕ → SheetTexts) → (ℕ → List ℕ) → Files → ℕ → Walked → List ℕ → List (List ℕ) → List ℕ → Outcome
+scan_rest text closing files word old name names bytes =
+    scan_outcome (text name) word old.sheets (waits old.waiting) (images_of bytes) (λ now left. scans_outcome text closing files (word + 1) now left names)
 
-module _ (laws : StepLaws (List ℕ)) (text : SheetTexts) (closing : ℕ → List ℕ) (files : Files) (word : ℕ) (old : Walked) (name : List ℕ) (a b : Taken) where
+module _ (laws : StepLaws (List ℕ)) (text : List ℕ → SheetTexts) (closing : ℕ → List ℕ) (files : Files) (word : ℕ) (old : Walked) (name : List ℕ) (a b : Taken) where
   -- a scan that wasn't taken
   pub input-missing : (cause : Halt) → GivesTaking word (Err cause) (input_of word input_limit (files name)) → WalksFirst text closing files word old name a a (Err cause)
   input-missing cause gives = λ names.
-      laws.not_taken word (input_of word input_limit (files name)) cause (scan_rest text closing files word old names) a gives
+      laws.not_taken word (input_of word input_limit (files name)) cause (scan_rest text closing files word old name names) a gives
 
   -- one that was taken, as far as its images were gone through
   pub input-taken : (bytes : List ℕ) → input_of word input_limit (files name) ≡ Ok bytes → (result : Result Walked Halt)
-      → WalksScan text word old (images_of bytes) a b result → WalksFirst text closing files word old name a b result
+      → WalksScan (text name) word old (images_of bytes) a b result → WalksFirst text closing files word old name a b result
   input-taken bytes given (Err cause) walks = λ names held.
-      laws.taken word (input_of word input_limit (files name)) bytes (scan_rest text closing files word old names) a given held b held (Err cause)
+      laws.taken word (input_of word input_limit (files name)) bytes (scan_rest text closing files word old name names) a given held b held (Err cause)
       (walks (λ now left. scans_outcome text closing files (word + 1) now left names) held)
   input-taken bytes given (Ok new) walks = λ names held taken_then held_then answer done.
-      laws.taken word (input_of word input_limit (files name)) bytes (scan_rest text closing files word old names) a given held taken_then held_then answer
+      laws.taken word (input_of word input_limit (files name)) bytes (scan_rest text closing files word old name names) a given held taken_then held_then answer
       (walks (λ now left. scans_outcome text closing files (word + 1) now left names) held taken_then held_then answer done)

@@ -9,13 +9,13 @@ use Rattle.vx_desk.specs.Lines.{line_of, sheet_text}
 use Rattle.vx_desk.specs.Waits.{any_waits, key_of, sheet_waits}
 
 -- by whether the sheet was added
-no-line : (election : Election) (events : List Event) (batch : List ℕ) (number : ℕ) (first second : Page) (found : Option SheetMarks)
-    → any_waits election events (key_of batch number) found ≡ false → line_of election events (key_of batch number) first second found ≡ []
-no-line election events batch number first second None silent = refl
-no-line election events batch number first second (Some sheet) silent = rw silent refl
+no-line : (election : Election) (events : List Event) (batch scan : List ℕ) (number : ℕ) (first second : Page) (found : Option SheetMarks)
+    → any_waits election events (key_of batch number) found ≡ false → line_of election events (key_of batch number) scan first second found ≡ []
+no-line election events batch scan number first second None silent = refl
+no-line election events batch scan number first second (Some sheet) silent = rw silent refl
 
-pub silent : (election : Election) (events : List Event) (batch : List ℕ) (number : ℕ) (first second : Page)
-    → sheet_waits election events batch number ≡ false → sheet_text election events batch number first second ≡ []
+pub silent : (election : Election) (events : List Event) (batch scan : List ℕ) (number : ℕ) (first second : Page)
+    → sheet_waits election events batch number ≡ false → sheet_text election events batch scan number first second ≡ []
 unfolding sheet_waits sheet_text
-silent election events batch number first second nothing =
-    no-line election events batch number first second (sheet_in events (key_of batch number)) nothing
+silent election events batch scan number first second nothing =
+    no-line election events batch scan number first second (sheet_in events (key_of batch number)) nothing

@@ -2,3 +2,4 @@ pub mod First
 pub mod Outcome
 pub mod Setting
 pub mod Steps
+pub mod Laws

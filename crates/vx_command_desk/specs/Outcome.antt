@@ -31,12 +31,12 @@ abbrev pub scan_outcome : SheetTexts → ℕ → ℕ → List Page → Images �
 scan_outcome text word sheets waiting images next =
     with_images text sheets (waiting ++ images.pages) (λ now left. unless_faulty word images.fault (next now left))
 
--- the scans that the words from one on name, where an image may wait; at their end the closing text is written, of how many
--- sheets there were, and an image that is left over is passed over
-abbrev pub scans_outcome : SheetTexts → (ℕ → List ℕ) → Files → ℕ → ℕ → List Page → List (List ℕ) → Outcome
+-- the scans that the words from one on name, where an image may wait, with the texts of each scan's sheets by its name; at their
+-- end the closing text is written, of how many sheets there were, and an image that is left over is passed over
+abbrev pub scans_outcome : (List ℕ → SheetTexts) → (ℕ → List ℕ) → Files → ℕ → ℕ → List Page → List (List ℕ) → Outcome
 scans_outcome text closing files word sheets waiting [] = writing (closing sheets)
 scans_outcome text closing files word sheets waiting (name ∷ names) =
-    once_taken word input_limit (files name) (λ bytes. scan_outcome text word sheets waiting (images_of bytes)
+    once_taken word input_limit (files name) (λ bytes. scan_outcome (text name) word sheets waiting (images_of bytes)
     (λ now left. scans_outcome text closing files (word + 1) now left names))
 
 -- the page begins: its head and the first line of data

@@ -1,4 +1,4 @@
--- What stays the same over the scans of a `desk`, and how far it has come.
+-- What stays the same over the images of a `desk`, and how far it has come.
 use Rattle.std.specs.Prelude.{◌≡◌, ℕ, ◌+◌, ◌*◌, List, [], ◌∷◌, length, Option, Some, None}
 use Rattle.vx_plane.specs.Plane.{Page}
 use Rattle.vx_election_model.specs.Valid.{IsValid}
@@ -14,9 +14,12 @@ pub record IsSet (setting : Setting) : Type 0 where
   pub plans : ArePlansOf setting.election.now setting.plans.now
   pub same : setting.center.now.election ≡ setting.election.now
 
--- the text of each sheet
+-- the text of each sheet, of a scan with a name and of the scan that is gone through
+abbrev pub texts_by : Setting → List ℕ → SheetTexts
+texts_by setting = sheet_text setting.election.now setting.center.now.events setting.batch.now
+
 abbrev pub texts_of : Setting → SheetTexts
-texts_of setting = sheet_text setting.election.now setting.center.now.events setting.batch.now
+texts_of setting = texts_by setting setting.scan.now
 
 -- the closing text behind so many sheets
 abbrev pub closing_of : Setting → ℕ → List ℕ

@@ -31,7 +31,7 @@ WalksScan text word old images taken taken_now (Err cause) =
     → IsWritten (scan_outcome text word old.sheets (waits old.waiting) images next) taken taken_now (Err cause)
 
 -- the first of some scans was taken and gone through, and the others are left; or the command halts
-abbrev pub WalksFirst : SheetTexts → (ℕ → List ℕ) → Files → ℕ → Walked → List ℕ → Taken → Taken → Result Walked Halt → Type 0
+abbrev pub WalksFirst : (List ℕ → SheetTexts) → (ℕ → List ℕ) → Files → ℕ → Walked → List ℕ → Taken → Taken → Result Walked Halt → Type 0
 WalksFirst text closing files word old name taken taken_now (Ok new) =
     (names : List (List ℕ))
     → WritesTo (scans_outcome text closing files word old.sheets (waits old.waiting) (name ∷ names))

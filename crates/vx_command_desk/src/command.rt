@@ -42,6 +42,7 @@ fn set_up<'a>(
         plans,
         center,
         batch,
+        scan: "",
     }
 }
 

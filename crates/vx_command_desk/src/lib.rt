@@ -7,6 +7,7 @@
 
 mod command;
 mod images;
+mod laws;
 mod page;
 mod scans;
 mod setting;
@@ -14,3 +15,4 @@ mod sheets;
 mod walked;
 
 pub use command::desk;
+pub use laws::pages_show_their_end;

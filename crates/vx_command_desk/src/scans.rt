@@ -4,7 +4,7 @@ ghost use Rattle.vx_command.specs.Asking.{Asks};
 ghost use Rattle.vx_command.specs.Devices.{TouchesInputsAndSink, writes_nothing};
 ghost use Rattle.vx_command.specs.Done.{IsWritten};
 ghost use Rattle.vx_command_desk.specs.Outcome.{scans_outcome};
-ghost use Rattle.vx_command_desk.specs.Setting.{IsSet, closing_of, images_in, texts_of};
+ghost use Rattle.vx_command_desk.specs.Setting.{IsSet, closing_of, images_in, texts_by, texts_of};
 ghost use Rattle.vx_command_desk.specs.Steps.{WalksFirst};
 
 use crate::images::walk_scan;
@@ -17,6 +17,15 @@ use vx_base::Bytes;
 use vx_command::{Halt, INPUT_LIMIT, acts_in_order, asks_in_order, steps_in_order, take_input};
 use vx_io::{Inputs, Sink};
 use vx_json::Text;
+
+/// The setting of the scan with a name.
+fn in_scan<'a>(setting: &'a Setting<'_>, scan: &'a str) -> Setting<'a>
+    requires { IsSet setting.now }
+    ensures set { IsSet result }
+    ensures texts { texts_of result ≡ texts_by setting.now scan.now }
+{
+    Setting { scan, ..*setting }
+}
 
 /// Takes the scan of a word under its name, in the memory of the last one, and goes through its images, behind
 /// those of the scans before.
@@ -34,7 +43,7 @@ fn walk_input<'n, I: Inputs, S: Sink>(
     requires few { images_in walked < 2 ^ 61 }
     requires later_word { 1 < word }
     ensures done { ForSome (I.held inputs.old) (λ files.
-        WalksFirst (texts_of setting.now) (closing_of setting.now) files word walked.entry name.now
+        WalksFirst (texts_by setting.now) (closing_of setting.now) files word walked.entry name.now
         (S.taken out.old) (S.taken out.new) result) }
     ensures bound { IfOk result (λ now. images_in now ≤ images_in walked.entry + 67108864) }
     ensures devices { TouchesInputsAndSink I.Inputs S.Sink inputs.old inputs.new out.old out.new result }
@@ -45,7 +54,8 @@ fn walk_input<'n, I: Inputs, S: Sink>(
     steps_in_order::<Bytes>();
     let last = replace(memory, Bytes::new(alloc));
     let bytes = take_input(last, inputs, name, word, INPUT_LIMIT)?;
-    let now = walk_scan(alloc, setting, word, walked, bytes.as_slice(), out);
+    let here = in_scan(setting, name);
+    let now = walk_scan(alloc, &here, word, walked, bytes.as_slice(), out);
     *memory = bytes;
     now
 }
@@ -62,7 +72,7 @@ pub(crate) fn walk_scans<I: Inputs, S: Sink>(
     requires set { IsSet setting.now }
     requires few { length scans.now ≤ 64 }
     ensures done { ForSome (I.held inputs.old) (λ files.
-        IsWritten (scans_outcome (texts_of setting.now) (closing_of setting.now) files 3 0 [] scans.now)
+        IsWritten (scans_outcome (texts_by setting.now) (closing_of setting.now) files 3 0 [] scans.now)
         (S.taken out.old) (S.taken out.new) result) }
     ensures devices { TouchesInputsAndSink I.Inputs S.Sink inputs.old inputs.new out.old out.new result }
     ensures asked { Asks I.Inputs scans.now inputs.old inputs.new (is_ok result) }

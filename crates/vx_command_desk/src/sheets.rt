@@ -57,6 +57,7 @@ fn read_sheet(
         setting.plans,
         setting.center,
         setting.batch,
+        setting.scan,
         number,
         first,
         &first_read,

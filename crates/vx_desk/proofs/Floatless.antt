@@ -18,7 +18,7 @@ use Rattle.vx_events.specs.declared.event.Event.{Event}
 use Rattle.vx_events.specs.declared.key.Key.{Key}
 use Rattle.vx_center.specs.Holders.{holder_of}
 use Rattle.vx_desk.specs.declared.region.Region.{Region}
-use Rattle.vx_desk.specs.Json.{described, text, whole}
+use Rattle.vx_markup.specs.Json.{described, text, whole}
 use Rattle.vx_desk.specs.Shown.{Shown, bubble_at, score_at, state_at}
 use Rattle.vx_desk.specs.Regions.{region_round}
 use Rattle.vx_desk.specs.Contests as spec
@@ -87,11 +87,11 @@ holder : (held : Option ℕ) → has_float (lines.holder_data held) ≡ false
 holder None = refl
 holder (Some station) = refl
 
-pub behind : (kept : List Event) (key : Key) → has_float (described (lines.behind_contests kept key)) ≡ false
-behind kept key = both (has_float (lines.holder_data (holder_of kept key))) _ (holder (holder_of kept key)) refl
+pub behind : (kept : List Event) (key : Key) (scan : List ℕ) → has_float (described (lines.behind_contests kept key scan)) ≡ false
+behind kept key scan = both (has_float (lines.holder_data (holder_of kept key))) _ (holder (holder_of kept key)) refl
 
-pub differing : (kept : List Event) (key : Key) → has_float (lines.differing_data kept key) ≡ false
-differing kept key = behind kept key
+pub differing : (kept : List Event) (key : Key) (scan : List ℕ) → has_float (lines.differing_data kept key scan) ≡ false
+differing kept key scan = behind kept key scan
 
 -- a sum of what is left over
 pub left_data : (numbers : List ℕ) (waiting : ℕ) → has_float (lines.left_data (map whole numbers) waiting) ≡ false

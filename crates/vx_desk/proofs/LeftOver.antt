@@ -11,7 +11,7 @@ use Rattle.vx_events.specs.declared.event.Event.TheVariants.{Add, Claim, Release
 use Rattle.vx_events.specs.declared.key.Key.{Key}
 use Rattle.vx_center.specs.Sheets.{Added, added_from}
 use Rattle.vx_center.specs.States.{is_add}
-use Rattle.vx_desk.specs.Json.{whole}
+use Rattle.vx_markup.specs.Json.{whole}
 use Rattle.vx_desk.specs.Waits.{any_waits, waiting_contests, waiting_of, waits_in}
 use Rattle.vx_desk.specs.Left.{Grew, IsSoFar, missing_by, missing_from, missing_if, waiting_by, waiting_from}
 use Rattle.vx_desk.proofs.Steps.{begins}

@@ -12,3 +12,7 @@ mod LeftOver
 mod Floatless
 mod Markup
 mod Ways
+mod Once
+mod Told
+mod Numbered
+mod Held

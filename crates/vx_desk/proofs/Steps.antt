@@ -1,6 +1,6 @@
 -- Walks over lists: what an element decides, and what is left behind it.
 use Rattle.std.proofs.Common.{◌≡◌, ◌≤◌, ◌<◌, ◌+◌, ℕ, Bool, true, false, cond, List, [], ◌∷◌, ◌++◌, length, drop, map, get_or, refl, sym, ap, ◌∙◌, append_assoc, arith}
-use Rattle.std.specs.Prelude.{◌||◌, filter, find, Some, None}
+use Rattle.std.specs.Prelude.{◌||◌, filter, find, fold, Some, None}
 use Rattle.std.specs.List.{list_any, flat_map, range_with_len}
 use Rattle.std.proofs.lemmas.List.{drop_more, drop_all}
 use Rattle.vx_base.proofs.Ranges.{flat_map-range_more, map-laid}
@@ -59,3 +59,10 @@ module _ {X : Type 0} (test : X → Bool) (xs : List X) (i : ℕ) (x : X) (withi
 
 pub count_none : {X : Type 0} (test : X → Bool) (xs : List X) (i : ℕ) → length xs ≤ i → length (filter test (drop i xs)) ≡ 0
 count_none {X} test xs i past = ap (λ (some : List X). length (filter test some)) (drop_all i xs past)
+
+-- a fold over those left, with the next one
+pub fold_later : {X Y : Type 0} (f : Y → X → Y) (a : Y) (xs : List X) (i : ℕ) (x : X) → i < length xs → x ≡ get_or xs i x → fold f (f a x) (drop (i + 1) xs) ≡ fold f a (drop i xs)
+fold_later f a xs i x within is = sym (ap (fold f a) (begins xs i x within is))
+
+pub fold_none : {X Y : Type 0} (f : Y → X → Y) (a : Y) (xs : List X) (i : ℕ) → length xs ≤ i → fold f a (drop i xs) ≡ a
+fold_none f a xs i past = ap (fold f a) (drop_all i xs past)

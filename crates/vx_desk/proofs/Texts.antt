@@ -2,18 +2,16 @@
 use Rattle.std.proofs.Common.{◌≡◌, ◌≤◌, ◌<◌, ◌+◌, ℕ, Bool, true, false, cond, List, [], ◌∷◌, ◌++◌, length, drop, map, get_or, refl, sym, ap, ◌∙◌, append_assoc}
 use Rattle.std.specs.Prelude.{filter}
 use Rattle.std.proofs.lemmas.List.{drop_all}
+use Rattle.std.proofs.lemmas.List.Concat.{flat_map-append}
 use Rattle.serde_json.specs.Data.{Data}
 use Rattle.serde_json.specs.View.{items_of}
 use Rattle.serde_json.specs.Written.{comma_if, compact_text, items_text}
-use Rattle.vx_desk.specs.Escaped.{escaped, escaped_byte}
+use Rattle.vx_markup.specs.Escaped.{escaped, escaped_byte}
 use Rattle.vx_desk.proofs.Steps.{begins}
 
 -- each byte is escaped by itself
 pub escaped_joined : (xs ys : List ℕ) → escaped (xs ++ ys) ≡ escaped xs ++ escaped ys
-escaped_joined [] ys = refl
-escaped_joined (x ∷ xs) ys =
-    ap (λ (text : List ℕ). escaped_byte x ++ text) (escaped_joined xs ys)
-    ∙ sym (append_assoc (escaped_byte x) (escaped xs) (escaped ys))
+escaped_joined xs ys = flat_map-append escaped_byte xs ys
 
 -- a comma stays as it is
 item : (later : Bool) (d : Data) (others : List ℕ)

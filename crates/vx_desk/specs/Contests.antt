@@ -15,11 +15,10 @@ use Rattle.vx_election_model.specs.Reasons.{has_reason}
 use Rattle.vx_rules.specs.declared.marks.ContestMarks.{ContestMarks}
 use Rattle.vx_rules.specs.Reasons.{reason_word, reasons_of}
 use Rattle.vx_layout.specs.declared.bubbles.Bubble.{Bubble}
-use Rattle.vx_fit.specs.Fit.{place_of}
-use Rattle.vx_desk.specs.Json.{text, whole, list, described}
+use Rattle.vx_markup.specs.Json.{text, whole, list, described}
 use Rattle.vx_desk.specs.declared.region.Region.{Region}
 use Rattle.vx_desk.specs.Shown.{Shown, bubble_at, score_at, state_at}
-use Rattle.vx_desk.specs.Regions.{behind, region_round}
+use Rattle.vx_desk.specs.Regions.{behind, middle_of, region_round}
 use Rattle.vx_desk.specs.Pictures.{picture}
 
 -- no choice and no contest, which stand past the end of a list of them
@@ -61,8 +60,8 @@ option_of contest shown region bubble score state = described
     ∷ (codes "score", whole score)
     ∷ (codes "slot", boolean (is_slot contest bubble.option))
     ∷ (codes "state", text (state_word state))
-    ∷ (codes "x", whole (behind region.left (place_of shown.reading.border bubble.col bubble.row).u))
-    ∷ (codes "y", whole (behind region.top (place_of shown.reading.border bubble.col bubble.row).v)) ∷ [])
+    ∷ (codes "x", whole (behind region.left (middle_of shown bubble).u))
+    ∷ (codes "y", whole (behind region.top (middle_of shown bubble).v)) ∷ [])
 
 -- the option of the bubble with a place in the plan's order, if it is of the contest with a number
 abbrev pub option_at : Contest → ℕ → Shown → Region → ℕ → List Data

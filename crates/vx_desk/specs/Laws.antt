@@ -1,6 +1,5 @@
 -- What holds of the desk's data.
 use Rattle.std.specs.Prelude.{◌≡◌, ◌↔◌, ◌<◌, ◌+◌, ℕ, true, false, not, List, filter, pos}
-use Rattle.std.specs.List.{list_any}
 use Rattle.vx_plane.specs.Plane.{Page, dark_at}
 use Rattle.vx_bits.specs.Packed.{packed_page, raster_of}
 use Rattle.vx_election_model.specs.declared.election.Election.{Election}
@@ -10,24 +9,20 @@ use Rattle.vx_events.specs.declared.event.Event.{Event}
 use Rattle.vx_center.specs.Sheets.{Added}
 use Rattle.vx_center.specs.Waiting.{exports}
 use Rattle.vx_desk.specs.declared.region.Region.{Region}
-use Rattle.vx_desk.specs.Escaped.{is_markup}
+use Rattle.vx_markup.specs.Laws.{HasNoMarkup}
 use Rattle.vx_desk.specs.Kept.{same_sheet}
 use Rattle.vx_desk.specs.Lines.{first_text, last_text, sheet_text}
 use Rattle.vx_desk.specs.Pictures.{part_of}
 use Rattle.vx_desk.specs.Regions.{height_of, width_of}
 use Rattle.vx_desk.specs.Waits.{waiting_contests}
 
--- a text has none of the bytes that markup is made of
-abbrev pub HasNoMarkup : List ℕ → Type 0
-HasNoMarkup text = list_any is_markup text ≡ false
-
--- so it is of every line, whatever the names, the history and the images are: nothing of the data can end the page's
+-- no line has markup in it, whatever the names, the history and the images are: nothing of the data can end the page's
 -- element that holds them
 pub record DataIsNoMarkup : Type 0 where
   pub first : (election : Election) (batch : List ℕ) → HasNoMarkup (first_text election batch)
   pub sheet :
-      (election : Election) (kept : List Event) (batch : List ℕ) (number : ℕ) (first second : Page)
-      → HasNoMarkup (sheet_text election kept batch number first second)
+      (election : Election) (kept : List Event) (batch scan : List ℕ) (number : ℕ) (first second : Page)
+      → HasNoMarkup (sheet_text election kept batch scan number first second)
   pub last :
       (election : Election) (kept : List Event) (batch : List ℕ) (sheets : ℕ)
       → HasNoMarkup (last_text election kept batch sheets)

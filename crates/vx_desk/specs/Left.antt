@@ -7,7 +7,7 @@ use Rattle.vx_events.specs.declared.event.Event.{Event}
 use Rattle.vx_events.specs.declared.event.Event.TheVariants.{Add, Claim, Release, Decide}
 use Rattle.vx_events.specs.declared.key.Key.{Key}
 use Rattle.vx_center.specs.Sheets.{Added, added_from}
-use Rattle.vx_desk.specs.Json.{whole}
+use Rattle.vx_markup.specs.Json.{whole}
 use Rattle.vx_desk.specs.Waits.{any_waits, waiting_contests, waiting_of, waits_in}
 
 -- a sheet's number, if it is behind the first so many

@@ -1,6 +1,4 @@
-pub mod Json
 pub mod Page
-pub mod Escaped
 pub mod Waits
 pub mod Walk
 pub mod Kept
@@ -11,3 +9,5 @@ pub mod Contests
 pub mod Lines
 pub mod Left
 pub mod Laws
+pub mod Standing
+pub mod Told

@@ -13,9 +13,9 @@ use Rattle.vx_center.specs.Holders.{holder_of}
 use Rattle.vx_scan_model.specs.declared.fault.PageFault.{PageFault}
 use Rattle.vx_scan_model.specs.declared.reading.PageReading.{PageReading}
 use Rattle.vx_scan_model.specs.Reading.{reading_of}
-use Rattle.vx_desk.specs.Json.{text, whole, list, described}
+use Rattle.vx_markup.specs.Json.{text, whole, list, described}
 use Rattle.vx_desk.specs.Contests.{contest_data}
-use Rattle.vx_desk.specs.Escaped.{data_line}
+use Rattle.vx_markup.specs.Escaped.{data_line}
 use Rattle.vx_desk.specs.Kept.{are_kept}
 use Rattle.vx_desk.specs.Shown.{Shown, image_with, shown_by}
 use Rattle.vx_desk.specs.Waits.{any_waits, key_of, waiting_contests, waiting_in, waiting_sheets}
@@ -43,44 +43,47 @@ abbrev pub contests_of : Election → List Event → Key → SheetMarks → Show
 contests_of election kept key sheet first second =
     list (map (contest_on election (is_blank_sheet sheet) first second) (waiting_contests election kept key sheet))
 
--- what stands behind the contests of a sheet, and behind the word that its images are others
-abbrev pub behind_contests : List Event → Key → List (List ℕ × Data)
-behind_contests kept key = (codes "holder", holder_data (holder_of kept key)) ∷ (codes "number", whole key.number) ∷ []
+-- what stands behind the contests of a sheet, and behind the word that its images are others: who holds it, its number, and
+-- the name of the scan with its second image
+abbrev pub behind_contests : List Event → Key → List ℕ → List (List ℕ × Data)
+behind_contests kept key scan =
+    (codes "holder", holder_data (holder_of kept key)) ∷ (codes "number", whole key.number) ∷ (codes "scan", text scan) ∷ []
 
 -- a sheet whose images are what was kept: its contests that wait
-abbrev pub kept_data : Election → List Event → Key → SheetMarks → Shown → Shown → Data
-kept_data election kept key sheet first second =
-    described ((codes "contests", contests_of election kept key sheet first second) ∷ behind_contests kept key)
+abbrev pub kept_data : Election → List Event → Key → List ℕ → SheetMarks → Shown → Shown → Data
+kept_data election kept key scan sheet first second =
+    described ((codes "contests", contests_of election kept key sheet first second) ∷ behind_contests kept key scan)
 
 -- a sheet whose images are not what was kept
-abbrev pub differing_data : List Event → Key → Data
-differing_data kept key = described ((codes "differs", boolean true) ∷ behind_contests kept key)
+abbrev pub differing_data : List Event → Key → List ℕ → Data
+differing_data kept key scan = described ((codes "differs", boolean true) ∷ behind_contests kept key scan)
 
 -- a sheet whose two images were read so, where they are what was kept
-abbrev pub read_data : Election → List Event → Key → SheetMarks → Page → Page → Result PageReading PageFault → Result PageReading PageFault → Data
-read_data election kept key sheet first second (Ok one) (Ok other) =
-    kept_data election kept key sheet (shown_by election first one) (shown_by election second other)
-read_data election kept key sheet first second one other = differing_data kept key
+abbrev pub read_data : Election → List Event → Key → List ℕ → SheetMarks → Page → Page → Result PageReading PageFault → Result PageReading PageFault → Data
+read_data election kept key scan sheet first second (Ok one) (Ok other) =
+    kept_data election kept key scan sheet (shown_by election first one) (shown_by election second other)
+read_data election kept key scan sheet first second one other = differing_data kept key scan
 
 -- a sheet by its two images
-abbrev pub sheet_data : Election → List Event → Key → SheetMarks → Page → Page → Data
-sheet_data election kept key sheet first second =
+abbrev pub sheet_data : Election → List Event → Key → List ℕ → SheetMarks → Page → Page → Data
+sheet_data election kept key scan sheet first second =
     if are_kept election sheet key.number first second
-    then read_data election kept key sheet first second (reading_of election first) (reading_of election second)
-    else differing_data kept key
+    then read_data election kept key scan sheet first second (reading_of election first) (reading_of election second)
+    else differing_data kept key scan
 
 -- the line of a sheet that was added, if a contest of it waits
-abbrev pub line_of : Election → List Event → Key → Page → Page → Option SheetMarks → List ℕ
-line_of election kept key first second None = []
-line_of election kept key first second (Some sheet) =
+abbrev pub line_of : Election → List Event → Key → List ℕ → Page → Page → Option SheetMarks → List ℕ
+line_of election kept key scan first second None = []
+line_of election kept key scan first second (Some sheet) =
     if any_waits election kept key (Some sheet)
-    then data_line (sheet_data election kept key sheet first second)
+    then data_line (sheet_data election kept key scan sheet first second)
     else []
 
--- the line of the sheet of a batch with a number, by its two images; nothing where no contest of it waits
-unfoldable pub sheet_text : Election → List Event → List ℕ → ℕ → Page → Page → List ℕ
-sheet_text election kept batch number first second =
-    line_of election kept (key_of batch number) first second (sheet_in kept (key_of batch number))
+-- the line of the sheet of a batch with a number, by its two images, the second of which is in the scan with a name; nothing
+-- where no contest of it waits
+unfoldable pub sheet_text : Election → List Event → List ℕ → List ℕ → ℕ → Page → Page → List ℕ
+sheet_text election kept batch scan number first second =
+    line_of election kept (key_of batch number) scan first second (sheet_in kept (key_of batch number))
 
 -- the numbers of the sheets of a batch that wait and are not among the first so many, whose images are there
 abbrev pub missing_of : Election → List Event → List ℕ → ℕ → List ℕ

@@ -7,7 +7,7 @@ use Rattle.base64.specs.Engines.{standard}
 use Rattle.vx_plane.specs.Count.{one_if}
 use Rattle.vx_plane.specs.Plane.{Page, Pixels, page_of, dark_at}
 use Rattle.vx_bits.specs.Packed.{raster_of}
-use Rattle.vx_desk.specs.Json.{text, whole, described}
+use Rattle.vx_markup.specs.Json.{text, whole, described}
 use Rattle.vx_desk.specs.declared.region.Region.{Region}
 use Rattle.vx_desk.specs.Regions.{width_of, height_of}
 

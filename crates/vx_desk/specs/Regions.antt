@@ -1,8 +1,10 @@
--- The part of a page round a contest: where its block stands by the grid, in pixels of the upright page.
-use Rattle.std.specs.Prelude.{◌<◌, ◌≤◌, ℕ, ◌+◌, ◌-◌, ◌^◌, min, ℤ, pos, negsuc, ◌+ℤ◌, ◌-ℤ◌}
+-- The part of a page round a contest: where its block stands by the grid, and its bubbles were found, in pixels of the upright
+-- page.
+use Rattle.std.specs.Prelude.{◌<◌, ◌≤◌, ℕ, ◌+◌, ◌-◌, ◌^◌, ◌==◌, min, max, fold, if◌then◌else◌, ℤ, pos, negsuc, ◌+ℤ◌, ◌-ℤ◌}
 use Rattle.std.specs.Int.{int_max, int_min}
 use Rattle.vx_plane.specs.Plane.{Page}
 use Rattle.vx_grid.specs.Borders.{MarkPlaces}
+use Rattle.vx_grid.specs.declared.places.Point.{Point}
 use Rattle.vx_fit.specs.Fit.{place_of}
 use Rattle.vx_layout.specs.Blocks.{heading_rows}
 use Rattle.vx_layout.specs.declared.bubbles.Bubble.{Bubble}
@@ -35,13 +37,19 @@ abbrev pub nearest : ℕ → ℤ → ℕ
 nearest size (pos n) = min n (size - 1)
 nearest size (negsuc n) = 0
 
--- where a picture begins and ends on a frame of so many columns or rows: the margin before the lesser of two corners, and the
--- margin past the greater
+-- the margin before a column or row of a frame of so many, and the margin past it
+abbrev pub before_one : ℕ → ℤ → ℕ
+before_one size at = nearest size (at -ℤ pos margin)
+
+abbrev pub past_one : ℕ → ℤ → ℕ
+past_one size at = nearest size (at +ℤ pos margin)
+
+-- where a picture begins and ends: the margin before the lesser of two corners, and the margin past the greater
 abbrev pub before : ℕ → ℤ → ℤ → ℕ
-before size a b = nearest size (int_min a b -ℤ pos margin)
+before size a b = before_one size (int_min a b)
 
 abbrev pub past : ℕ → ℤ → ℤ → ℕ
-past size a b = nearest size (int_max a b +ℤ pos margin)
+past size a b = past_one size (int_max a b)
 
 -- the rectangle round the four corners of a block, which are grid places of a border, with the margin on each side, cut at
 -- the page's frame
@@ -53,10 +61,33 @@ region_of page border block = record {
   bottom = past page.height (place_of border block.left block.bottom).v (place_of border block.right block.bottom).v;
 }
 
--- the region of a contest with a number on the page that shows it
+-- a region that holds a place too, with the margin on each side
+abbrev pub with_place : Page → Region → Point → Region
+with_place page region place = record {
+  left = min region.left (before_one page.width place.u);
+  right = max region.right (past_one page.width place.u);
+  top = min region.top (before_one page.height place.v);
+  bottom = max region.bottom (past_one page.height place.v);
+}
+
+-- the place where the middle of a bubble was found
+abbrev pub middle_of : Shown → Bubble → Point
+middle_of shown bubble = place_of shown.reading.border bubble.col bubble.row
+
+-- a region that holds the middle of a bubble too, if it is of the contest with a number
+abbrev pub with_bubble : ℕ → Shown → Region → Bubble → Region
+with_bubble number shown region bubble =
+    if bubble.contest == number then with_place shown.page region (middle_of shown bubble) else region
+
+-- the region round the block of a contest with a number, on the page that shows it
+abbrev pub region_block : Contest → ℕ → Shown → Region
+region_block contest number shown =
+    region_of shown.page shown.reading.border (block_of contest (first_bubble number shown.bubbles))
+
+-- the contest's region: that, and each of its bubbles, wherever between bent columns of timing marks it was found
 abbrev pub region_round : Contest → ℕ → Shown → Region
 region_round contest number shown =
-    region_of shown.page shown.reading.border (block_of contest (first_bubble number shown.bubbles))
+    fold (with_bubble number shown) (region_block contest number shown) shown.bubbles
 
 -- how many columns and rows a region has, at least one of each
 abbrev pub width_of : Region → ℕ

@@ -7,11 +7,10 @@ ghost use Rattle.vx_desk.specs.Regions.{HasFewOptions};
 ghost use Rattle.vx_events.specs.Fits.{is_read, is_sheet};
 ghost use Rattle.std.specs.List.{list_all};
 ghost use Rattle.vx_desk.specs.Contests as spec;
-ghost use Rattle.vx_desk.specs.Escaped.{escaped};
+ghost use Rattle.vx_markup.specs.Escaped.{escaped};
 ghost use Rattle.vx_desk.specs.Lines as lines;
 ghost use Rattle.vx_desk.specs.Waits.{contest_waits};
 
-use crate::escape::push_item;
 use crate::image::{Image, image_with};
 use crate::options::{options_of, reasons_of};
 use crate::picture::picture;
@@ -23,6 +22,7 @@ use vx_base::{Bytes, OutOfMemory};
 use vx_center::Center;
 use vx_election_model::{Contest, Election, ReasonSet};
 use vx_events::Key;
+use vx_markup::push_item;
 use vx_rules::{ContestMarks, SheetMarks, is_blank, reasons};
 
 /// A contest by its parts.

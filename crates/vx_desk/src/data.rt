@@ -11,13 +11,12 @@ ghost use Rattle.vx_events.specs.Fits.{is_sheet};
 ghost use Rattle.vx_sheet.specs.Came.{sheet_read};
 ghost use Rattle.vx_sheet.specs.Reads.{IsReadOf};
 ghost use Rattle.vx_sheet.specs.Shows.{IsOfPage};
-ghost use Rattle.vx_desk.specs.Escaped.{data_line, escaped};
-ghost use Rattle.vx_desk.specs.Json.{described, members};
+ghost use Rattle.vx_markup.specs.Escaped.{data_line, escaped};
+ghost use Rattle.vx_markup.specs.Json.{described, members};
 ghost use Rattle.vx_desk.specs.Kept as kept;
 ghost use Rattle.vx_desk.specs.Lines as lines;
 
 use crate::contests::push_contests;
-use crate::escape::{push_line, push_members};
 use crate::find::find_sheet;
 use crate::image::Image;
 use crate::kept::is_that;
@@ -31,6 +30,7 @@ use vx_center::Center;
 use vx_election_model::Election;
 use vx_events::Key;
 use vx_layout::{CardPlans, plans_show_each_option};
+use vx_markup::{push_line, push_members};
 use vx_rules::SheetMarks;
 use vx_sheet::{PageRead, read_sheet};
 
@@ -67,12 +67,17 @@ fn holder(alloc: Global, center: &Center<'_>, key: &Key) -> Result<Value, OutOfM
 }
 
 /// What stands behind the contests of a sheet.
-fn behind_contests(alloc: Global, center: &Center<'_>, key: &Key) -> Result<Value, OutOfMemory>
+fn behind_contests(
+    alloc: Global,
+    center: &Center<'_>,
+    key: &Key,
+    scan: &str,
+) -> Result<Value, OutOfMemory>
     ensures { IfOk result (λ value.
-        view value ≡ described (lines.behind_contests center.now.events key.now)) }
+        view value ≡ described (lines.behind_contests center.now.events key.now scan.now)) }
 {
     let holder = holder(alloc, center, key)?;
-    json!(in alloc; {"holder": holder, "number": key.number})
+    json!(in alloc; {"holder": holder, "number": key.number, "scan": scan})
 }
 
 /// Adds what stands behind the contests of a sheet, and ends its line.
@@ -81,11 +86,12 @@ fn push_behind(
     text: &mut Bytes,
     center: &Center<'_>,
     key: &Key,
+    scan: &str,
 ) -> Result<(), OutOfMemory>
     ensures { OnOk result (text.new ≡ text.old ++ (escaped (members_text true
-        (members (lines.behind_contests center.now.events key.now))) ++ 10 ∷ [])) }
+        (members (lines.behind_contests center.now.events key.now scan.now))) ++ 10 ∷ [])) }
 {
-    let behind = behind_contests(alloc, center, key)?;
+    let behind = behind_contests(alloc, center, key, scan)?;
     push_members(alloc, text, &behind)?;
     text.push(b'\n')
 }
@@ -98,6 +104,7 @@ fn push_kept(
     election: &Election,
     center: &Center<'_>,
     key: &Key,
+    scan: &str,
     sheet: &SheetMarks,
     first: &Image<'_>,
     second: &Image<'_>,
@@ -105,19 +112,25 @@ fn push_kept(
     requires options { All HasFewOptions election.now.contests }
     requires fits { is_sheet election.now sheet.now ≡ true }
     ensures { OnOk result (text.new ≡ text.old ++ data_line (lines.kept_data election.now
-        center.now.events key.now sheet.now first.now second.now)) }
+        center.now.events key.now scan.now sheet.now first.now second.now)) }
 {
     text.extend_from_slice(b"{\"contests\":")?;
     push_contests(alloc, text, election, center, key, sheet, first, second)?;
-    push_behind(alloc, text, center, key)
+    push_behind(alloc, text, center, key, scan)
 }
 
 /// A sheet whose images are not what was kept.
-fn differing_value(alloc: Global, center: &Center<'_>, key: &Key) -> Result<Value, OutOfMemory>
-    ensures { IfOk result (λ value. view value ≡ lines.differing_data center.now.events key.now) }
+fn differing_value(
+    alloc: Global,
+    center: &Center<'_>,
+    key: &Key,
+    scan: &str,
+) -> Result<Value, OutOfMemory>
+    ensures { IfOk result (λ value.
+        view value ≡ lines.differing_data center.now.events key.now scan.now) }
 {
     let holder = holder(alloc, center, key)?;
-    json!(in alloc; {"differs": true, "holder": holder, "number": key.number})
+    json!(in alloc; {"differs": true, "holder": holder, "number": key.number, "scan": scan})
 }
 
 /// Adds its line.
@@ -126,17 +139,19 @@ fn push_differing(
     text: &mut Bytes,
     center: &Center<'_>,
     key: &Key,
+    scan: &str,
 ) -> Result<(), OutOfMemory>
     ensures { OnOk result (text.new
-        ≡ text.old ++ data_line (lines.differing_data center.now.events key.now)) }
+        ≡ text.old ++ data_line (lines.differing_data center.now.events key.now scan.now)) }
 {
-    let value = differing_value(alloc, center, key)?;
+    let value = differing_value(alloc, center, key, scan)?;
     push_line(alloc, text, &value)
 }
 
-/// The two images of a sheet, and what they were read as.
+/// The two images of a sheet, what they were read as, and the name of the scan with the second.
 #[derive(Clone, Copy)]
 struct Images<'i> {
+    scan: &'i str,
     first: &'i BitView<'i>,
     first_read: &'i PageRead,
     second: &'i BitView<'i>,
@@ -160,16 +175,19 @@ fn push_read(
     requires first { IsReadOf election.now images.first.now images.first_read.now }
     requires second { IsReadOf election.now images.second.now images.second_read.now }
     ensures { OnOk result (text.new ≡ text.old ++ data_line (lines.read_data election.now
-        center.now.events key.now sheet.now images.entry.first.now images.entry.second.now
-        images.entry.first_read.now images.entry.second_read.now)) }
+        center.now.events key.now images.entry.scan.now sheet.now images.entry.first.now
+        images.entry.second.now images.entry.first_read.now images.entry.second_read.now)) }
 {
     match (images.first_read, images.second_read) {
         (Ok(one), Ok(other)) => {
             let first = Image::new(election, plans, images.first, one);
             let second = Image::new(election, plans, images.second, other);
-            push_kept(alloc, text, election, center, key, sheet, &first, &second)
+            let scan = images.scan;
+            push_kept(
+                alloc, text, election, center, key, scan, sheet, &first, &second,
+            )
         }
-        _ => push_differing(alloc, text, center, key),
+        _ => push_differing(alloc, text, center, key, images.scan),
     }
 }
 
@@ -213,13 +231,14 @@ fn push_images(
     requires first { IsReadOf election.now images.first.now images.first_read.now }
     requires second { IsReadOf election.now images.second.now images.second_read.now }
     ensures { OnOk result (text.new ≡ text.old ++ data_line (lines.sheet_data election.now
-        center.now.events key.now sheet.now images.entry.first.now images.entry.second.now)) }
+        center.now.events key.now images.entry.scan.now sheet.now images.entry.first.now
+        images.entry.second.now)) }
 {
     let (first, second) = (images.first_read, images.second_read);
     if are_kept(alloc, election, plans, key, sheet, first, second)? {
         push_read(alloc, text, election, plans, center, key, sheet, images)
     } else {
-        push_differing(alloc, text, center, key)
+        push_differing(alloc, text, center, key, images.scan)
     }
 }
 
@@ -241,7 +260,7 @@ fn push_found(
     requires first { IsReadOf election.now images.first.now images.first_read.now }
     requires second { IsReadOf election.now images.second.now images.second_read.now }
     ensures { OnOk result (text.new ≡ text.old ++ lines.line_of election.now center.now.events key.now
-        images.entry.first.now images.entry.second.now (Some sheet.now)) }
+        images.entry.scan.now images.entry.first.now images.entry.second.now (Some sheet.now)) }
 {
     if any_waits(election, center, key, sheet) {
         push_images(alloc, text, election, plans, center, key, sheet, images)
@@ -251,7 +270,7 @@ fn push_found(
 }
 
 /// Adds the line of the sheet of a batch with a number, of its first and second image and what they
-/// were read as; nothing where no contest of it waits.
+/// were read as, the second of which is in the scan with this name; nothing where no contest of it waits.
 #[tactic(auto, unfolding(crate::specs::Lines::sheet_text))]
 pub fn push_sheet(
     alloc: Global,
@@ -260,6 +279,7 @@ pub fn push_sheet(
     plans: &CardPlans,
     center: &Center<'_>,
     batch: &str,
+    scan: &str,
     number: u64,
     first: &BitView<'_>,
     first_read: &PageRead,
@@ -271,10 +291,11 @@ pub fn push_sheet(
     requires same { center.now.election ≡ election.now }
     requires first { IsReadOf election.now first.now first_read.now }
     requires second { IsReadOf election.now second.now second_read.now }
-    ensures { OnOk result (text.new ≡ text.old
-        ++ lines.sheet_text election.now center.now.events batch.now number first.now second.now) }
+    ensures { OnOk result (text.new ≡ text.old ++ lines.sheet_text election.now center.now.events
+        batch.now scan.now number first.now second.now) }
 {
     let images = Images {
+        scan,
         first,
         first_read,
         second,

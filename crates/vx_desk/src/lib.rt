@@ -6,12 +6,11 @@
 //! there: its contests, each with its options as they were read and its picture (`specs/Contests.antt`),
 //! where the images are what was kept (`specs/Kept.antt`). A picture is the part of the upright page
 //! round a contest's block (`specs/Shown.antt`, `specs/Regions.antt`, `specs/Pictures.antt`). No line has
-//! markup in it (`specs/Escaped.antt`).
+//! markup in it, as `vx_markup` writes them.
 #![tactic(auto)]
 
 mod contests;
 mod data;
-mod escape;
 mod find;
 mod image;
 mod kept;
@@ -26,7 +25,8 @@ mod waiting;
 
 pub use data::{push_first, push_last, push_sheet};
 pub use laws::{
-    data_is_no_markup, desk_tells_what_waits, pictures_show_the_scan, same_sheets_are_equal,
+    data_is_no_markup, desk_tells_what_waits, options_stand_by_number, pictures_hold_their_bubbles,
+    pictures_show_the_scan, same_sheets_are_equal, waiting_is_told_once,
 };
 pub use page::{push_head, push_tail};
 pub use waiting::waits;

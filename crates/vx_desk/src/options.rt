@@ -2,7 +2,7 @@
 
 ghost use Rattle.std.specs.Prelude.{◌≡◌, ◌<◌, ◌≤◌, ◌++◌, IfOk, OnOk, length, map};
 ghost use Rattle.serde_json.specs.View.{view};
-ghost use Rattle.vx_desk.specs.Json.{list};
+ghost use Rattle.vx_markup.specs.Json.{list};
 ghost use Rattle.vx_desk.specs.Contests.{choice_at};
 ghost use Rattle.vx_desk.specs.Contests as spec;
 ghost use Rattle.vx_desk.specs.Regions.{IsInside};

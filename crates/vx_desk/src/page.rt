@@ -1,17 +1,17 @@
 //! The page's fixed parts: what stands before the data, and what behind them, each in pieces.
 
 ghost use Rattle.std.specs.Prelude.{◌≡◌, ◌++◌, OnOk};
-ghost use Rattle.std.specs.List.{flat_map};
 ghost use Rattle.vx_desk.specs.Page.{head, tail};
 
 use vx_base::{Bytes, OutOfMemory};
+use vx_markup::push_pieces;
 
 const HEAD: [&str; 2] = [
     "<!DOCTYPE html>
 <html lang=\"en\">
 <head>
 <meta charset=\"utf-8\">
-<meta http-equiv=\"Content-Security-Policy\" content=\"default-src 'none'; script-src 'sha256-MnRakQ6BrpUTIDut01rGqyzv1liOA3F8hNVXJB0kWKo='; style-src 'sha256-IlPBEg41Y9r3iHmAdUa+O/30crfYd+VL3Tl5twxIMOk='; base-uri 'none'; form-action 'none'; require-trusted-types-for 'script'; trusted-types 'none'\">
+<meta http-equiv=\"Content-Security-Policy\" content=\"default-src 'none'; script-src 'sha256-3XS49Y/9BJQ+PnJkezdCshCG4/jWR1/2hBFy0zI0JgE='; style-src 'sha256-IlPBEg41Y9r3iHmAdUa+O/30crfYd+VL3Tl5twxIMOk='; base-uri 'none'; form-action 'none'; require-trusted-types-for 'script'; trusted-types 'none'\">
 <meta name=\"viewport\" content=\"width=device-width, initial-scale=1\">
 <meta name=\"referrer\" content=\"no-referrer\">
 <title>Adjudication desk</title>
@@ -120,14 +120,15 @@ textarea { width: 100%; font: .9rem/1.4 ui-monospace, \"DejaVu Sans Mono\", mono
 .keys { display: flex; flex-wrap: wrap; gap: .3rem 1.1rem; font-size: .9rem; color: var(--quiet); list-style: none; }
 .keys li { white-space: nowrap; }
 </style>
+</head>
+<body>
+<p id=\"unwhole\" class=\"alert\">Where this line stays, this page is not whole, or its script does not run. Decide nothing on it: make it anew, and read what the command says.</p>
 <script type=\"text/plain\" id=\"data\">
 ",
 ];
 
-const TAIL: [&str; 10] = [
+const TAIL: [&str; 11] = [
     "</script>
-</head>
-<body>
 <noscript><p class=\"alert\">This page does its work with JavaScript, which is turned off. Nothing can be decided here.</p></noscript>
 <header>
   <div class=\"of\">
@@ -284,6 +285,7 @@ function checkSheet(sheet) {
 ",
     "  demand(isCount(sheet.number) && sheet.number >= 1 && sheet.number <= 999999, 'a sheet without a number');
   demand(sheet.holder === null || isCount(sheet.holder), 'a sheet with a holder that is no station');
+  demand(isText(sheet.scan), 'a sheet of no scan');
   if (sheet.differs === true) return;
   demand(Array.isArray(sheet.contests), 'a sheet without contests');
   sheet.contests.forEach(checkContest);
@@ -372,9 +374,9 @@ function slotsWithVotes(contest, choices) {
   return slotsOf(contest).map((option, slot) => slot).filter((slot) => choices[contest.options.indexOf(slotsOf(contest)[slot])]);
 }
 
-/** Why a contest can't be ruled so yet, and the slot that is meant if one is; null where it can. */
 ",
-    "function complaintOf(contest, entry, ruling) {
+    "/** Why a contest can't be ruled so yet, and the slot that is meant if one is; null where it can. */
+function complaintOf(contest, entry, ruling) {
   if (ruling === 'overvote') return null;
   const choices = ruling === 'accept' ? contest.options.map(asRead) : entry.choices;
   const open = choices.indexOf(null);
@@ -459,14 +461,14 @@ function makeBdi(content, className) {
 
 function say(message, isWrong) {
   find('live').textContent = message;
-  find('live').classList.toggle('wrong', Boolean(isWrong));
+",
+    "  find('live').classList.toggle('wrong', Boolean(isWrong));
 }
 
 const current = () => items[shown];
 const isDone = (item) => item.entry.ruling !== null;
 
-",
-    "// ---- What is kept when the page is reloaded ----
+// ---- What is kept when the page is reloaded ----
 
 function keep() {
   const entries = {};
@@ -576,10 +578,10 @@ function draw() {
   find('scale').textContent = `${Math.round(100 * view.scale / ratio())} %`;
 }
 
-/** A ring about a bubble, which has 40 by 26 pixels; its form says what was read, as its colour does. */
-function drawRing(pen, option, number) {
 ",
-    "  const forms = { marked: ['#0b4f9e', 3, []], marginal: ['#a8321a', 3, [8, 5]], clear: ['#4d5761', 2, [2, 4]] };
+    "/** A ring about a bubble, which has 40 by 26 pixels; its form says what was read, as its colour does. */
+function drawRing(pen, option, number) {
+  const forms = { marked: ['#0b4f9e', 3, []], marginal: ['#a8321a', 3, [8, 5]], clear: ['#4d5761', 2, [2, 4]] };
   const [colour, width, dashes] = forms[option.state];
   pen.strokeStyle = colour;
   pen.lineWidth = width;
@@ -633,10 +635,13 @@ function fitCanvas() {
 
 // ---- The contest that is shown ----
 
+/** Which images of the batch a sheet's are, and in which file; it may have begun at the end of the one before. */
+const imagesOf = (sheet) => `images ${2 * sheet.number - 1} and ${2 * sheet.number} of the batch, the second in ${isolated(sheet.scan)}`;
+
 function show() {
   const { contest, sheet } = current();
   find('title').replaceChildren(makeBdi(contest.title));
-  find('where').textContent = `Sheet ${sheet.number}, page ${contest.page}. Votes for at most ${contest.seats}. Contest ${shown + 1} of ${items.length} here.`;
+  find('where').textContent = `Sheet ${sheet.number}, page ${contest.page}; ${imagesOf(sheet)}. Votes for at most ${contest.seats}. Contest ${shown + 1} of ${items.length} here.`;
   find('reasons').replaceChildren(...contest.reasons.map((reason) => make('li', '', REASONS[reason] || reason)));
   find('options').replaceChildren(...contest.options.map(makeOption));
   find('place').value = String(shown);
@@ -672,7 +677,8 @@ function makeOption(option, number) {
   const row = make('li');
   const name = option.slot ? make('span', 'name', nameOf(contest, number)) : makeBdi(option.name, 'name');
   name.id = `option-${number}`;
-  const read = make('span', `read ${option.state}`, `read as ${READ[option.state]}, ${(100 * option.score / BUBBLE_PIXELS).toFixed(1)} % ink`);
+",
+    "  const read = make('span', `read ${option.state}`, `read as ${READ[option.state]}, ${(100 * option.score / BUBBLE_PIXELS).toFixed(1)} % ink`);
   read.id = `read-${number}`;
   const words = make('div');
   words.append(name, make('br'), read);
@@ -682,8 +688,7 @@ function makeOption(option, number) {
   for (const vote of [true, false]) {
     const button = make('button', '', vote ? 'Vote' : 'No vote');
     button.type = 'button';
-",
-    "    button.addEventListener('click', () => choose(number, vote));
+    button.addEventListener('click', () => choose(number, vote));
     pair.append(button);
   }
   row.append(make('span', 'number', String(number + 1)), words, pair);
@@ -758,7 +763,8 @@ function showHolder() {
   find('holder').textContent = `Station ${sheet.holder} held this sheet when the page was made. What is decided of it here stays out of the script of another station: let station ${sheet.holder} give it back, and make the page anew.`;
 }
 
-/** Changes the entry that is shown, which is undecided then. */
+",
+    "/** Changes the entry that is shown, which is undecided then. */
 function change(how) {
   const item = current();
   const wasDone = isDone(item);
@@ -781,8 +787,7 @@ function choose(number, vote) {
   say(`${nameOf(current().contest, number)}: ${vote ? 'vote' : 'no vote'}.`);
 }
 
-",
-    "function toggle(number) {
+function toggle(number) {
   const { contest, entry } = current();
   if (number < contest.options.length) choose(number, entry.ruling === 'overvote' || entry.choices[number] !== true);
 }
@@ -878,7 +883,8 @@ function scriptsOf(blocks) {
       scripts.push('');
       length = bytesOf(block);
     }
-    scripts[scripts.length - 1] += block;
+",
+    "    scripts[scripts.length - 1] += block;
   }
   return scripts;
 }
@@ -892,8 +898,7 @@ function showResult() {
   find('station').setAttribute('aria-invalid', String(station === null));
   const sheets = station === null ? [] : doneSheets();
   const isElsewhere = (sheet) => sheet.holder !== null && sheet.holder !== station;
-",
-    "  const scripts = scriptsOf(sheets.filter(([sheet]) => !isElsewhere(sheet)).map(([sheet, group]) => blockOf(sheet, group, station)));
+  const scripts = scriptsOf(sheets.filter(([sheet]) => !isElsewhere(sheet)).map(([sheet, group]) => blockOf(sheet, group, station)));
   find('script').value = scripts.join('');
   listSheets('left-out', sheets.filter(([sheet]) => isElsewhere(sheet)).map(([sheet]) =>
     `Sheet ${sheet.number} is left out: station ${sheet.holder} holds it.`));
@@ -983,7 +988,8 @@ function watchPointer() {
   });
   canvas.addEventListener('pointermove', (event) => {
     if (from === null) return;
-    move((from.clientX - event.clientX) * ratio(), (from.clientY - event.clientY) * ratio());
+",
+    "    move((from.clientX - event.clientX) * ratio(), (from.clientY - event.clientY) * ratio());
     from = event;
   });
   for (const end of ['pointerup', 'pointercancel']) canvas.addEventListener(end, () => { from = null; });
@@ -995,8 +1001,7 @@ function watchPointer() {
 
 function watch() {
   const on = (id, what, does) => find(id).addEventListener(what, does);
-",
-    "  on('previous', 'click', () => goTo(shown - 1));
+  on('previous', 'click', () => goTo(shown - 1));
   on('next', 'click', () => goTo(shown + 1));
   on('undone', 'click', () => goToUndone(-1));
   on('place', 'change', () => goTo(Number(find('place').value)));
@@ -1049,7 +1054,7 @@ function begin() {
   find('missing').open = find('differing').open = items.length === 0;
   listSheets('missing', data.missing.map((number) => `Sheet ${number}: its images are ${2 * number - 1} and ${2 * number} of the batch.`));
   listSheets('differing', differing.map((sheet) =>
-    `Sheet ${sheet.number}: images ${2 * sheet.number - 1} and ${2 * sheet.number}${sheet.holder === null ? '' : `; station ${sheet.holder} holds it`}.`));
+    `Sheet ${sheet.number}: ${imagesOf(sheet)}${sheet.holder === null ? '' : `; station ${sheet.holder} holds it`}.`));
   const others = data.waiting - items.length;
   find('empty').hidden = items.length > 0 && others === 0;
   if (data.waiting === 0) find('empty').textContent = 'No contest on the sheets of this batch waits. There is nothing to decide.';
@@ -1070,11 +1075,13 @@ function begin() {
   showResult();
 }
 
+find('unwhole').hidden = true;
 try {
   begin();
 } catch (fault) {
   find('damaged').hidden = false;
-  find('damaged').textContent = `This page is damaged and nothing can be decided on it: make it anew. (${fault.message})`;
+",
+    "  find('damaged').textContent = `This page is damaged and nothing can be decided on it: make it anew. (${fault.message})`;
   find('desk').hidden = find('result').hidden = true;
 }
 </script>
@@ -1082,16 +1089,6 @@ try {
 </html>
 ",
 ];
-
-/// Adds pieces, one after the other.
-fn push_pieces(text: &mut Bytes, pieces: &[&str]) -> Result<(), OutOfMemory>
-    ensures { OnOk result (text.new ≡ text.old ++ flat_map (λ piece. piece.now) pieces.now) }
-{
-    for piece in pieces {
-        text.extend_from_slice(piece.as_bytes())?;
-    }
-    Ok(())
-}
 
 /// Adds what stands before the data.
 pub fn push_head(text: &mut Bytes) -> Result<(), OutOfMemory>

@@ -1,11 +1,11 @@
 //! The part of a page round a contest's block.
 
-ghost use Rattle.std.specs.Prelude.{◌≡◌, ◌<◌, ◌≤◌, ◌^◌};
+ghost use Rattle.std.specs.Prelude.{◌≡◌, ◌<◌, ◌≤◌, ◌^◌, fold};
 ghost use Rattle.vx_election_model.specs.Options.{options_of};
 ghost use Rattle.vx_layout.specs.Blocks as blocks;
 ghost use Rattle.vx_layout.specs.Lines as text_lines;
 ghost use Rattle.vx_fit.specs.Fit.{place_of};
-ghost use Rattle.vx_grid.specs.Places.{IsWithin};
+ghost use Rattle.vx_grid.specs.Places.{IsWithin, point_of};
 ghost use Rattle.vx_desk.specs.Regions as spec;
 ghost use Rattle.vx_desk.specs.Shown.{HasItsPlace};
 
@@ -117,6 +117,26 @@ fn nearest(size: u32, at: i64) -> u32
     (at as u64).min(u64::from(size) - 1) as u32
 }
 
+/// The margin before a column or row of a frame.
+fn before_one(size: u32, at: i64) -> u32
+    requires size { 0 < size }
+    requires at { IsWithin 2147483648 at }
+    ensures value { result ≡ spec.before_one size at }
+    ensures bound { result < size }
+{
+    nearest(size, at - MARGIN)
+}
+
+/// The margin past it.
+fn past_one(size: u32, at: i64) -> u32
+    requires size { 0 < size }
+    requires at { IsWithin 2147483648 at }
+    ensures value { result ≡ spec.past_one size at }
+    ensures bound { result < size }
+{
+    nearest(size, at + MARGIN)
+}
+
 /// Where a picture begins on a frame: the margin before the lesser of two corners.
 fn first_of(size: u32, a: i64, b: i64) -> u32
     requires size { 0 < size }
@@ -214,13 +234,81 @@ fn region_of(image: &Image<'_>, block: Block) -> Region
     }
 }
 
-/// The region of a contest on the page that shows it.
+/// The region round the block of a contest, on the page that shows it.
+fn region_block(image: &Image<'_>, contest: &Contest, number: u32) -> Region
+    requires { options_of contest.now < 2 ^ 32 }
+    ensures value { result ≡ spec.region_block contest.now number image.now }
+    ensures inside { spec.IsInside image.now.page result }
+{
+    region_of(image, block_of(contest, image.first_bubble(number)))
+}
+
+/// A region that holds a place too, with the margin on each side.
+fn with_place(image: &Image<'_>, region: Region, u: i64, v: i64) -> Region
+    requires u { IsWithin 2147483648 u }
+    requires v { IsWithin 2147483648 v }
+    requires inside { spec.IsInside image.now.page region }
+    ensures value { result ≡ spec.with_place image.now.page region (point_of u v) }
+    ensures inside { spec.IsInside image.now.page result }
+{
+    let (width, height) = (image.width(), image.height());
+    Region {
+        left: region.left.min(before_one(width, u)),
+        right: region.right.max(past_one(width, u)),
+        top: region.top.min(before_one(height, v)),
+        bottom: region.bottom.max(past_one(height, v)),
+    }
+}
+
+/// A region that holds the middle of a bubble too.
+fn with_middle(image: &Image<'_>, region: Region, bubble: Bubble) -> Region
+    requires place { HasItsPlace bubble }
+    requires inside { spec.IsInside image.now.page region }
+    ensures value { result ≡ spec.with_place image.now.page region (spec.middle_of image.now bubble) }
+    ensures inside { spec.IsInside image.now.page result }
+{
+    let row = u64::from(bubble.row);
+    let u = place_u(image.border(), bubble.col, row);
+    let v = place_v(image.border(), bubble.col, row);
+    with_place(image, region, u, v)
+}
+
+/// The same, if the bubble is of the contest with a number.
+fn with_bubble(image: &Image<'_>, number: u32, region: Region, bubble: Bubble) -> Region
+    requires place { HasItsPlace bubble }
+    requires inside { spec.IsInside image.now.page region }
+    ensures value { result ≡ spec.with_bubble number image.now region bubble }
+    ensures inside { spec.IsInside image.now.page result }
+{
+    if bubble.contest == number {
+        with_middle(image, region, bubble)
+    } else {
+        region
+    }
+}
+
+/// A region that holds the middle of each bubble of a contest too.
+#[tactic(auto, using(crate::proofs::Steps::fold_later, crate::proofs::Steps::fold_none))]
+fn with_bubbles(image: &Image<'_>, number: u32, block: Region) -> Region
+    requires { spec.IsInside image.now.page block }
+    ensures value { result ≡ fold (spec.with_bubble number image.now) block image.now.bubbles }
+    ensures inside { spec.IsInside image.now.page result }
+{
+    let mut region = block;
+    for bubble in image.bubbles() {
+        region = with_bubble(image, number, region, *bubble);
+    }
+    region
+}
+
+/// The region of a contest on the page that shows it: round its block, and so large that it holds each of
+/// its bubbles.
 pub(crate) fn region_round(image: &Image<'_>, contest: &Contest, number: u32) -> Region
     requires { options_of contest.now < 2 ^ 32 }
     ensures value { result ≡ spec.region_round contest.now number image.now }
     ensures inside { spec.IsInside image.now.page result }
 {
-    region_of(image, block_of(contest, image.first_bubble(number)))
+    with_bubbles(image, number, region_block(image, contest, number))
 }
 
 /// How far a whole number is behind a column or row, and nothing where it lies before it.

@@ -1,47 +1,30 @@
 -- A sheet that a `count` may have lost when it broke off, and that was counted again.
-use Rattle.std.proofs.Common.{◌≡◌, ℕ, ◌+◌, ◌⊎◌, inl, inr, Bool, true, false, cond, List, [], ◌∷◌, ◌++◌, length, refl, sym, ap, subst, ◌∙◌, append_assoc, append-nil}
-use Rattle.std.specs.Prelude.{Option, Some, None, Result, Ok, Err, filter, find}
+use Rattle.std.proofs.Common.{◌≡◌, ℕ, ◌+◌, inl, inr, Bool, true, false, cond, List, [], ◌∷◌, ◌++◌, ◌<◌, length, refl, sym, ap, subst, ◌∙◌, length-append, arith}
+use Rattle.std.specs.Prelude.{IsOk, Option, Some, None, Result, Ok, filter, find}
 use Rattle.std.specs.List.{flat_map, position_from}
-use Rattle.std.proofs.lemmas.Grind.{flat_map-append}
 use Rattle.std.proofs.lemmas.Bool.{true≢false}
 use Rattle.std.proofs.lemmas.Option.{same_Some}
 use Rattle.vx_base.proofs.Results.{is-ok_from, ok-is}
-use Rattle.vx_plane.specs.Plane.{Page}
-use Rattle.vx_io.specs.Outside.{Files}
 use Rattle.vx_election_model.specs.declared.election.Election.{Election}
 use Rattle.vx_layout.specs.declared.plan.CardPlan.{CardPlan}
-use Rattle.vx_pbm.specs.declared.fault.PbmFault.{PbmFault}
-use Rattle.vx_pbm.specs.Images.{images_of}
 use Rattle.vx_events.specs.declared.event.Event.{Event}
 use Rattle.vx_events.specs.declared.event.Event.TheVariants.{Add, Claim, Release, Decide}
 use Rattle.vx_events.specs.declared.key.Key.{Key}
 use Rattle.vx_sheet.specs.Margin.{MarkedSheet, sheet_marked}
-use Rattle.vx_center.specs.Histories.{IsHistory}
+use Rattle.vx_center.specs.Replies.{event_limit}
 use Rattle.vx_center.specs.Sheets.{Added, added_from, has_key, same_key, sheet_in, sheet_of, sheets_in}
-use Rattle.vx_command.specs.declared.halt.Halt.{Halt}
-use Rattle.vx_command.specs.declared.halt.Halt.TheVariants.{ReadFault, WriteFault, KeeperFault, NoMemory, TooLong}
-use Rattle.vx_command.specs.Acts.{Act, Answer, Take, ReadJournal, Write, Append, Outcome, goes_on, input_limit, once_taken, records_of, writing}
-use Rattle.vx_command.specs.Done.{BreaksAt, BreaksOff, IsDone, IsWhole, Taken}
-use Rattle.vx_command.specs.Elections.{election_in, once_planned, plans_in}
-use Rattle.vx_command.specs.Images.{unless_faulty}
-use Rattle.vx_command.specs.Texts.{broke_off}
-use Rattle.vx_cvr.specs.Report.{report_of}
-use Rattle.vx_journal.specs.declared.journal.Journal.{Journal}
-use Rattle.vx_journal.specs.Keeping.{has_none, journal_in, journal_read}
+use Rattle.vx_command.specs.Acts.{Outcome, records_of}
+use Rattle.vx_command.specs.Elections.{election_in, plans_in}
 use Rattle.vx_journal.specs.Laws.{JournalsStay}
 use Rattle.vx_journal.specs.Replay.{replay_of}
-use Rattle.vx_journal.specs.Steps.{once_read}
 use Rattle.vx_command_count.specs.Laws.{CountKeepsJournals}
-use Rattle.vx_command_count.specs.Outcome.{count_outcome, journal_outcome, read_next, scans_outcome, with_images}
-use Rattle.vx_command_count.specs.Sheets.{counted_with}
-use Rattle.vx_command_export.specs.Laws.{ExportsWriteWhatWasKept}
-use Rattle.vx_command_export.specs.Outcome.{export_outcome}
+use Rattle.vx_command_count.specs.Outcome.{count_outcome}
 use Rattle.vx_words.specs.declared.command.Command.{Command}
 use Rattle.vx_words.specs.Words.{IsSound}
 use Rattle.vx_app.specs.Outcome.{appends}
 use Rattle.vx_app.specs.Journals.{AreRuns, IsDoneOf, IsRun, Run}
 use Rattle.vx_headline.specs.Counted.{CountedBy, Counts, IsNew, IsScanned, Recounts}
-use Rattle.vx_headline.proofs.Counted.{CountLaws, IsCounted, either-counted, named, one-counted, scanned-known, later-counted}
+use Rattle.vx_headline.proofs.Counted.{CountLaws, IsCounted, named, one-counted, one-shared, scanned-known, later-counted}
 
 -- the first that passes is found
 find-alone : {X : Type 0} (test : X → Bool) (xs : List X) (x : X) → filter test xs ≡ x ∷ [] → find test xs ≡ Some x
@@ -57,7 +40,7 @@ same-given : {A F : Type 0} (r : Result A F) (x y : A) → r ≡ Ok x → r ≡ 
 same-given r x y a b = cc
 
 -- where none is found, none has a place
-not-found : {X : Type 0} (test : X → Bool) (n : ℕ) (xs : List X) → find test xs ≡ None → position_from test n xs ≡ None
+pub not-found : {X : Type 0} (test : X → Bool) (n : ℕ) (xs : List X) → find test xs ≡ None → position_from test n xs ≡ None
 not-found test n [] h = refl
 not-found {X} test n (x ∷ xs) h = by (test x) (not-found test (n + 1) xs) h
   where
@@ -104,7 +87,7 @@ module _ (laws : CountLaws) (keeps : CountKeepsJournals) (stays : JournalsStay)
   module _ (key : Key) (sheet : MarkedSheet) (records : List (List ℕ)) (one : Run) (run : IsRun election records one) (place : ℕ)
       (s : IsScanned election one key sheet place)
       (plans : List CardPlan) (planned : plans_in election ≡ Ok plans) (before : List Event) (replays : replay_of election records ≡ Ok before)
-      (is_new : IsNew before key place) where
+      (is_new : IsNew election records before key) (room : length before + place < event_limit) where
     is-named : election_in (one.files s.name) ≡ Ok election
     is-named = named laws election key sheet records one run place s
 
@@ -135,24 +118,17 @@ module _ (laws : CountLaws) (keeps : CountKeepsJournals) (stays : JournalsStay)
       workers = s.workers;
       scans = s.scans;
       is_count = s.is_count;
-      key_is = s.key_is;
-      first = s.first;
-      second = s.second;
-      first_is = s.first_is;
-      second_is = s.second_is;
-      fits = s.fits;
-      numbered = s.numbered;
+      pictured = s.pictured;
     }
 
     would-count : IsCounted laws election key sheet full
     would-count = one-counted laws election key sheet records unbroken is-unbroken (record {
       place = place;
       scanned = is-scanned;
-      planned = is-ok_from (plans_in election) plans planned;
       before = before;
-      replays = replays;
       is_new = is_new;
-      whole = inl (laws.ends s.name s.batch s.scans one.files records election plans before is-named planned replays);
+      room = room;
+      came = inl (laws.ends s.name s.batch s.scans one.files records election plans before is-named planned replays);
     })
 
     -- whatever the run left under the key is the sheet
@@ -181,33 +157,55 @@ module _ (laws : CountLaws) (keeps : CountKeepsJournals) (stays : JournalsStay)
   recounted : (key : Key) (sheet : MarkedSheet) (records : List (List ℕ)) (one : Run) (runs : List Run) (left : List (List ℕ)) → IsRun election records one
       → AreRuns election one.left runs left → Recounts election records one runs key sheet → IsCounted laws election key sheet left
   recounted key sheet records one runs left run behind re =
-      let plans = ok-is (plans_in election) re.planned in
+      let planned : IsOk (plans_in election) = assumption re.is_new.planned in
+      let plans = ok-is (plans_in election) planned in
       by plans.0 plans.1 (find (has_key key) (sheets_in re.after)) refl
     where
       Are : List Run → Type 0
       Are some = AreRuns election one.left some left
 
       are : AreRuns election one.left (re.again ∷ re.further) left
-      are = subst Are re.are behind
+      are = let both : runs ≡ re.again ∷ re.further = assumption re.are in subst Are both behind
+
+      replayed : replay_of election records ≡ Ok re.before
+      replayed = assumption re.is_new.replays
+
+      replayed_after : replay_of election one.left ≡ Ok re.after
+      replayed_after = assumption re.replays_after
+
+      -- the second had room, so the first had it too
+      was_room : length re.before + re.place < event_limit
+      was_room =
+          let added = laws.more election records (one ∷ []) one.left (run, refl) in
+          let Replays : List (List ℕ) → Type 0 = λ some. replay_of election some ≡ Ok re.after in
+          let front = laws.fronts election records added.more re.after (subst Replays added.are replayed_after) in
+          let same : front.events_then ≡ re.before = same-given (replay_of election records) front.events_then re.before front.replays replayed in
+          let size : length re.after ≡ length re.before + length front.more =
+          ap length (front.are ∙ ap (λ (some : List Event). some ++ front.more) same) ∙ length-append re.before front.more in
+          let room = re.room in
+          omega (arith, size, room)
 
       by : (plans : List CardPlan) → plans_in election ≡ Ok plans → (found : Option Added) → find (has_key key) (sheets_in re.after) ≡ found
           → IsCounted laws election key sheet left
       by plans planned None none =
           let counts : Counts election one.left re.again key sheet = record {
             place = re.place;
-            scanned = re.scanned_again;
-            planned = re.planned;
+            scanned = (assumption re.scanned_again);
             before = re.after;
-            replays = re.replays_after;
-            is_new = record { new = not-found (has_key key) 0 (sheets_in re.after) none; room = re.room };
-            whole = inl re.whole;
+            is_new = record {
+              planned = re.is_new.planned;
+              replays = replayed_after;
+              new = not-found (has_key key) 0 (sheets_in re.after) none;
+            };
+            room = (let room = re.room in omega (arith, room));
+            came = inl (assumption re.whole);
           } in
           let further = laws.more election re.again.left re.further left are.1 in
           later-counted laws election key sheet re.again.left further.more left further.are
           (one-counted laws election key sheet one.left re.again are.0 counts)
       by plans planned (Some added) found =
           let it = found-in key added re.after 0 found in
-          let marked = only-it key sheet records one run re.place re.scanned plans planned re.before re.replays re.is_new re.after re.replays_after added
+          let marked = only-it key sheet records one run re.place re.scanned plans planned re.before replayed re.is_new was_room re.after replayed_after added
           found in
           let keyed : added.key ≡ key = sym (laws.equal_keys key added.key it.keyed) in
           let event : Add added.key added.sheet ≡ Add key (sheet_marked sheet) = ap (λ (some : Key). Add some added.sheet) keyed ∙ ap (Add key) marked in
@@ -215,15 +213,18 @@ module _ (laws : CountLaws) (keeps : CountKeepsJournals) (stays : JournalsStay)
           later-counted laws election key sheet one.left further.more left further.are (record {
             known = scanned-known laws election key sheet records one run re.place re.scanned;
             added = λ kept replays.
-                (let same : kept ≡ re.after = same-given (replay_of election one.left) kept re.after replays re.replays_after in
+                (let same : kept ≡ re.after = same-given (replay_of election one.left) kept re.after replays replayed_after in
                 record { before = it.before; more = it.more; are = same ∙ it.are ∙ ap (λ (some : Event). it.before ++ some ∷ it.more) event });
           })
 
   pub counted : (key : Key) (sheet : MarkedSheet) (records : List (List ℕ)) (runs : List Run) (left : List (List ℕ)) → AreRuns election records runs left
       → CountedBy election records runs key sheet → IsCounted laws election key sheet left
   counted key sheet records [] left are h = elim h [ ]
-  counted key sheet records (one ∷ runs) left are (inl (inl here)) =
+  counted key sheet records (one ∷ runs) left are (inl (inl (inl here))) =
       let further = laws.more election one.left runs left are.1 in
-      later-counted laws election key sheet one.left further.more left further.are (either-counted laws election key sheet records one are.0 here)
-  counted key sheet records (one ∷ runs) left are (inl (inr again)) = recounted key sheet records one runs left are.0 are.1 again
-  counted key sheet records (one ∷ runs) left are (inr later) = counted key sheet one.left runs left are.1 later
+      later-counted laws election key sheet one.left further.more left further.are (one-counted laws election key sheet records one are.0 (assumption here))
+  counted key sheet records (one ∷ runs) left are (inl (inl (inr here))) =
+      let further = laws.more election one.left runs left are.1 in
+      later-counted laws election key sheet one.left further.more left further.are (one-shared laws election key sheet records one are.0 (assumption here))
+  counted key sheet records (one ∷ runs) left are (inl (inr again)) = recounted key sheet records one runs left are.0 are.1 (assumption again)
+  counted key sheet records (one ∷ runs) left are (inr later) = counted key sheet one.left runs left are.1 (assumption later)

@@ -1,5 +1,5 @@
 -- The record of a sheet that a run counted, among those that the runs left.
-use Rattle.std.proofs.Common.{◌≡◌, ℕ, zero, suc, ◌+◌, ◌*◌, ◌≤◌, ◌⊎◌, inl, inr, Bool, true, false, cond, List, [], ◌∷◌, ◌++◌, length, map, refl, sym, ap, ap₂, subst, ◌∙◌, arith, append_assoc, append-nil}
+use Rattle.std.proofs.Common.{◌≡◌, ℕ, zero, suc, ◌+◌, ◌*◌, ◌≤◌, inl, inr, Bool, true, false, cond, List, [], ◌∷◌, ◌++◌, length, map, refl, sym, ap, ap₂, subst, ◌∙◌, arith, append_assoc, append-nil}
 use Rattle.std.specs.Prelude.{All, Some, None, Ok, Err, option_map, slice_get}
 use Rattle.std.specs.List.{flat_map}
 use Rattle.std.proofs.lemmas.List.{map-append}
@@ -29,7 +29,6 @@ use Rattle.vx_command.specs.Images.{ScannedImagesAreWhole}
 use Rattle.vx_command.specs.Acts.{Append, records_of}
 use Rattle.vx_command.specs.Kept.{RecordsInOrder}
 use Rattle.vx_command.specs.Laws.{TakenElectionsAreValid}
-use Rattle.vx_command.specs.Texts.{broke_off}
 use Rattle.vx_journal.specs.declared.journal.Journal.{Journal}
 use Rattle.vx_journal.specs.Keeping.{has_none, journal_in, journal_read}
 use Rattle.vx_journal.specs.Laws.{FrontsAreJournals, JournalsAreHistories, RecordsAreEvents}
@@ -47,6 +46,7 @@ use Rattle.vx_pbm.specs.Images.{ImagesAreWhole, IsWholePage, images_of}
 use Rattle.vx_shared.specs.declared.history.Entry.{Entry}
 use Rattle.vx_shared.specs.Laws.{FirstAddsAreDone, InterleavingsAreWhole, IsDoneIn, events_in_all as total}
 use Rattle.vx_shared.specs.Legal.{events_in}
+use Rattle.vx_words.specs.declared.command.Command.TheVariants.{Center}
 use Rattle.vx_words.specs.declared.command.ItemWord.TheVariants.{Scan}
 use Rattle.vx_words.specs.Items.{IsItem}
 use Rattle.vx_command_center.specs.declared.item.Item.{Item}
@@ -54,9 +54,9 @@ use Rattle.vx_command_center.specs.declared.item.Item.TheVariants.{Scan as Scann
 use Rattle.vx_command_center.specs.Histories.{IsHistoryOf}
 use Rattle.vx_command_center.specs.Items.{events_of}
 use Rattle.vx_command_center.specs.Laws.{CentersKeepTheirHistory, ScansAreItems}
-use Rattle.vx_command_center.specs.Outcome.{center_outcome}
+use Rattle.vx_command_center.specs.Outcome.{center_outcome, items_taken}
 use Rattle.vx_app.specs.Adding.{AddsWhatFits, FittingSheetsAreInTheirItems}
-use Rattle.vx_headline.specs.Counted.{AddNoOther, Counts, HasRecord, IsItemOf, IsScanned, CenterCounts, events_in_all}
+use Rattle.vx_headline.specs.Counted.{AddNoOther, CameTo, Counts, HasRecord, IsItemOf, IsScanned, CenterCounts, events_in_all}
 
 pub record CountLaws : Type 0 where
   pub valid : TakenElectionsAreValid
@@ -126,7 +126,7 @@ header-records election true = refl
 header-records election false = refl
 
 -- what holds of all holds of one
-item-at : {X : Type 0} (P : X → Type 0) (xs : List X) → All P xs → (n : ℕ) (x : X) → slice_get xs n ≡ Some x → P x
+pub item-at : {X : Type 0} (P : X → Type 0) (xs : List X) → All P xs → (n : ℕ) (x : X) → slice_get xs n ≡ Some x → P x
 item-at P xs all n x at = subst P (get_or_from_slice_get xs n x x at) (all n x (slice_get_within xs n x at))
 
 -- the call of an event, and the element that was mapped
@@ -145,7 +145,7 @@ all-of : (election : Election) (items : List Item) → total (map (events_of ele
 all-of election [] = refl
 all-of election (item ∷ items) = ap (λ (n : ℕ). length (events_of election item) + n) (all-of election items)
 
-length-map : {X Y : Type 0} (f : X → Y) (xs : List X) → length (map f xs) ≡ length xs
+pub length-map : {X Y : Type 0} (f : X → Y) (xs : List X) → length (map f xs) ≡ length xs
 length-map f [] = refl
 length-map f (x ∷ xs) = ap suc (length-map f xs)
 
@@ -184,31 +184,36 @@ module _ (laws : CountLaws) (election : Election) (key : Key) (sheet : MarkedShe
     scanned-known =
         let Sound : Command → Type 0 = λ command. IsSound run.spelled.device command in
         let sound = subst Sound s.is_count run.spelled.sound in
-        let first = (laws.whole one.files 4 s.scans (2 * place) s.first s.first_is).whole in
-        let second = (laws.whole one.files 4 s.scans (2 * place + 1) s.second s.second_is).whole in
-        known (laws.valid (one.files s.name) election named) s.batch sound.batch_in_range place s.key_is s.first s.second first second s.fits s.numbered
+        let it = s.pictured in
+        let first = (laws.whole one.files 4 s.scans (2 * place) it.first (assumption it.first_is)).whole in
+        let second = (laws.whole one.files 4 s.scans (2 * place + 1) it.second (assumption it.second_is)).whole in
+        known (laws.valid (one.files s.name) election named) s.batch sound.batch_in_range place (assumption it.key_is) it.first it.second first second
+        (assumption it.fits) (let numbered = it.numbered in omega (arith, numbered))
 
   has-stands : (left : List (List ℕ)) → HasRecord left key sheet → StandsBehind left (record_of the-event)
   has-stands left has =
       let at : slice_get left (suc has.before) ≡ Some (record_of the-event) =
-      (let same : suc has.before ≡ has.before + 1 = omega arith in ap (slice_get left) same) ∙ has.stands in
+      (let same : suc has.before ≡ has.before + 1 = omega arith in ap (slice_get left) same) ∙ assumption has.stands in
       behind-first left has.before (record_of the-event) at
 
-  pub one-stands : (records : List (List ℕ)) (one : Run) → IsRun election records one → (counts : Counts election records one key sheet)
-      → (broke_off one.answer ≡ false) ⊎ HasRecord one.left key sheet → StandsBehind one.left (record_of the-event)
-  one-stands records one run counts (inr has) = has-stands one.left has
+  pub one-stands : (records : List (List ℕ)) (one : Run) → IsRun election records one → Counts election records one key sheet
+      → CameTo one key sheet → StandsBehind one.left (record_of the-event)
+  one-stands records one run counts (inr has) = has-stands one.left (assumption has)
   one-stands records one run counts (inl unbroken) =
       let s = counts.scanned in
       let place = counts.place in
+      let it = s.pictured in
+      let new = counts.is_new in
       let Done : Command → Type 0 = λ command. IsDoneOf command one.files records one.taken one.taken_now (Some one.left) one.answer in
       let done = subst Done s.is_count run.done in
-      let plans = ok-is (plans_in election) counts.planned in
+      let plans = ok-is (plans_in election) (assumption new.planned) in
+      let key_is : key ≡ key_at s.batch place = assumption it.key_is in
       let New : Key → Type 0 = λ some. place_in counts.before some ≡ None in
       let keeps =
       laws.kept s.name s.batch s.scans one.files records one.taken one.taken_now (Some records) (Some one.left) one.answer done election plans.0 counts.before
-      (named records one run place s) plans.1 counts.replays place s.first s.second sheet s.first_is s.second_is s.fits s.numbered
-      (subst New s.key_is counts.is_new.new) in
-      let stands = keeps.stands (let room = counts.is_new.room in let few = keeps.few in omega (arith, room, few)) in
+      (named records one run place s) plans.1 (assumption new.replays) place it.first it.second sheet (assumption it.first_is) (assumption it.second_is)
+      (assumption it.fits) (let numbered = it.numbered in omega (arith, numbered)) (subst New key_is (assumption new.new)) in
+      let stands = keeps.stands (let room = counts.room in let few = keeps.few in omega (arith, room, few)) in
       let body = record_of (Add (key_at s.batch place) (sheet_marked sheet)) in
       let list = header_if_none election records ++ (keeps.before ++ keeps.behind) in
       let all : list ≡ keeps.kept.front = keeps.kept.are ∙ ap (λ (some : List (List ℕ)). keeps.kept.front ++ some) (keeps.kept.whole unbroken)
@@ -220,7 +225,7 @@ module _ (laws : CountLaws) (election : Election) (key : Key) (sheet : MarkedShe
       let Stands : List (List ℕ) → Type 0 = λ some. StandsBehind some body in
       let here : StandsBehind one.left body = subst Stands (sym left) (begins election records keeps.before stands.0 body) in
       let Own : Key → Type 0 = λ some. StandsBehind one.left (record_of (Add some (sheet_marked sheet))) in
-      subst Own (sym s.key_is) here
+      subst Own (sym key_is) here
 
   -- an event adds the sheet
   pub record IsAddedIn (kept : List Event) : Type 0 where
@@ -260,39 +265,47 @@ module _ (laws : CountLaws) (election : Election) (key : Key) (sheet : MarkedShe
 
   pub one-counted : (records : List (List ℕ)) (one : Run) → IsRun election records one → Counts election records one key sheet → IsCounted one.left
   one-counted records one run counts =
-      from-record one.left (scanned-known records one run counts.place counts.scanned) (one-stands records one run counts counts.whole)
+      from-record one.left (scanned-known records one run counts.place counts.scanned) (one-stands records one run counts counts.came)
 
   -- a `center`
   module _ (records : List (List ℕ)) (one : Run) (run : IsRun election records one) (items : List Item) (s : IsItemOf election one key sheet items) where
+    is-center : one.command ≡ Center s.name s.moment s.device s.words
+    is-center = assumption s.is_center
+
     center-named : election_in (one.files s.name) ≡ Ok election
-    center-named = let For : Command → Type 0 = λ command. IsFor command one.files election in subst For s.is_center run.for_it
+    center-named = let For : Command → Type 0 = λ command. IsFor command one.files election in subst For is-center run.for_it
 
     item-known : IsKnown
     item-known =
         let Sound : Command → Type 0 = λ command. IsSound run.spelled.device command in
-        let sound = subst Sound s.is_center run.spelled.sound in
-        let in_range : IsItem (Scan s.batch s.file) = item-at IsItem s.words sound.are_items.are_items s.item (Scan s.batch s.file) s.is_scan in
+        let sound = subst Sound is-center run.spelled.sound in
+        let in_range : IsItem (Scan s.batch s.file) = item-at IsItem s.words sound.are_items.are_items s.item (Scan s.batch s.file) (assumption s.is_scan) in
         let whole : (n : ℕ) (page : Page) → slice_get (images_of s.bytes).pages n ≡ Some page → IsWholePage page =
         λ n page at. item-at IsWholePage (images_of s.bytes).pages (laws.images s.bytes) n page at in
-        known (laws.valid (one.files s.name) election center-named) s.batch in_range.0 s.place s.key_is s.first s.second
-        (whole (2 * s.place) s.first s.first_is).whole (whole (2 * s.place + 1) s.second s.second_is).whole s.fits s.numbered
+        let it = s.pictured in
+        known (laws.valid (one.files s.name) election center-named) s.batch in_range.0 s.place (assumption it.key_is) it.first it.second
+        (whole (2 * s.place) it.first (assumption it.first_is)).whole (whole (2 * s.place + 1) it.second (assumption it.second_is)).whole
+        (assumption it.fits) (let numbered = it.numbered in omega (arith, numbered))
 
     -- its event is done in the history
     item-done : (before : List Event) (history : List Entry) → IsHistoryOf election before items history → place_in before key ≡ None
         → AddNoOther election items key sheet → length before + events_in_all election items ≤ event_limit
         → IsDoneIn history the-event
     item-done before history of_items new no_other room =
-        let scan = laws.items election one.files s.words items s.item s.batch s.file s.bytes s.are_items s.is_scan s.is_file in
-        let adds = item-at (AddsWhatFits election) items (laws.adds s.name s.words one.files election items center-named s.are_items) s.item
+        let it = s.pictured in
+        let scan =
+        laws.items election one.files s.words items s.item s.batch s.file s.bytes (assumption s.are_items) (assumption s.is_scan) (assumption s.is_file) in
+        let adds = item-at (AddsWhatFits election) items (laws.adds s.name s.words one.files election items center-named (assumption s.are_items)) s.item
         (Scanned s.batch s.bytes scan.0) scan.1 in
-        let sheets = adds s.place s.first s.second sheet s.first_is s.second_is s.fits s.numbered in
+        let sheets = adds s.place it.first it.second sheet (assumption it.first_is) (assumption it.second_is) (assumption it.fits)
+        (let numbered = it.numbered in omega (arith, numbered)) in
         let lists = map (events_of election) items in
         let list = events_of election (Scanned s.batch s.bytes scan.0) in
         let at : slice_get lists s.item ≡ Some list = slice_get-map (events_of election) items s.item ∙ ap (option_map (events_of election)) scan.1 in
         let on : slice_get list (length sheets.before) ≡ Some the-event =
         ap (λ (some : List Event). slice_get some (length sheets.before)) sheets.are
         ∙ at-seam sheets.before (Add (key_at s.batch s.place) (sheet_marked sheet)) sheets.behind
-        ∙ ap (λ (some : Key). Some (Add some (sheet_marked sheet))) (sym s.key_is) in
+        ∙ ap (λ (some : Key). Some (Add some (sheet_marked sheet))) (sym (let key_is : key ≡ key_at s.batch s.place = assumption it.key_is in key_is)) in
         let come = laws.mixed.come (events_in history) lists of_items.interleaved s.item list (length sheets.before) the-event at on in
         let call = called history come.0 the-event come.1 in
         let few : length history ≤ events_in_all election items =
@@ -306,38 +319,38 @@ module _ (laws : CountLaws) (election : Election) (key : Key) (sheet : MarkedShe
         let from = laws.mixed.are_of (events_in history) lists of_items.interleaved n (Add key other)
         (slice_get-map (λ (call : Entry). call.event) history n ∙ ap (option_map (λ (call : Entry). call.event)) there ∙ ap Some is) in
         let item = mapped (events_of election) items from.place from.list from.at in
-        no_other from.place from.n item.0 other item.1 (ap (λ (some : List Event). slice_get some from.n) item.2 ∙ from.on))
+        (let none = no_other from.place from.n item.0 other item.1 (ap (λ (some : List Event). slice_get some from.n) item.2 ∙ from.on) in
+        assumption none))
         call.2.0 call.2.1
 
-  item-stands : (records : List (List ℕ)) (one : Run) → IsRun election records one → (shares : CenterCounts election records one key sheet)
-      → (broke_off one.answer ≡ false) ⊎ HasRecord one.left key sheet → StandsBehind one.left (record_of the-event)
-  item-stands records one run shares (inr has) = has-stands one.left has
+  item-stands : (records : List (List ℕ)) (one : Run) → IsRun election records one → CenterCounts election records one key sheet
+      → CameTo one key sheet → StandsBehind one.left (record_of the-event)
+  item-stands records one run shares (inr has) = has-stands one.left (assumption has)
   item-stands records one run shares (inl unbroken) =
       let s = shares.is_item in
+      let before = shares.before in
+      let replays : replay_of election records ≡ Ok before = assumption shares.is_new.replays in
+      let are_items : items_taken election one.files 4 0 s.words ≡ Ok shares.items = assumption s.are_items in
       let DoneOf : Command → Type 0 = λ command. IsDoneOf command one.files records one.taken one.taken_now (Some one.left) one.answer in
-      let centers = subst DoneOf s.is_center run.done in
+      let centers = subst DoneOf (is-center records one run shares.items s) run.done in
       let named = center-named records one run shares.items s in
-      let plans = ok-is (plans_in election) shares.planned in
-      let of_items = centers.of_items election shares.before shares.items named shares.replays s.are_items in
-      let done = item-done records one run shares.items s shares.before centers.history of_items shares.new shares.no_other shares.room in
+      let plans = ok-is (plans_in election) (assumption shares.is_new.planned) in
+      let of_items = centers.of_items election before shares.items named replays are_items in
+      let done = item-done records one run shares.items s before centers.history of_items (assumption shares.is_new.new) shares.no_other
+      (let room = shares.room in omega (arith, room)) in
       let body = record_of the-event in
-      let journal : Journal = record { center = record { election = election; events = shares.before }; is_new = has_none records } in
-      let read : journal_in election records ≡ Ok journal = ap (journal_read election (has_none records)) shares.replays in
+      let journal : Journal = record { center = record { election = election; events = before }; is_new = has_none records } in
+      let read : journal_in election records ≡ Ok journal = ap (journal_read election (has_none records)) replays in
       let outcome = center_outcome s.name s.moment s.device s.words one.files records centers.history in
       let left : one.left ≡ records ++ (header_if_none election records ++ (map record_of done.front ++ body ∷ map record_of done.back)) =
       (laws.leaves.leaves outcome one.taken one.taken_now records one.left one.answer centers.done).whole unbroken
       ∙ ap (λ (some : List (List ℕ)). records ++ some)
-      (laws.history s.name s.moment s.device s.words one.files records centers.history election plans.0 journal shares.items named plans.1 read s.are_items
+      (laws.history s.name s.moment s.device s.words one.files records centers.history election plans.0 journal shares.items named plans.1 read are_items
       ∙ ap₂ (λ (some more : List (List ℕ)). some ++ more) (header-records election (has_none records))
       (ap (map record_of) done.are ∙ map-append record_of done.front (the-event ∷ done.back))) in
       let Stands : List (List ℕ) → Type 0 = λ some. StandsBehind some body in
       subst Stands (sym left) (begins election records (map record_of done.front) (map record_of done.back) body)
 
-  one-shared : (records : List (List ℕ)) (one : Run) → IsRun election records one → CenterCounts election records one key sheet → IsCounted one.left
+  pub one-shared : (records : List (List ℕ)) (one : Run) → IsRun election records one → CenterCounts election records one key sheet → IsCounted one.left
   one-shared records one run shares =
-      from-record one.left (item-known records one run shares.items shares.is_item) (item-stands records one run shares shares.whole)
-
-  pub either-counted : (records : List (List ℕ)) (one : Run) → IsRun election records one
-      → Counts election records one key sheet ⊎ CenterCounts election records one key sheet → IsCounted one.left
-  either-counted records one run (inl counts) = one-counted records one run counts
-  either-counted records one run (inr shares) = one-shared records one run shares
+      from-record one.left (item-known records one run shares.items shares.is_item) (item-stands records one run shares shares.came)

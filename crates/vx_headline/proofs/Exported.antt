@@ -24,7 +24,8 @@ use Rattle.vx_command_count.specs.Laws.{CountKeepsJournals}
 use Rattle.vx_command_export.specs.Laws.{ExportsWriteWhatWasKept}
 use Rattle.vx_journal.specs.Replay.{replay_of}
 use Rattle.vx_words.specs.declared.command.Command.{Command}
-use Rattle.vx_app.specs.Journals.{AreRuns, IsDoneOf, IsFor, Run}
+use Rattle.vx_words.specs.declared.command.Command.TheVariants.{Export}
+use Rattle.vx_app.specs.Journals.{AreRuns, IsDoneOf, IsFor, IsRun, Run}
 use Rattle.vx_headline.specs.Counted.{AddedBy, HasSheet}
 use Rattle.vx_headline.specs.Exported.{IsExport, MarkedPagesAreExported, StandsMarked, final_if}
 use Rattle.vx_headline.proofs.Again.{counted}
@@ -84,19 +85,20 @@ module _ (laws : CountLaws) (election : Election) where
   has-still records more left kept key sheet are replays has =
       let Replays : List (List ℕ) → Type 0 = λ some. replay_of election some ≡ Ok kept in
       let first = laws.fronts election records more kept (subst Replays are replays) in
-      let same : first.events_then ≡ has.events = let one = first.replays in let other = has.replays in cc in
+      let same : first.events_then ≡ has.events = let one = first.replays in let other : replay_of election records ≡ Ok has.events = assumption has.are_kept in cc in
       let In : List Event → Type 0 = λ events. sheet_in events key ≡ Some sheet in
-      subst In (ap (λ (some : List Event). some ++ first.more) (sym same) ∙ sym first.are) (laws.stay has.events first.more key sheet has.there)
+      subst In (ap (λ (some : List Event). some ++ first.more) (sym same) ∙ sym first.are) (laws.stay has.events first.more key sheet (assumption has.there))
 
   added-still : (records : List (List ℕ)) (runs : List Run) (left : List (List ℕ)) (kept : List Event) (key : Key) (sheet : SheetMarks)
       → AreRuns election records runs left → replay_of election left ≡ Ok kept → AddedBy election records runs key sheet → sheet_in kept key ≡ Some sheet
   added-still records [] left kept key sheet are replays has =
       let adds = laws.more election records [] left are in
-      has-still records adds.more left kept key sheet adds.are replays has
+      has-still records adds.more left kept key sheet adds.are replays (assumption has)
   added-still records (one ∷ runs) left kept key sheet are replays (inl has) =
       let adds = laws.more election records (one ∷ runs) left are in
-      has-still records adds.more left kept key sheet adds.are replays has
-  added-still records (one ∷ runs) left kept key sheet are replays (inr later) = added-still one.left runs left kept key sheet are.1 replays later
+      has-still records adds.more left kept key sheet adds.are replays (assumption has)
+  added-still records (one ∷ runs) left kept key sheet are replays (inr later) =
+      added-still one.left runs left kept key sheet are.1 replays (assumption later)
 
   -- what the export itself wrote
   record Wrote (left : List (List ℕ)) (last : Run) (moment device : List ℕ) (own_election : Election) : Type 0 where
@@ -110,10 +112,12 @@ module _ (laws : CountLaws) (election : Election) where
       → IsExport election runs left last moment device → Wrote left last moment device election
   wrote exported runs left last moment device it =
       let For : Command → Type 0 = λ command. IsFor command last.files election in
-      let named = subst For it.is_export it.is_run.for_it in
+      let run : IsRun election left last = assumption it.is_run in
+      let is_export : last.command ≡ Export it.name moment device = assumption it.is_export in
+      let named = subst For is_export run.for_it in
       let Done : Command → Type 0 = λ command. IsDoneOf command last.files left last.taken last.taken_now (Some last.left) last.answer in
-      let done = subst Done it.is_export it.is_run.done in
-      let all = exported it.name moment device last.files left last.taken last.taken_now (Some left) (Some last.left) last.answer done it.well in
+      let done = subst Done is_export run.done in
+      let all = exported it.name moment device last.files left last.taken last.taken_now (Some left) (Some last.left) last.answer done (assumption it.well) in
       let same : all.election ≡ election = let one = all.is_read in cc in
       let Of : Election → Type 0 = λ some. Wrote left last moment device some in
       subst Of same (record { kept = all.events; are_kept = all.are_kept; history = all.history; report = all.report; shows = all.shows })
@@ -121,6 +125,7 @@ module _ (laws : CountLaws) (election : Election) where
 pub exports : CountLaws → ExportsWriteWhatWasKept → CountKeepsJournals → JournalsStay → MarkedPagesAreExported
 exports laws exported keeps stays election runs left last moment device it =
     let all = wrote laws election exported runs left last moment device it in
+    let are : AreRuns election [] runs left = assumption it.are_runs in
     record {
       kept = all.kept;
       are_kept = all.are_kept;
@@ -129,6 +134,6 @@ exports laws exported keeps stays election runs left last moment device it =
       shows = all.shows;
       rows = laws.row_added election all.kept;
       marked = λ key sheet by. stands-marked laws election all.kept all.history left all.are_kept key sheet
-          (counted laws keeps stays election key sheet [] runs left it.are_runs by);
-      first = λ key sheet by. added-still laws election [] runs left all.kept key sheet it.are_runs all.are_kept by;
+          (counted laws keeps stays election key sheet [] runs left are by);
+      first = λ key sheet by. added-still laws election [] runs left all.kept key sheet are all.are_kept by;
     }

@@ -3,4 +3,7 @@ mod Counted
 mod Again
 mod Exported
 mod Undecided
+mod Untouched
+mod Stacks
 mod Day
+mod Centered

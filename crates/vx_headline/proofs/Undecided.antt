@@ -1,6 +1,6 @@
 -- Contests of which nothing was decided.
 use Rattle.std.proofs.Common.{◌≡◌, ◌⊎◌, inl, inr, ℕ, zero, suc, ◌-◌, Bool, true, false, cond, List, [], ◌∷◌, length, map, refl, ap, ap₂, subst, ◌∙◌}
-use Rattle.std.specs.Prelude.{codes, ◌&&◌, ◌||◌, not, slice_get, slice_index_or, Option, Some, None}
+use Rattle.std.specs.Prelude.{codes, ◌&&◌, ◌||◌, not, slice_get, slice_index_or, Option, Some, None, Ok}
 use Rattle.std.specs.List.{list_any}
 use Rattle.serde_json.specs.Data.{Data}
 use Rattle.vx_base.proofs.Booleans.{or-left, or-right}
@@ -29,6 +29,8 @@ use Rattle.vx_cvr.specs.Names.{contest_name}
 use Rattle.vx_cvr.specs.Report.{class, counted, selected}
 use Rattle.vx_cvr.specs.Votes.{candidate_in, is_overvoted, is_repeated, is_slot, name_of, overvotes, status_words, undervotes, votes_of, write_ins}
 use Rattle.vx_app.specs.Journals.{Run}
+use Rattle.vx_journal.specs.Replay.{replay_of}
+use Rattle.vx_headline.specs.Counted.{CountedBy}
 use Rattle.vx_headline.specs.Exported.{Exports, IsExport, MarkedPagesAreExported, final_if}
 use Rattle.vx_headline.specs.Undecided.{CountsAsMarked, IsUndecided, UndecidedContestsAreExportedAsMarked, UndecidedReasonsWait, WroteFinals, counted_with, selected_with}
 
@@ -164,22 +166,23 @@ module _ (law : MarkedPagesAreExported) (election : Election) (runs : List Run) 
 
   module _ (kept : List Event) (u : IsUndecided election runs left kept key sheet marks contest) where
     same : all.kept ≡ kept
-    same = let one = all.are_kept in let other = u.are_kept in cc
+    same = let one = all.are_kept in let other : replay_of election left ≡ Ok kept = assumption u.are_kept in cc
 
     -- what stands of the contest, of the events that the export itself read
     stand : (finals : List Final) → finals_where (is_blank_sheet (sheet_marked sheet)) [] (Some contest) ≡ finals
         → WroteFinals election last moment device kept key marks.contest finals
     stand finals are =
-        let added = (all.marked key sheet u.counted).0 in
-        let stands = (all.marked key sheet u.counted).1 in
+        let by : CountedBy election [] runs key sheet = assumption u.counted in
+        let added = (all.marked key sheet by).0 in
+        let stands = (all.marked key sheet by).1 in
         let on : slice_get added.sheet.contests u.place ≡ Some marks =
-        ap (λ (some : SheetMarks). slice_get some.contests u.place) stands.marked ∙ u.is_on in
+        ap (λ (some : SheetMarks). slice_get some.contests u.place) stands.marked ∙ assumption u.is_on in
         let none : decisions_of all.kept added.key marks.contest ≡ [] =
-        ap₂ (λ (events : List Event) (some : Key). decisions_of events some marks.contest) same stands.keyed ∙ u.undecided in
+        ap₂ (λ (events : List Event) (some : Key). decisions_of events some marks.contest) same stands.keyed ∙ assumption u.undecided in
         let blank : is_blank_sheet added.sheet ≡ is_blank_sheet (sheet_marked sheet) = ap is_blank_sheet stands.marked in
         let given : final_if election all.kept added marks ≡ finals =
         ap₂ (λ (b : Bool) (decisions : List Decision). finals_where b decisions (slice_get election.contests marks.contest)) blank none
-        ∙ ap (finals_where (is_blank_sheet (sheet_marked sheet)) []) u.is_contest ∙ are in
+        ∙ ap (finals_where (is_blank_sheet (sheet_marked sheet)) []) (let is : slice_get election.contests marks.contest ≡ Some contest = assumption u.is_contest in is) ∙ are in
         let Wrote : List Event → Type 0 = λ events. WroteFinals election last moment device events key marks.contest finals in
         subst Wrote same (record {
           report = all.report;

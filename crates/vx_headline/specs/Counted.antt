@@ -25,47 +25,30 @@ use Rattle.vx_words.specs.declared.command.ItemWord.{ItemWord}
 use Rattle.vx_words.specs.declared.command.ItemWord.TheVariants.{Scan}
 use Rattle.vx_app.specs.Journals.{Run}
 
--- the sheet in a place of a `count`'s scans, counted from 0: its two images fit the facing pages of a card as they were
+-- the sheet in a place among images, counted from 0: the two images there fit the facing pages of a card as they were
 -- printed and marked, its number is at most 999,999, and the key is its batch and that number
+pub record IsPictured (election : Election) (images : List Page) (batch : List ℕ) (place : ℕ) (key : Key)
+    (sheet : MarkedSheet) : Type 0 where
+  pub key_is : key ≡ key_at batch place
+  pub first : Page
+  pub second : Page
+  pub first_is : slice_get images (2 * place) ≡ Some first
+  pub second_is : slice_get images (2 * place + 1) ≡ Some second
+  pub fits : FitsSheet election first second sheet
+  pub numbered : place + 1 ≤ number_limit
+
+-- the sheet in a place of a `count`'s scans
 pub record IsScanned (election : Election) (one : Run) (key : Key) (sheet : MarkedSheet) (place : ℕ) : Type 0 where
   pub name : List ℕ
   pub batch : List ℕ
   pub workers : ℕ
   pub scans : List (List ℕ)
   pub is_count : one.command ≡ Count name batch workers scans
-  pub key_is : key ≡ key_at batch place
-  pub first : Page
-  pub second : Page
-  pub first_is : slice_get (images_in one.files 4 scans) (2 * place) ≡ Some first
-  pub second_is : slice_get (images_in one.files 4 scans) (2 * place + 1) ≡ Some second
-  pub fits : FitsSheet election first second sheet
-  pub numbered : place + 1 ≤ number_limit
+  pub pictured : IsPictured election (images_in one.files 4 scans) batch place key sheet
 
--- behind events no sheet has the key yet, and there is room for a sheet in such a place
-pub record IsNew (events : List Event) (key : Key) (place : ℕ) : Type 0 where
-  pub new : place_in events key ≡ None
-  pub room : length events + place < event_limit
-
--- the record of a sheet stands among records, behind the first
-pub record HasRecord (records : List (List ℕ)) (key : Key) (sheet : MarkedSheet) : Type 0 where
-  pub before : ℕ
-  pub stands : slice_get records (before + 1) ≡ Some (record_of (Add key (sheet_marked sheet)))
-
--- a run counted a sheet over records: the cards of the election can be planned, the key is new, there is room, and the
--- run didn't break off, or not before that sheet's record
-pub record Counts (election : Election) (records : List (List ℕ)) (one : Run) (key : Key) (sheet : MarkedSheet)
+-- the sheet in a place of a scan that a word `scan:BATCH:FILE` of a `center` names, whose items can be taken
+pub record IsItemOf (election : Election) (one : Run) (key : Key) (sheet : MarkedSheet) (items : List Item)
     : Type 0 where
-  pub place : ℕ
-  pub scanned : IsScanned election one key sheet place
-  pub planned : IsOk (plans_in election)
-  pub before : List Event
-  pub replays : replay_of election records ≡ Ok before
-  pub is_new : IsNew before key place
-  pub whole : (broke_off one.answer ≡ false) ⊎ HasRecord one.left key sheet
-
--- the sheet in a place of a scan that a word `scan:BATCH:FILE` of a `center` names, whose items can be taken: its two
--- images fit the facing pages of a card, its number is at most 999,999, and the key is its batch and that number
-pub record IsItemOf (election : Election) (one : Run) (key : Key) (sheet : MarkedSheet) (items : List Item) : Type 0 where
   pub name : List ℕ
   pub moment : List ℕ
   pub device : List ℕ
@@ -79,13 +62,33 @@ pub record IsItemOf (election : Election) (one : Run) (key : Key) (sheet : Marke
   pub is_scan : slice_get words item ≡ Some (Scan batch file)
   pub is_file : one.files file ≡ Some bytes
   pub place : ℕ
-  pub key_is : key ≡ key_at batch place
-  pub first : Page
-  pub second : Page
-  pub first_is : slice_get (images_of bytes).pages (2 * place) ≡ Some first
-  pub second_is : slice_get (images_of bytes).pages (2 * place + 1) ≡ Some second
-  pub fits : FitsSheet election first second sheet
-  pub numbered : place + 1 ≤ number_limit
+  pub pictured : IsPictured election (images_of bytes).pages batch place key sheet
+
+-- records are a journal of an election whose cards can be planned, and no event that it keeps adds a sheet under a key
+pub record IsNew (election : Election) (records : List (List ℕ)) (events : List Event) (key : Key) : Type 0 where
+  pub planned : IsOk (plans_in election)
+  pub replays : replay_of election records ≡ Ok events
+  pub new : place_in events key ≡ None
+
+-- the record of a sheet stands among records, behind the first
+pub record HasRecord (records : List (List ℕ)) (key : Key) (sheet : MarkedSheet) : Type 0 where
+  pub before : ℕ
+  pub stands : slice_get records (before + 1) ≡ Some (record_of (Add key (sheet_marked sheet)))
+
+-- a run came to a sheet: it didn't break off, or not before that sheet's record
+abbrev pub CameTo : Run → Key → MarkedSheet → Type 0
+CameTo one key sheet = (broke_off one.answer ≡ false) ⊎ HasRecord one.left key sheet
+
+-- a `count` counted a sheet over records: the key is new, there is room for each sheet up to this one, and the run came
+-- to it
+pub record Counts (election : Election) (records : List (List ℕ)) (one : Run) (key : Key) (sheet : MarkedSheet)
+    : Type 0 where
+  pub place : ℕ
+  pub scanned : IsScanned election one key sheet place
+  pub before : List Event
+  pub is_new : IsNew election records before key
+  pub room : length before + place < event_limit
+  pub came : CameTo one key sheet
 
 -- how many events items have
 abbrev pub events_in_all : Election → List Item → ℕ
@@ -99,23 +102,20 @@ AddNoOther election items key sheet =
     → slice_get items place ≡ Some item → slice_get (events_of election item) n ≡ Some (Add key other)
     → other ≡ sheet_marked sheet
 
--- a `center` counted a sheet over records: the cards of the election can be planned, the key is new and no item adds
--- another sheet under it, there is room for all events of the items, and the run didn't break off, or not before that
--- sheet's record; in whichever order the items' events came
+-- a `center` counted a sheet over records: the key is new and no item adds another sheet under it, there is room for
+-- all events of the items, and the run came to the sheet; in whichever order the items' events came
 pub record CenterCounts (election : Election) (records : List (List ℕ)) (one : Run) (key : Key) (sheet : MarkedSheet)
     : Type 0 where
   pub items : List Item
   pub is_item : IsItemOf election one key sheet items
-  pub planned : IsOk (plans_in election)
   pub before : List Event
-  pub replays : replay_of election records ≡ Ok before
-  pub new : place_in before key ≡ None
+  pub is_new : IsNew election records before key
   pub no_other : AddNoOther election items key sheet
   pub room : length before + events_in_all election items ≤ event_limit
-  pub whole : (broke_off one.answer ≡ false) ⊎ HasRecord one.left key sheet
+  pub came : CameTo one key sheet
 
--- a `count` scanned a sheet over records, and directly behind it another `count` scanned it again under the same key, as
--- the same command on the same files does. The first may have broken off anywhere, the second didn't
+-- a `count` scanned a sheet over records, and directly behind it another `count` scanned it again under the same key,
+-- as the same command on the same files does. The first may have broken off anywhere, the second didn't, and had room
 pub record Recounts (election : Election) (records : List (List ℕ)) (one : Run) (runs : List Run) (key : Key)
     (sheet : MarkedSheet) : Type 0 where
   pub place : ℕ
@@ -124,10 +124,8 @@ pub record Recounts (election : Election) (records : List (List ℕ)) (one : Run
   pub further : List Run
   pub are : runs ≡ again ∷ further
   pub scanned_again : IsScanned election again key sheet place
-  pub planned : IsOk (plans_in election)
   pub before : List Event
-  pub replays : replay_of election records ≡ Ok before
-  pub is_new : IsNew before key place
+  pub is_new : IsNew election records before key
   pub after : List Event
   pub replays_after : replay_of election one.left ≡ Ok after
   pub room : length after + place < event_limit
@@ -144,7 +142,7 @@ CountedBy election records (one ∷ runs) key sheet =
 -- records are a journal that keeps a sheet under a key
 pub record HasSheet (election : Election) (records : List (List ℕ)) (key : Key) (sheet : SheetMarks) : Type 0 where
   pub events : List Event
-  pub replays : replay_of election records ≡ Ok events
+  pub are_kept : replay_of election records ≡ Ok events
   pub there : sheet_in events key ≡ Some sheet
 
 -- so they were before one of these runs, or are behind the last

@@ -15,10 +15,11 @@ use Rattle.vx_command.specs.Acts.{input_limit}
 use Rattle.vx_command.specs.Elections.{plans_in}
 use Rattle.vx_journal.specs.Replay.{replay_of}
 use Rattle.vx_command_count.specs.Margin.{key_at}
-use Rattle.vx_words.specs.declared.command.Command.TheVariants.{Count}
-use Rattle.vx_app.specs.Journals.{Run}
+use Rattle.vx_words.specs.declared.command.Command.TheVariants.{Center, Count, Export}
+use Rattle.vx_words.specs.declared.command.ItemWord.TheVariants.{Scan}
+use Rattle.vx_app.specs.Journals.{IsRun, Run}
 use Rattle.vx_headline.specs.Counted.{CountedBy}
-use Rattle.vx_headline.specs.Exported.{IsExport, StandsMarked}
+use Rattle.vx_headline.specs.Exported.{StandsMarked}
 
 -- a sheet of a valid election whose cards can be planned: two pages that face each other, with their plans, and no mark
 pub record IsPrinted (election : Election) (sheet : MarkedSheet) : Type 0 where
@@ -52,7 +53,25 @@ PrintsAreCounted =
     → IsPrinted election sheet → CountsPrints election sheet batch one
     → CountedBy election [] (one ∷ []) (key_at batch 0) sheet
 
--- an export behind it wrote the report of the kept events, and the sheet stands in it as it was printed
+-- a `center` of that scan alone, which ended well
+pub record CentersPrints (election : Election) (sheet : MarkedSheet) (batch : List ℕ) (one : Run) : Type 0 where
+  pub name : List ℕ
+  pub moment : List ℕ
+  pub device : List ℕ
+  pub scan : List ℕ
+  pub is_center : one.command ≡ Center name moment device (Scan batch scan ∷ [])
+  pub is_file : one.files scan ≡ Some (prints_of election sheet)
+  pub short : length (prints_of election sheet) ≤ input_limit
+  pub well : one.answer ≡ Ok tt
+
+-- over no record it counts that sheet too
+abbrev pub CentersCountPrints : Type 0
+CentersCountPrints =
+    (election : Election) (sheet : MarkedSheet) (batch : List ℕ) (one : Run)
+    → IsPrinted election sheet → CentersPrints election sheet batch one
+    → CountedBy election [] (one ∷ []) (record { batch = batch; number = 1 }) sheet
+
+-- an export wrote the report of the kept events, and the sheet stands in it as it was printed
 pub record ExportsPrints (election : Election) (sheet : MarkedSheet) (batch : List ℕ) (left : List (List ℕ)) (last : Run)
     (moment device : List ℕ) : Type 0 where
   pub kept : List Event
@@ -61,10 +80,10 @@ pub record ExportsPrints (election : Election) (sheet : MarkedSheet) (batch : Li
   pub added : Added
   pub stands : StandsMarked election kept (key_at batch 0) sheet added
 
+-- so it is of an export that ended well directly behind that `count`
 abbrev pub PrintsAreExported : Type 0
 PrintsAreExported =
-    (election : Election) (sheet : MarkedSheet) (batch : List ℕ) (one : Run) (left : List (List ℕ)) (last : Run)
-    (moment device : List ℕ)
-    → IsPrinted election sheet → CountsPrints election sheet batch one
-    → IsExport election (one ∷ []) left last moment device
-    → ExportsPrints election sheet batch left last moment device
+    (election : Election) (sheet : MarkedSheet) (batch : List ℕ) (one last : Run) (name moment device : List ℕ)
+    → IsPrinted election sheet → CountsPrints election sheet batch one → IsRun election [] one
+    → IsRun election one.left last → last.command ≡ Export name moment device → last.answer ≡ Ok tt
+    → ExportsPrints election sheet batch one.left last moment device

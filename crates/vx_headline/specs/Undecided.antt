@@ -1,6 +1,6 @@
 -- What an export writes of a contest of a marked sheet of which nothing was decided: it waits where a reason is enabled,
 -- and else it stands there as it was marked, in the numbers of the text.
-use Rattle.std.specs.Prelude.{◌≡◌, ◌<◌, ◌≤◌, ℕ, ◌-◌, ◌++◌, Bool, true, false, List, [], ◌∷◌, codes, length, map, slice_get, Some, Ok}
+use Rattle.std.specs.Prelude.{All, ◌≡◌, ◌<◌, ◌≤◌, ℕ, ◌-◌, ◌++◌, Bool, true, false, List, [], ◌∷◌, codes, length, map, slice_get, Some, Ok}
 use Rattle.serde_json.specs.Data.{Data}
 use Rattle.vx_io.specs.Outside.{Took}
 use Rattle.vx_grid.specs.declared.state.State.{State}
@@ -10,6 +10,7 @@ use Rattle.vx_election_model.specs.declared.reason.Reason.{Reason}
 use Rattle.vx_rules.specs.declared.marks.ContestMarks.{ContestMarks}
 use Rattle.vx_rules.specs.Reasons.{is_blank_sheet, is_reason}
 use Rattle.vx_events.specs.declared.event.Event.{Event}
+use Rattle.vx_events.specs.declared.event.Event.TheVariants.{Add, Claim, Release, Decide}
 use Rattle.vx_events.specs.declared.key.Key.{Key}
 use Rattle.vx_sheet.specs.Margin.{MarkedSheet, sheet_marked}
 use Rattle.vx_center.specs.declared.rows.ExportSheet.{ExportSheet}
@@ -71,6 +72,23 @@ pub record IsUndecided (election : Election) (runs : List Run) (left : List (Lis
   pub is_on : slice_get (sheet_marked sheet).contests place ≡ Some marks
   pub is_contest : slice_get election.contests marks.contest ≡ Some contest
   pub undecided : decisions_of kept key marks.contest ≡ []
+
+-- an event isn't a decision of a contest of the sheet under a key
+abbrev pub DecidesNot : Key → ℕ → Event → Type 0
+DecidesNot key contest (Add other sheet) = Unit {0}
+DecidesNot key contest (Claim station other) = Unit {0}
+DecidesNot key contest (Release station other) = Unit {0}
+DecidesNot key contest (Decide station other on decision) = other ≡ key → on ≡ contest → ⊥
+
+-- a contest of a sheet that the runs counted is undecided where no event of the journal decides it
+abbrev pub UntouchedContestsAreUndecided : Type 0
+UntouchedContestsAreUndecided =
+    (election : Election) (runs : List Run) (left : List (List ℕ)) (kept : List Event) (key : Key) (sheet : MarkedSheet)
+    (place : ℕ) (marks : ContestMarks) (contest : Contest)
+    → CountedBy election [] runs key sheet → replay_of election left ≡ Ok kept
+    → slice_get (sheet_marked sheet).contests place ≡ Some marks
+    → slice_get election.contests marks.contest ≡ Some contest
+    → All (DecidesNot key marks.contest) kept → IsUndecided election runs left kept key sheet marks contest
 
 -- a reason for a person to look at it is there and enabled, or it isn't
 abbrev pub has : Election → MarkedSheet → ContestMarks → Contest → Reason → Bool

@@ -1,10 +1,21 @@
 //! Laws of whole runs, from scans to the report. These functions do nothing; their contracts are the laws.
 
-ghost use Rattle.vx_headline.specs.Day.{PrintsAreCounted, PrintsAreExported};
+ghost use Rattle.vx_headline.specs.Day.{CentersCountPrints, PrintsAreCounted, PrintsAreExported};
 ghost use Rattle.vx_headline.specs.Exported.{MarkedPagesAreExported};
-ghost use Rattle.vx_headline.specs.Undecided.{UndecidedContestsAreExportedAsMarked, UndecidedReasonsWait};
+ghost use Rattle.vx_headline.specs.Stacks.{
+  CentersCountStacks,
+  EndedExportsAreExports,
+  KeptSheetsWereAdded,
+  StacksAreCounted,
+  StacksAreRecounted,
+};
+ghost use Rattle.vx_headline.specs.Undecided.{
+  UndecidedContestsAreExportedAsMarked,
+  UndecidedReasonsWait,
+  UntouchedContestsAreUndecided,
+};
 
-use vx_app::{fitting_sheets_are_in_their_items, runs_add_records};
+use vx_app::{fitting_sheets_are_in_their_items, runs_add_records, runs_keep_events};
 use vx_center::{added_sheets_are_alone, found_sheets_stay, same_keys_are_equal};
 use vx_command::{records_in_order, scanned_images_are_whole, taken_elections_are_valid};
 use vx_command_center::{centers_keep_their_history, scans_are_items};
@@ -13,7 +24,10 @@ use vx_command_count::{
 };
 use vx_command_export::exports_write_what_was_kept;
 use vx_cvr::{each_row_is_of_a_sheet, one_row_of_a_key};
-use vx_journal::{fronts_are_journals, journals_are_histories, journals_stay, records_are_events};
+use vx_journal::{
+    fronts_are_journals, journals_are_histories, journals_are_their_events, journals_stay,
+    records_are_events,
+};
 use vx_pbm::{images_are_whole, raw_images_join, what_is_written_reads_back};
 use vx_records::records_are_read;
 use vx_scan_model::clean_prints_fit;
@@ -73,17 +87,73 @@ pub fn undecided_reasons_wait()
     marked_pages_are_exported();
 }
 
+/// A contest of a sheet that runs counted is undecided where no kept event decides it: more isn't asked of it.
+pub fn untouched_contests_are_undecided()
+    ensures { UntouchedContestsAreUndecided }
+{
+    same_keys_are_equal();
+}
+
+/// Each sheet of a stack of pictures was counted by a `count` of their scans, which didn't break off before that
+/// sheet, over a journal that has no sheet under its key and room for it, whatever was run before and behind.
+pub fn stacks_are_counted()
+    ensures { StacksAreCounted }
+{
+    raw_images_join();
+    what_is_written_reads_back();
+}
+
+/// So it was by a `center` of which one item is the scan of the stack, where no item adds another sheet under the key
+/// and the journal has room for all events of the items.
+pub fn centers_count_stacks()
+    ensures { CentersCountStacks }
+{
+    raw_images_join();
+    what_is_written_reads_back();
+}
+
+/// So it was by two runs of `count` of the same stack, one directly behind the other, of which the first may have
+/// broken off anywhere.
+pub fn stacks_are_recounted()
+    ensures { StacksAreRecounted }
+{
+    raw_images_join();
+    what_is_written_reads_back();
+    runs_keep_events();
+    journals_are_their_events();
+}
+
+/// A sheet that the journal kept behind the earlier of some runs was added by them.
+pub fn kept_sheets_were_added()
+    ensures { KeptSheetsWereAdded }
+{}
+
+/// An `export` that ended well, behind whatever runs for its election, is one of which the headline speaks.
+pub fn ended_exports_are_exports()
+    ensures { EndedExportsAreExports }
+{}
+
 /// The two pages of a sheet as they are printed, without a mark, are a sheet that a `count` over an empty journal
 /// counted: there are sheets of which the headline speaks.
 pub fn prints_are_counted()
     ensures { PrintsAreCounted }
 {
     clean_prints_fit();
-    raw_images_join();
-    what_is_written_reads_back();
+    stacks_are_counted();
 }
 
-/// So that sheet stands in an export behind that `count`, as it was printed.
+/// So a `center` of them over an empty journal did.
+pub fn centers_count_prints()
+    ensures { CentersCountPrints }
+{
+    clean_prints_fit();
+    fitting_sheets_are_read();
+    raw_images_join();
+    what_is_written_reads_back();
+    centers_count_stacks();
+}
+
+/// That sheet stands in an export directly behind that `count`, as it was printed.
 pub fn prints_are_exported()
     ensures { PrintsAreExported }
 {

@@ -2,6 +2,7 @@
 use Rattle.std.specs.Prelude.{◌≡◌, ◌⊎◌, ℕ, List, [], ◌∷◌, Result, Ok, Err}
 use Rattle.vx_election_model.specs.declared.election.Election.{Election}
 use Rattle.vx_command.specs.declared.halt.Halt.{Halt}
+use Rattle.vx_command.specs.declared.halt.Halt.TheVariants as halt
 use Rattle.vx_command.specs.Acts.{Act, ReadJournal, Answer, Outcome, after, goes_on, work}
 use Rattle.vx_command.specs.Done.{Taken, Held, BreaksAt, IsDone}
 use Rattle.vx_journal.specs.declared.journal.Journal.{Journal}
@@ -11,6 +12,13 @@ use Rattle.vx_journal.specs.Keeping.{journal_in}
 abbrev pub GivesReading : {A : Type 0} → Result A Halt → Result A Halt → Type 0
 GivesReading (Ok given) defined = defined ≡ Ok given
 GivesReading (Err cause) defined = (defined ≡ Err cause) ⊎ BreaksAt cause (ReadJournal ∷ []) [] []
+
+-- a halt that the reading of a journal may answer
+abbrev pub IsReadingHalt : Halt → Type 0
+IsReadingHalt (halt.Journal index stop) = Unit {0}
+IsReadingHalt halt.KeeperFault = Unit {0}
+IsReadingHalt halt.NoMemory = Unit {0}
+IsReadingHalt cause = ⊥
 
 -- a command that reads its journal and goes on with it
 abbrev pub once_read : Election → List (List ℕ) → (Journal → Outcome) → Outcome

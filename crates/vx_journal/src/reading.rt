@@ -1,10 +1,10 @@
-ghost use Rattle.std.specs.Prelude.{◌≡◌, IfOk};
+ghost use Rattle.std.specs.Prelude.{◌≡◌, IfErr, IfOk};
 ghost use Rattle.std.specs.Option.{ForSome};
 ghost use Rattle.vx_command.specs.Devices.{TouchesKeeper};
 ghost use Rattle.vx_election_model.specs.Valid.{IsValid};
 ghost use Rattle.vx_journal.specs.Keeping.{journal_in};
 ghost use Rattle.vx_journal.specs.Replaying.{replay_halt};
-ghost use Rattle.vx_journal.specs.Steps.{GivesReading};
+ghost use Rattle.vx_journal.specs.Steps.{GivesReading, IsReadingHalt};
 
 use crate::fault::ReplayFault;
 use crate::journal::Journal;
@@ -16,7 +16,8 @@ use vx_io::{Keeper, KeeperError};
 
 /// Why a command halts whose journal wasn't read.
 fn halt_of_replay(fault: ReplayFault) -> Halt
-    ensures { result ≡ replay_halt fault }
+    ensures exact { result ≡ replay_halt fault }
+    ensures halts { IsReadingHalt result }
 {
     match fault {
         ReplayFault::Stopped(index, stop) => Halt::Journal(index, stop),
@@ -35,6 +36,7 @@ pub fn read_journal<'e, K: Keeper>(
     ensures told { ForSome (K.held keeper.old) (λ records.
         GivesReading result (journal_in election.now records)) }
     ensures election { IfOk result (λ journal. journal.center.election ≡ election.now) }
+    ensures halts { IfErr result IsReadingHalt }
     ensures held { K.held keeper.new ≡ K.held keeper.old }
     ensures keeper { TouchesKeeper K.Keeper keeper.old keeper.new result }
 {

@@ -2,7 +2,7 @@
 use Rattle.std.proofs.Common.{◌≡◌, ℕ, ◌+◌, ◌-◌, ◌*◌, ◌≤◌, ◌<◌, ◌⊎◌, inl, inr, length, chars, get_or, Bool, true, false, cond, not, ℤ, pos, ◌-ℤ◌, ◌≤ℤ◌, ◌<ℤ◌, ap, arith}
 use Rattle.std.proofs.lemmas.Int.{ints}
 use Rattle.vx_plane.specs.Plane.{Pixels, nowhere, rectangle, in_any}
-use Rattle.vx_plane.proofs.Pages.{in_any-some, rectangle-sides, rectangle-inside}
+use Rattle.vx_plane.proofs.Pages.{in_any-some, in_any-one, rectangle-sides, rectangle-inside}
 use Rattle.vx_grid.specs.declared.paper.Paper.{Paper}
 use Rattle.vx_grid.specs.declared.sizes.HalfSides.{HalfSides}
 use Rattle.vx_grid.specs.Paper.{last_row, first_y}
@@ -18,7 +18,7 @@ use Rattle.vx_layout.specs.declared.lines.TextLine.{TextLine}
 use Rattle.vx_layout.specs.Lines.{size_of}
 use Rattle.vx_layout.specs.Pages.{IsOnGrid}
 use Rattle.vx_layout.specs.Print.{dot_pixels, column_pixels, glyph_pixels, character_pixels, line_pixels}
-use Rattle.vx_layout.specs.Zones.{bubble_zone_of, bubble_box_of, box_zone_at, code_zones, reserved_zones, Apart}
+use Rattle.vx_layout.specs.Zones.{bubble_zone_of, bubble_box_of, box_zone_at, code_zones, reserved_zones, cell_pixels, line_cells, Apart, DotsLieInCells}
 
 -- the places of a set lie in a rectangle: from_x ≤ u < to_x and from_y ≤ v < to_y
 pub record Lies (set : Pixels) (from_x to_x from_y to_y : ℕ) : Type 0 where
@@ -86,21 +86,35 @@ lies-glyph c x y =
     lies-any 5 (column_pixels c x y) x (x + 10) y (y + 14)
     (λ column few. lies-any 7 (dot_pixels c x y column) x (x + 10) y (y + 14) (λ row low. lies-dot c x y column row few low))
 
-lies-wider : {a : Pixels} {l r t o : ℕ} (l' r' t' o' : ℕ) → Lies a l r t o → l' ≤ l → r ≤ r' → t' ≤ t → o ≤ o' → Lies a l' r' t' o'
-lies-wider l' r' t' o' lies h k m n = record {
-  left = λ u v p. omega (arith, ints, lies.left u v p);
-  right = λ u v p. omega (arith, ints, lies.right u v p);
-  above = λ u v p. omega (arith, ints, lies.above u v p);
-  below = λ u v p. omega (arith, ints, lies.below u v p);
+-- a set within another lies where that one does
+pub lies-within : {a b : Pixels} {l r t o : ℕ} → ((u v : ℤ) → a u v ≡ true → b u v ≡ true) → Lies b l r t o → Lies a l r t o
+lies-within within lies = record {
+  left = λ u v p. lies.left u v (within u v p);
+  right = λ u v p. lies.right u v (within u v p);
+  above = λ u v p. lies.above u v (within u v p);
+  below = λ u v p. lies.below u v (within u v p);
 }
 
--- the dots of a line of so many characters at most
-pub lies-line : (line : TextLine) (most : ℕ) → size_of line.text ≤ most → Lies (line_pixels line) line.x (line.x + 12 * most) line.y (line.y + 14)
-unfolding line_pixels
-lies-line line most few =
-    lies-any (length (chars line.text)) (character_pixels line) line.x (line.x + 12 * most) line.y (line.y + 14)
-    (λ i within. lies-wider line.x (line.x + 12 * most) line.y (line.y + 14)
-    (lies-glyph (get_or (chars line.text) i 0) (line.x + 12 * i) line.y) (omega arith) (omega arith) (omega arith) (omega arith))
+-- the dots of a line lie in its cells
+pub dots-in_cells : DotsLieInCells
+unfolding line_pixels line_cells
+dots-in_cells line u v h =
+    let size = length (chars line.text) in
+    let some = in_any-some size (character_pixels line) u v h in
+    let x = line.x + 12 * some.0 in
+    let dots = lies-glyph (get_or (chars line.text) some.0 0) x line.y in
+    let inside : cell_pixels line some.0 u v ≡ true =
+    rectangle-inside (pos x) (pos line.y) 12 20 u v
+    (dots.left u v some.2) (omega (arith, ints, dots.right u v some.2))
+    (dots.above u v some.2) (omega (arith, ints, dots.below u v some.2)) in
+    in_any-one size some.0 (cell_pixels line) u v some.1 inside
+
+-- the cells of a line of so many characters at most
+pub lies-cells : (line : TextLine) (most : ℕ) → size_of line.text ≤ most → Lies (line_cells line) line.x (line.x + 12 * most) line.y (line.y + 20)
+unfolding line_cells
+lies-cells line most few =
+    lies-any (length (chars line.text)) (cell_pixels line) line.x (line.x + 12 * most) line.y (line.y + 20)
+    (λ i within. lies-rectangle (line.x + 12 * i) line.y 12 20 line.x (line.x + 12 * most) line.y (line.y + 20) (omega arith) (omega arith) (omega arith) (omega arith))
 
 -- the pixels of a size round a place
 lies-round : (half : HalfSides) (x y left right above below : ℕ) → left + half.across ≤ x → x + half.across ≤ right → above + half.down ≤ y → y + half.down ≤ below → Lies (round half x y) left right above below

@@ -20,13 +20,13 @@ use Rattle.vx_layout.specs.Blocks.{HasSizes, LabelsFit, height_of, heading_rows,
 use Rattle.vx_layout.specs.Flow.{contest_at, no_contest, page_of, column_of, row_of, IsPlaced}
 use Rattle.vx_layout.specs.Pages.{IsOnGrid, NamesOption}
 use Rattle.vx_layout.specs.Plan.{bubbles_of, texts_of, on_page, foot_y, foot_line, page_plan, page_plans, IsModest}
-use Rattle.vx_layout.specs.Print.{line_pixels}
-use Rattle.vx_layout.proofs.Extents.{Lies, lies-line}
+use Rattle.vx_layout.specs.Zones.{line_cells}
+use Rattle.vx_layout.proofs.Extents.{Lies, lies-cells}
 use Rattle.vx_layout.proofs.Labels.{size-seats}
 use Rattle.vx_layout.proofs.LineSizes.{size-line, size-foot, size-label, length-block}
 use Rattle.vx_layout.proofs.Made.{All-range, All-made}
 
--- a line of a page: short, its dots in the inner region, below the reserved zones and above the page
+-- a line of a page: short, its cells in the inner region, below the reserved zones and above the page
 -- code, and beside the bubbles of each text column or below all of them
 pub record IsLaid (paper : Paper) (line : TextLine) : Type 0 where
   pub short : size_of line.text ≤ 100
@@ -34,7 +34,7 @@ pub record IsLaid (paper : Paper) (line : TextLine) : Type 0 where
   pub right : ℕ
   pub above : ℕ
   pub below : ℕ
-  pub lies : Lies (line_pixels line) left right above below
+  pub lies : Lies (line_cells line) left right above below
   pub from_left : 178 ≤ left
   pub from_right : right ≤ 1522
   pub from_reserved : y_of paper 5 + 22 ≤ above
@@ -42,21 +42,22 @@ pub record IsLaid (paper : Paper) (line : TextLine) : Type 0 where
   pub beside : (column : ℕ) → (286 + 432 * column ≤ left) ⊎ ((right ≤ 214 + 432 * column) ⊎ (foot_y paper ≤ above))
 
 -- a line of a text column
-laid-typed : (paper : Paper) (line : TextLine) (column : ℕ) → column < 3 → line.x ≡ 290 + 432 * column → y_of paper 6 ≤ line.y + 18 → line.y + 50 ≤ y_of paper (foot_row paper) → size_of line.text ≤ 29 → IsLaid paper line
-laid-typed paper line column few x low high size = record {
-  short = omega (arith, size);
-  left = line.x;
-  right = line.x + 12 * 29;
-  above = line.y;
-  below = line.y + 14;
-  lies = lies-line line 29 size;
-  from_left = omega (arith, x);
-  from_right = omega (arith, x, few);
-  from_reserved = omega (arith, low);
-  from_code = omega (arith, high, last-row_low paper);
-  beside = λ other.
-      ⊎_elim (λ less. inr (inl (omega (arith, x, less)))) (λ more. inl (omega (arith, x, more))) (cases_lt column other);
-}
+laid-typed : (paper : Paper) (column row : ℕ) (text : List ℕ) (k : ℕ) → column < 3 → 6 ≤ row → row + k / 2 < foot_row paper → IsLaid paper (placed_line paper (4 + 9 * column) row text k)
+laid-typed paper column row text k few low high =
+    let line = placed_line paper (4 + 9 * column) row text k in
+    record {
+      short = omega (arith, size-line text k);
+      left = line.x;
+      right = line.x + 12 * 29;
+      above = line.y;
+      below = line.y + 20;
+      lies = lies-cells line 29 (size-line text k);
+      from_left = omega arith;
+      from_right = omega (arith, few);
+      from_reserved = omega (arith, low, first-y_low paper);
+      from_code = omega (arith, high, first-y_low paper, last-row_low paper);
+      beside = λ other. ⊎_elim (λ less. inr (inl (omega (arith, less)))) (λ more. inl (omega (arith, more))) (cases_lt column other);
+    }
 
 -- the foot line
 laid-foot : (paper : Paper) (line : TextLine) → line.x ≡ 290 → line.y ≡ foot_y paper → size_of line.text ≤ 100 → IsLaid paper line
@@ -65,8 +66,8 @@ laid-foot paper line x y size = record {
   left = line.x;
   right = line.x + 12 * 100;
   above = line.y;
-  below = line.y + 14;
-  lies = lies-line line 100 size;
+  below = line.y + 20;
+  lies = lies-cells line 100 size;
   from_left = omega (arith, x);
   from_right = omega (arith, x);
   from_reserved = omega (arith, y, last-row_low paper);
@@ -79,8 +80,7 @@ laid-lines : (paper : Paper) (column row : ℕ) (text : List ℕ) → column < 3
 unfolding lines_at
 laid-lines paper column row text few low high =
     All-made (IsLaid paper) (placed_line paper (4 + 9 * column) row text) 0 (lines_of text) (λ k from h.
-    let last : row + k / 2 + 1 ≤ foot_row paper = omega (arith, h, high) in
-    laid-typed paper (placed_line paper (4 + 9 * column) row text k) column few (omega arith) (omega (arith, low, first-y_low paper)) (omega (arith, last, first-y_low paper)) (size-line text k))
+    laid-typed paper column row text k few (omega (arith, low)) (omega (arith, h, high)))
 
 -- the lines of a block in a text column
 laid-block : (paper : Paper) (contest : Contest) (column row : ℕ) → HasSizes contest → LabelsFit contest → column < 3 → 6 ≤ row → row + height_of contest ≤ foot_row paper → All (IsLaid paper) (block_lines paper contest (4 + 9 * column) row)

@@ -12,7 +12,7 @@ use Rattle.vx_layout.specs.declared.plan.CardPlan.{CardPlan}
 use Rattle.vx_layout.specs.Plan.{plan_of}
 use Rattle.vx_layout.specs.Print.{print_of}
 use Rattle.vx_layout.specs.Pages.{IsOnGrid}
-use Rattle.vx_layout.specs.Zones.{IsClear, AreApart}
+use Rattle.vx_layout.specs.Zones.{IsClear, ZonesMeetNoText, AreApart}
 
 -- a page that is printed: its card, its number on the card, the ballot's kind, and whether it is a
 -- test ballot's
@@ -78,3 +78,9 @@ abbrev pub PrintedKeepClear : Type 0
 PrintedKeepClear =
     (election : Election) (printed : PrintedPage) (plan : PagePlan) → IsValid election
     → IsPlanned election printed plan → KeepsClear plan
+
+-- on a printed page no zone of a bubble meets a text
+abbrev pub PrintedZonesMeetNoText : Type 0
+PrintedZonesMeetNoText =
+    (election : Election) (printed : PrintedPage) (plan : PagePlan) → IsValid election
+    → IsPlanned election printed plan → ZonesMeetNoText plan

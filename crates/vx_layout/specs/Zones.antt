@@ -1,6 +1,6 @@
 -- What has to keep clear of what on a page: this project's own geometry.
-use Rattle.std.specs.Prelude.{◌≡◌, ◌≢◌, ◌<◌, ℕ, All, length, slice_index_or, true, ℤ}
-use Rattle.vx_plane.specs.Plane.{Pixels, in_any}
+use Rattle.std.specs.Prelude.{◌≡◌, ◌≢◌, ◌<◌, ℕ, ◌+◌, ◌*◌, All, length, chars, slice_index_or, true, pos, ℤ}
+use Rattle.vx_plane.specs.Plane.{Pixels, rectangle, in_any}
 use Rattle.vx_grid.specs.declared.paper.Paper.{Paper}
 use Rattle.vx_grid.specs.Grid.{x_of, y_of}
 use Rattle.vx_grid.specs.Sizes as sizes
@@ -33,6 +33,15 @@ code_zones paper = in_any 84 (λ n. box_zone_at paper (place_of_box paper n))
 unfoldable pub reserved_zones : Paper → Pixels
 reserved_zones paper = in_any 84 (λ n. box_zone_at paper (reserved_place n))
 
+-- the cell of character i of a line, dark or blank: 12 pixels wide, and as high as the lines of a row
+-- stand apart
+abbrev pub cell_pixels : TextLine → ℕ → Pixels
+cell_pixels line i = rectangle (pos (line.x + 12 * i)) (pos line.y) 12 20
+
+-- the cells of a line
+unfoldable pub line_cells : TextLine → Pixels
+line_cells line = in_any (length (chars line.text)) (cell_pixels line)
+
 -- two sets have no place in common
 pub record Apart (a b : Pixels) : Type 0 where
   pub apart : (u v : ℤ) → a u v ≡ true → b u v ≡ true → ⊥
@@ -56,6 +65,14 @@ pub record IsClear (page : PagePlan) : Type 0 where
   pub text_from_reserved : DotsKeepClearOf page (reserved_zones page.paper)
   pub text_from_frame : DotsKeepClearOf page (frame_zone page.paper)
 
+-- the zones of bubbles meet no text: no cell of one
+pub record ZonesMeetNoText (page : PagePlan) : Type 0 where
+  pub each : All (λ (line : TextLine). ZonesKeepClearOf page (line_cells line)) page.texts
+
+-- so on every page of a plan
+abbrev pub ZonesMeetNoTextInPlan : CardPlan → Type 0
+ZonesMeetNoTextInPlan plan = All ZonesMeetNoText plan.pages
+
 -- the zone of each bubble keeps clear of the box of every other bubble of its page
 pub record AreApart (page : PagePlan) : Type 0 where
   pub each :
@@ -66,6 +83,10 @@ pub record AreApart (page : PagePlan) : Type 0 where
 -- so on every page of a plan
 abbrev pub AreApartInPlan : CardPlan → Type 0
 AreApartInPlan plan = All AreApart plan.pages
+
+-- what a line prints lies in its cells
+abbrev pub DotsLieInCells : Type 0
+DotsLieInCells = (line : TextLine) (u v : ℤ) → line_pixels line u v ≡ true → line_cells line u v ≡ true
 
 -- every page of a plan is clear
 abbrev pub IsClearPlan : CardPlan → Type 0

@@ -2,7 +2,8 @@
 
 ghost use Rattle.vx_layout.specs.Pages.{PlansAreNumbered, PlansHavePaper, PlansStandOnGrid};
 ghost use Rattle.vx_layout.specs.Plans.{PlansAreThose, PlansShowEachOption};
-ghost use Rattle.vx_layout.specs.Printed.{PagesArePlanned, PrintedHaveCodes, PrintedHavePaper, PrintedKeepClear};
+ghost use Rattle.vx_layout.specs.Printed.{PagesArePlanned, PrintedHaveCodes, PrintedHavePaper, PrintedKeepClear, PrintedZonesMeetNoText};
+ghost use Rattle.vx_layout.specs.Zones.{DotsLieInCells};
 
 use vx_code::tags_are_in_range;
 use vx_styles::cards_are_few;
@@ -54,4 +55,11 @@ pub fn planned_pages_can_be_printed()
 /// the frame.
 pub fn printed_pages_keep_clear()
     ensures { PrintedKeepClear }
+{}
+
+/// On a printed page no zone of a bubble meets a text: no cell of a character, dark or blank. What a
+/// text prints lies in its cells.
+pub fn printed_zones_meet_no_text()
+    ensures zones { PrintedZonesMeetNoText }
+    ensures dots { DotsLieInCells }
 {}

@@ -30,6 +30,7 @@ pub use fault::{CardFault, LayoutFault};
 pub use laws::{
     planned_pages_can_be_printed, plans_are_numbered, plans_have_the_elections_paper,
     plans_of_are_plans, plans_show_each_option, plans_stand_on_the_grid, printed_pages_keep_clear,
+    printed_zones_meet_no_text,
 };
 pub use lines::{TextLine, TextLines};
 pub use pages::{PagePlan, PagePlans};

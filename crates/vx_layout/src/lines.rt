@@ -1,7 +1,7 @@
 use vx_base::ListOf;
 use vx_json::Text;
 
-/// A line of text on a page. A character is a cell of 12 pixels.
+/// A line of text on a page. A character's cell is 12 pixels wide and 20 high.
 #[derive(Debug, Drop)]
 pub struct TextLine {
     /// The pixel column where the first character's cell begins.

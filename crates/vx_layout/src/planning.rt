@@ -10,7 +10,7 @@ ghost use Rattle.vx_layout.specs.Options.{ShowsEachOption, GivesEachContestAPage
 ghost use Rattle.vx_layout.specs.Pages.{IsNumbered, HasPaper, StandsOnGrid};
 ghost use Rattle.vx_layout.specs.Plan.{pages_of, plan_with, plan_checked, plan_of};
 ghost use Rattle.vx_layout.specs.Plans.{plans_of, ArePlansOf};
-ghost use Rattle.vx_layout.specs.Zones.{IsClearPlan, AreApartInPlan};
+ghost use Rattle.vx_layout.specs.Zones.{IsClearPlan, ZonesMeetNoTextInPlan, AreApartInPlan};
 
 use crate::checking::check_contests;
 use crate::counting::hollow_on;
@@ -137,8 +137,10 @@ pub fn plan_card(alloc: Global, election: &Election, card: u32) -> Result<CardPl
     // All bubbles of a contest stand on one page.
     ensures one_page { IfOk result GivesEachContestAPage }
     // No bubble's zone meets a dark dot of a text, a code box's zone, a reserved zone or the frame
-    // zone, and no dark dot of a text meets one of these three. A character's cell isn't spoken of.
+    // zone, and no dark dot of a text meets one of these three.
     ensures clear { IfOk result IsClearPlan }
+    // No bubble's zone meets a cell of a text's character, dark or blank.
+    ensures cells { IfOk result ZonesMeetNoTextInPlan }
     // No bubble's zone meets the box of another bubble of its page.
     ensures apart { IfOk result AreApartInPlan }
 {

@@ -9,7 +9,7 @@ use std::thread::Threads;
 use std::{env, fmt};
 use vx_app::{arguments_status, command_words};
 use vx_audit::{AuditMessage, AuditStatus, run_audit};
-use vx_command::{Halt, Message, Status};
+use vx_command::{Message, Status};
 use vx_command_gray::{GrayMessage, GrayStatus, run_gray};
 use vx_io::{StdInputs, StdSink, Words};
 use vx_program::{begins_with, rank_with, run_with};
@@ -20,7 +20,7 @@ fn arguments_of_line(rt: &HostRuntime) -> Result<Vec<String>, Status> {
     match env::args(rt) {
         Ok(arguments) => match arguments.collect::<Vec<String>>(rt.alloc()) {
             Ok(list) => Ok(list),
-            Err(_refused) => Err(Status::Halted(Halt::NoMemory)),
+            Err(_refused) => Err(Status::NoMemory),
         },
         Err(fault) => Err(arguments_status(fault.kind())),
     }

@@ -27,7 +27,10 @@ fn only_reads(command: &Command) -> bool
         | Command::Export { .. }
         | Command::Results { .. }
         | Command::Sample { .. }
-        | Command::Desk { .. } => true,
+        | Command::Desk { .. }
+        | Command::Summary { .. }
+        | Command::Board { .. }
+        | Command::Risk { .. } => true,
         Command::Print { .. }
         | Command::Read { .. }
         | Command::Check { .. }

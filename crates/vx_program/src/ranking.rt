@@ -2,7 +2,6 @@ ghost use Rattle.std.specs.Prelude.{◌≡◌, ◌⊎◌};
 ghost use Rattle.vx_ranked.specs.Words.{NoRanked};
 
 use crate::journal::{Place, empty_journal, file_journal, place_of};
-use vx_command::Halt;
 use vx_io::{Sink, StdInputs, StdSink, Words};
 use vx_keep_sqlite::drop_keeper;
 use vx_ranked::{RankedStatus, run_ranked};
@@ -11,7 +10,7 @@ use vx_ranked::{RankedStatus, run_ranked};
 fn rank_in_memory<S: Sink>(rt: &HostRuntime, words: &Words, out: &mut S) -> RankedStatus
     ensures usage { result ≡ RankedStatus.Usage → NoRanked words.now }
     ensures no_command { NoRanked words.now →
-        (result ≡ RankedStatus.Usage) ⊎ (result ≡ RankedStatus.Halted Halt.NoMemory) }
+        (result ≡ RankedStatus.Usage) ⊎ (result ≡ RankedStatus.NoMemory) }
 {
     let mut inputs = StdInputs::new(rt);
     let mut keeper = empty_journal(rt);
@@ -27,7 +26,7 @@ fn rank_on_file<S: Sink>(
 ) -> RankedStatus
     ensures usage { result ≡ RankedStatus.Usage → NoRanked words.now }
     ensures no_command { NoRanked words.now →
-        (result ≡ RankedStatus.Usage) ⊎ (result ≡ RankedStatus.Halted Halt.NoMemory) }
+        (result ≡ RankedStatus.Usage) ⊎ (result ≡ RankedStatus.NoMemory) }
 {
     let mut inputs = StdInputs::new(rt);
     match file_journal(rt, journal, true) {
@@ -36,7 +35,7 @@ fn rank_on_file<S: Sink>(
             drop_keeper(keeper);
             status
         }
-        Err(_refused) => RankedStatus::Halted(Halt::NoMemory),
+        Err(_refused) => RankedStatus::NoMemory,
     }
 }
 
@@ -49,7 +48,7 @@ pub fn rank_into<S: Sink>(
 ) -> RankedStatus
     ensures usage { result ≡ RankedStatus.Usage → NoRanked words.now }
     ensures no_command { NoRanked words.now →
-        (result ≡ RankedStatus.Usage) ⊎ (result ≡ RankedStatus.Halted Halt.NoMemory) }
+        (result ≡ RankedStatus.Usage) ⊎ (result ≡ RankedStatus.NoMemory) }
 {
     match place_of(rt, journal, true) {
         Place::Memory => rank_in_memory(rt, words, out),
@@ -63,7 +62,7 @@ pub fn rank_into<S: Sink>(
 pub fn rank_with(rt: &HostRuntime, journal: &str, words: &Words) -> RankedStatus
     ensures usage { result ≡ RankedStatus.Usage → NoRanked words.now }
     ensures no_command { NoRanked words.now →
-        (result ≡ RankedStatus.Usage) ⊎ (result ≡ RankedStatus.Halted Halt.NoMemory) }
+        (result ≡ RankedStatus.Usage) ⊎ (result ≡ RankedStatus.NoMemory) }
 {
     let mut out = StdSink::new(rt);
     rank_into(rt, journal, words, &mut out)

@@ -6,7 +6,7 @@ use std::alloc::Global;
 use std::sync::Wait;
 use std::thread::Threads;
 use vx_app::{commands_are_named, is_center, run, run_center};
-use vx_command::{Halt, Status};
+use vx_command::Status;
 use vx_io::{Inputs, Keeper, Sink, StdInputs, StdSink, Words};
 use vx_keep_sqlite::drop_keeper;
 use vx_workers::OpenGate;
@@ -56,7 +56,7 @@ fn run_on_file<R: Threads + Wait + Sync, S: Sink>(
 ) -> Status
     ensures usage { result ≡ Status.Usage → NoCommand words.now }
     ensures no_command { NoCommand words.now →
-        (result ≡ Status.Usage) ⊎ (result ≡ Status.Halted Halt.NoMemory) }
+        (result ≡ Status.Usage) ⊎ (result ≡ Status.NoMemory) }
 {
     let mut inputs = StdInputs::new(rt);
     match file_journal(rt, journal, only_reads) {
@@ -65,7 +65,7 @@ fn run_on_file<R: Threads + Wait + Sync, S: Sink>(
             drop_keeper(keeper);
             status
         }
-        Err(_refused) => Status::Halted(Halt::NoMemory),
+        Err(_refused) => Status::NoMemory,
     }
 }
 
@@ -80,7 +80,7 @@ fn run_at<R: Threads + Wait + Sync, S: Sink>(
 ) -> Status
     ensures usage { result ≡ Status.Usage → NoCommand words.now }
     ensures no_command { NoCommand words.now →
-        (result ≡ Status.Usage) ⊎ (result ≡ Status.Halted Halt.NoMemory) }
+        (result ≡ Status.Usage) ⊎ (result ≡ Status.NoMemory) }
 {
     match place_of(rt, journal, only_reads) {
         Place::Memory => run_in_memory(rt, threads, words, out),
@@ -100,11 +100,11 @@ pub fn run_into<R: Threads + Wait + Sync, S: Sink>(
 ) -> Status
     ensures usage { result ≡ Status.Usage → NoCommand words.now }
     ensures no_command { NoCommand words.now →
-        (result ≡ Status.Usage) ⊎ (result ≡ Status.Halted Halt.NoMemory) }
+        (result ≡ Status.Usage) ⊎ (result ≡ Status.NoMemory) }
 {
     match words_only_read(rt.alloc(), words) {
         Ok(only_reads) => run_at(rt, threads, journal, only_reads, words, out),
-        Err(_no_memory) => Status::Halted(Halt::NoMemory),
+        Err(_no_memory) => Status::NoMemory,
     }
 }
 
@@ -122,7 +122,7 @@ pub fn run_with<R: Threads + Wait + Sync>(
 ) -> Status
     ensures usage { result ≡ Status.Usage → NoCommand words.now }
     ensures no_command { NoCommand words.now →
-        (result ≡ Status.Usage) ⊎ (result ≡ Status.Halted Halt.NoMemory) }
+        (result ≡ Status.Usage) ⊎ (result ≡ Status.NoMemory) }
 {
     let mut out = StdSink::new(rt);
     run_into(rt, threads, journal, words, &mut out)

@@ -12,11 +12,9 @@ use Rattle.vx_journal.specs.declared.journal.Journal.{Journal}
 use Rattle.vx_journal.specs.Keeping.{journal_in}
 use Rattle.vx_journal.specs.Laws.{ReadLaws}
 use Rattle.vx_journal.specs.Steps.{GivesReading, once_read as command_once_read}
-use Rattle.vx_ranked.specs.declared.status.RankedStatus.{RankedStatus}
-use Rattle.vx_ranked.specs.declared.status.RankedStatus.TheVariants as status
 use Rattle.vx_ranked.specs.Done.{IsRankedDone, IsRankedWritten}
 use Rattle.vx_ranked.specs.Outcome.{RankedOutcome, as_command, goes_on, taking, once_read, writing}
-use Rattle.vx_ranked.specs.Status.{answer_of, may_have_written}
+use Rattle.vx_ranked.specs.Status.{Ended, answer_of, may_have_written}
 
 -- a `ranked` has come to the rest of its acts
 pub record Comes (whole rest : RankedOutcome) (a b : Taken) (h k : Held) : Type 0 where
@@ -24,7 +22,7 @@ pub record Comes (whole rest : RankedOutcome) (a b : Taken) (h k : Held) : Type 
   pub ends : whole.ends ≡ rest.ends
 
 -- the rest is done, so the whole is
-pub comes_done : (whole rest : RankedOutcome) (a b c : Taken) (h k l : Held) (ended : RankedStatus) → Comes whole rest a b h k
+pub comes_done : (whole rest : RankedOutcome) (a b c : Taken) (h k l : Held) (ended : Ended) → Comes whole rest a b h k
     → IsRankedDone rest b c k l ended → IsRankedDone whole a c h l ended
 comes_done whole rest a b c h k l ended comes done = record {
   acts = comes.acts c l (answer_of ended) done.acts;
@@ -33,7 +31,7 @@ comes_done whole rest a b c h k l ended comes done = record {
 
 -- it halts
 pub halts : (outcome : RankedOutcome) (a b : Taken) (h k : Held) (cause : Halt) → IsDone (as_command outcome) a b h k (Err cause)
-    → IsRankedDone outcome a b h k (status.Halted cause)
+    → IsRankedDone outcome a b h k (Err cause)
 halts outcome a b h k cause done = record { acts = done; ends = λ e. absurd cc }
 
 -- what goes on, or takes an input, does so as a command does
@@ -66,7 +64,7 @@ module _ {A : Type 0} (laws : StepLaws A) (defined : Result A Halt) (rest : A �
     ends = given_ends defined given rest is;
   }
 
-  pub not_taken : (word : ℕ) (cause : Halt) → GivesTaking word (Err cause) defined → IsRankedDone (taking word defined rest) a a h h (status.Halted cause)
+  pub not_taken : (word : ℕ) (cause : Halt) → GivesTaking word (Err cause) defined → IsRankedDone (taking word defined rest) a a h h (Err cause)
   not_taken word cause gives =
       halts (taking word defined rest) a a h h cause
       (subst (λ (o : Outcome). IsDone o a a h h (Err cause)) (sym (as_taking word defined rest)) (laws.not_taken word defined cause as_rest a gives h))
@@ -78,7 +76,7 @@ module _ {A : Type 0} (laws : StepLaws A) (defined : Result A Halt) (rest : A �
     ends = given_ends defined given rest is;
   }
 
-  pub not_given : (cause : Halt) → Gives is_no_memory (Err cause) defined → IsRankedDone (goes_on defined rest) a a h h (status.Halted cause)
+  pub not_given : (cause : Halt) → Gives is_no_memory (Err cause) defined → IsRankedDone (goes_on defined rest) a a h h (Err cause)
   not_given cause gives =
       halts (goes_on defined rest) a a h h cause
       (subst (λ (o : Outcome). IsDone o a a h h (Err cause)) (sym (as_goes defined rest)) (laws.not_given defined cause as_rest a gives h))
@@ -93,14 +91,14 @@ module _ (laws : ReadLaws) (election : Election) (records : List (List ℕ)) (re
   }
 
   pub not_read : (cause : Halt) → GivesReading (Err cause) (journal_in election records)
-      → IsRankedDone (once_read election records rest) a a h h (status.Halted cause)
+      → IsRankedDone (once_read election records rest) a a h h (Err cause)
   not_read cause gives =
       halts (once_read election records rest) a a h h cause
       (subst (λ (o : Outcome). IsDone o a a h h (Err cause)) (sym (as_read election records rest))
       (laws.not_read election records cause (λ (one : Journal). as_command (rest one)) a h gives))
 
 -- the text is written, or the sink failed, or memory ran out
-pub written : (text : List ℕ) (a b : Taken) → IsWritten (command_writing text) a b (Ok tt) → IsRankedWritten (writing text) a b status.Ok
+pub written : (text : List ℕ) (a b : Taken) → IsWritten (command_writing text) a b (Ok tt) → IsRankedWritten (writing text) a b (Ok None)
 written text a b done held = record { acts = done held; ends = λ e. refl }
 
 -- the only act of a writing
@@ -120,7 +118,7 @@ no_append text body is = absurd cc
 
 -- whatever broke off a writing, it may have written
 breaks_late : (cause : Halt) (text : List ℕ) (done left : List Act) (part : List ℕ) (records : List (List ℕ)) → BreaksAt cause left part records
-    → Write text ∷ [] ≡ done ++ left → may_have_written (status.Halted cause) ≡ true
+    → Write text ∷ [] ≡ done ++ left → may_have_written (Err cause) ≡ true
 breaks_late halt.WriteFault text done left part records breaks is = refl
 breaks_late halt.NoMemory text done left part records breaks is = refl
 breaks_late halt.ReadFault text done [] part records breaks is = absurd breaks
@@ -135,7 +133,7 @@ breaks_late halt.KeeperFault text done (Write whole ∷ acts) part records break
 breaks_late halt.KeeperFault text done (Append body ∷ acts) part records breaks is = absurd (no_append text body (only_act text done acts (Append body) is))
 breaks_late cause text done left part records breaks is = absurd breaks
 
-pub late : (text : List ℕ) (a b : Taken) (cause : Halt) → IsWritten (command_writing text) a b (Err cause) → may_have_written (status.Halted cause) ≡ true
+pub late : (text : List ℕ) (a b : Taken) (cause : Halt) → IsWritten (command_writing text) a b (Err cause) → may_have_written (Err cause) ≡ true
 late text a b cause written =
     let done : IsDone (command_writing text) a b None None (Err cause) = written None in
     elim done.ends [

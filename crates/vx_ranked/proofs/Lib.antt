@@ -8,3 +8,4 @@ pub mod Marked
 pub mod Ranked
 pub mod Whole
 pub mod Acts
+pub mod Stops

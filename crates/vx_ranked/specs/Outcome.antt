@@ -1,6 +1,6 @@
 -- What `ranked` does: it takes its election, whose cards it plans, reads its journal, takes its file of ranked contests,
 -- and writes the rounds of each group. It appends nothing.
-use Rattle.std.specs.Prelude.{ℕ, ◌++◌, ◌∷◌, [], List, Option, Result, Ok, Err}
+use Rattle.std.specs.Prelude.{ℕ, ◌++◌, ◌∷◌, [], List, Option, None, Some, Result, Ok, Err}
 use Rattle.vx_election_model.specs.declared.election.Election.{Election}
 use Rattle.vx_events.specs.declared.event.Event.{Event}
 use Rattle.vx_layout.specs.declared.plan.CardPlan.{CardPlan}
@@ -14,21 +14,19 @@ use Rattle.vx_ranked.specs.declared.fault.RankedFault.{RankedFault}
 use Rattle.vx_ranked.specs.declared.groups.Group.{Group}
 use Rattle.vx_ranked.specs.Reading.{groups_in_bytes}
 use Rattle.vx_ranked.specs.Texts.{ranked_text}
-use Rattle.vx_ranked.specs.declared.status.RankedStatus.{RankedStatus}
-use Rattle.vx_ranked.specs.declared.status.RankedStatus.TheVariants as status
-use Rattle.vx_ranked.specs.Status.{answer_of}
+use Rattle.vx_ranked.specs.Status.{Ended, answer_of}
 
--- the acts of a `ranked`, and the status behind the last of them where nothing fails
+-- the acts of a `ranked`, and what it comes to behind the last of them where nothing fails
 pub record RankedOutcome : Type 0 where
   pub acts : List Act
-  pub ends : RankedStatus
+  pub ends : Ended
 
 -- the same as that of a command
 abbrev pub as_command : RankedOutcome → Outcome
 as_command outcome = record { acts = outcome.acts; ends = answer_of outcome.ends }
 
 -- a `ranked` that ends here
-abbrev pub ended : RankedStatus → RankedOutcome
+abbrev pub ended : Ended → RankedOutcome
 ended ends = record { acts = []; ends = ends }
 
 -- acts before those of an outcome
@@ -37,12 +35,12 @@ after acts outcome = record { acts = acts ++ outcome.acts; ends = outcome.ends }
 
 -- it goes on with what it was given, or halts where it wasn't given it
 abbrev pub goes_on : {A : Type 0} → Result A Halt → (A → RankedOutcome) → RankedOutcome
-goes_on (Err cause) rest = ended (status.Halted cause)
+goes_on (Err cause) rest = ended (Err cause)
 goes_on (Ok given) rest = rest given
 
 -- it goes on with the groups of its file, or ends where the file is refused
 abbrev pub once_grouped : Result (List Group) RankedFault → (List Group → RankedOutcome) → RankedOutcome
-once_grouped (Err fault) rest = ended (status.Ranked fault)
+once_grouped (Err fault) rest = ended (Ok (Some fault))
 once_grouped (Ok groups) rest = rest groups
 
 -- it takes the input of a word and goes on with what that gives it
@@ -55,7 +53,7 @@ once_read election records rest = after (ReadJournal ∷ []) (goes_on (journal_i
 
 -- it writes the rounds of groups
 abbrev pub writing : List ℕ → RankedOutcome
-writing text = after (Write text ∷ []) (ended status.Ok)
+writing text = after (Write text ∷ []) (ended (Ok None))
 
 -- the file of ranked contests is read against the election and the plans of its cards, and the rounds of its groups are
 -- written by the kept events

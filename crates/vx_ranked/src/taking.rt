@@ -1,4 +1,4 @@
-ghost use Rattle.std.specs.Prelude.{◌≡◌, ◌∷◌, [], false, is_ok};
+ghost use Rattle.std.specs.Prelude.{◌≡◌, ◌∷◌, [], false, is_ok, IfErr};
 ghost use Rattle.std.specs.Option.{ForSome};
 ghost use Rattle.vx_election_model.specs.Valid.{IsValid};
 ghost use Rattle.vx_layout.specs.Plans.{ArePlansOf};
@@ -6,7 +6,7 @@ ghost use Rattle.vx_command.specs.Asking.{Asks};
 ghost use Rattle.vx_command.specs.Devices.{LeavesDevices, TouchesInputsAndSink};
 ghost use Rattle.vx_ranked.specs.Done.{IsRankedDone, IsRankedWritten};
 ghost use Rattle.vx_ranked.specs.Outcome.{file_outcome, journal_outcome, planned_outcome, ranked_outcome};
-ghost use Rattle.vx_ranked.specs.Status.{may_have_written, status_of};
+ghost use Rattle.vx_ranked.specs.Status.{may_have_written, IsStop};
 
 use crate::fault::RankedFault;
 use crate::writing::write_rounds;
@@ -36,8 +36,9 @@ fn rank_file<I: Inputs, S: Sink>(
     requires same { center.now.election ≡ election.now }
     ensures done { ForSome (I.held inputs.old) (λ files.
         IsRankedWritten (file_outcome election.now plans.now center.now.events (files ranked.now))
-        (S.taken out.old) (S.taken out.new) (status_of result)) }
-    ensures nothing_written { may_have_written (status_of result) ≡ false → S.taken out.new ≡ S.taken out.old }
+        (S.taken out.old) (S.taken out.new) result) }
+    ensures stops { IfErr result IsStop }
+    ensures nothing_written { may_have_written result ≡ false → S.taken out.new ≡ S.taken out.old }
     ensures devices { TouchesInputsAndSink I.Inputs S.Sink inputs.old inputs.new out.old out.new result }
     ensures asked { Asks I.Inputs (ranked.now ∷ []) inputs.old inputs.new (is_ok result) }
 {
@@ -61,8 +62,9 @@ fn rank_journal<I: Inputs, S: Sink, K: Keeper>(
     requires plans { ArePlansOf election.now plans.now }
     ensures done { ForSome (I.held inputs.old) (λ files. ForSome (K.held keeper.old) (λ records.
         IsRankedDone (journal_outcome election.now plans.now (files ranked.now) records)
-        (S.taken out.old) (S.taken out.new) (K.held keeper.old) (K.held keeper.new) (status_of result))) }
-    ensures nothing_written { may_have_written (status_of result) ≡ false → S.taken out.new ≡ S.taken out.old }
+        (S.taken out.old) (S.taken out.new) (K.held keeper.old) (K.held keeper.new) result)) }
+    ensures stops { IfErr result IsStop }
+    ensures nothing_written { may_have_written result ≡ false → S.taken out.new ≡ S.taken out.old }
     ensures held { K.held keeper.new ≡ K.held keeper.old }
     ensures devices { LeavesDevices I.Inputs S.Sink K.Keeper inputs.old inputs.new out.old out.new
         keeper.old keeper.new result }
@@ -88,8 +90,9 @@ fn rank_planned<I: Inputs, S: Sink, K: Keeper>(
     requires { IsValid election.now }
     ensures done { ForSome (I.held inputs.old) (λ files. ForSome (K.held keeper.old) (λ records.
         IsRankedDone (planned_outcome election.now (files ranked.now) records)
-        (S.taken out.old) (S.taken out.new) (K.held keeper.old) (K.held keeper.new) (status_of result))) }
-    ensures nothing_written { may_have_written (status_of result) ≡ false → S.taken out.new ≡ S.taken out.old }
+        (S.taken out.old) (S.taken out.new) (K.held keeper.old) (K.held keeper.new) result)) }
+    ensures stops { IfErr result IsStop }
+    ensures nothing_written { may_have_written result ≡ false → S.taken out.new ≡ S.taken out.old }
     ensures held { K.held keeper.new ≡ K.held keeper.old }
     ensures devices { LeavesDevices I.Inputs S.Sink K.Keeper inputs.old inputs.new out.old out.new
         keeper.old keeper.new result }
@@ -115,8 +118,9 @@ pub(crate) fn rank<I: Inputs, S: Sink, K: Keeper>(
 ) -> Result<Option<RankedFault>, Halt>
     ensures done { ForSome (I.held inputs.old) (λ files. ForSome (K.held keeper.old) (λ records.
         IsRankedDone (ranked_outcome election.now ranked.now files records)
-        (S.taken out.old) (S.taken out.new) (K.held keeper.old) (K.held keeper.new) (status_of result))) }
-    ensures nothing_written { may_have_written (status_of result) ≡ false → S.taken out.new ≡ S.taken out.old }
+        (S.taken out.old) (S.taken out.new) (K.held keeper.old) (K.held keeper.new) result)) }
+    ensures stops { IfErr result IsStop }
+    ensures nothing_written { may_have_written result ≡ false → S.taken out.new ≡ S.taken out.old }
     ensures held { K.held keeper.new ≡ K.held keeper.old }
     ensures devices { LeavesDevices I.Inputs S.Sink K.Keeper inputs.old inputs.new out.old out.new
         keeper.old keeper.new result }

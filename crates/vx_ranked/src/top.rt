@@ -4,7 +4,7 @@ ghost use Rattle.vx_command.specs.Asking.{Asks};
 ghost use Rattle.vx_command.specs.Devices.{LeavesDevices};
 ghost use Rattle.vx_ranked.specs.Done.{IsRankedDone};
 ghost use Rattle.vx_ranked.specs.Outcome.{ranked_outcome};
-ghost use Rattle.vx_ranked.specs.Status.{answer_of, may_have_written};
+ghost use Rattle.vx_ranked.specs.Status.{ended_of, may_have_written};
 ghost use Rattle.vx_ranked.specs.Words.{NoRanked, SpellsRanked};
 
 use crate::status::{RankedStatus, status_of};
@@ -35,14 +35,15 @@ pub fn run_ranked<I: Inputs, S: Sink, K: Keeper>(
         (records : List (List ℕ)) → K.held keeper.old ≡ Some records →
         (election ranked : List ℕ) → SpellsRanked words.now election ranked →
         IsRankedDone (ranked_outcome election ranked files records)
-        (S.taken out.old) (S.taken out.new) (K.held keeper.old) (K.held keeper.new) result }
+        (S.taken out.old) (S.taken out.new) (K.held keeper.old) (K.held keeper.new) (ended_of result) }
     // Of inputs and keepers that don't tell, too.
-    ensures nothing_written { may_have_written result ≡ false → S.taken out.new ≡ S.taken out.old }
+    ensures nothing_written { may_have_written (ended_of result) ≡ false → S.taken out.new ≡ S.taken out.old }
     ensures nothing_appended { K.held keeper.new ≡ K.held keeper.old }
     ensures devices { LeavesDevices I.Inputs S.Sink K.Keeper inputs.old inputs.new out.old out.new
-        keeper.old keeper.new (answer_of result) }
+        keeper.old keeper.new (ended_of result) }
     ensures asked { (election ranked : List ℕ) → SpellsRanked words.now election ranked →
-        Asks I.Inputs (election ∷ ranked ∷ []) inputs.old inputs.new (is_ok (answer_of result)) }
+        Asks I.Inputs (election ∷ ranked ∷ []) inputs.old inputs.new (is_ok (ended_of result)) }
+    ensures usage_writes_nothing { result ≡ RankedStatus.Usage → S.taken out.new ≡ S.taken out.old }
     ensures usage_asks_nothing { result ≡ RankedStatus.Usage → Asks I.Inputs [] inputs.old inputs.new true }
 {
     asks_in_order::<I>();

@@ -1,4 +1,4 @@
-ghost use Rattle.std.specs.Prelude.{◌≡◌, false, All, Ok};
+ghost use Rattle.std.specs.Prelude.{◌≡◌, false, All, Ok, IfErr};
 ghost use Rattle.vx_base.specs.Refusals.{Gives};
 ghost use Rattle.vx_election_model.specs.Valid.{IsValid};
 ghost use Rattle.vx_layout.specs.Plans.{ArePlansOf};
@@ -10,7 +10,7 @@ ghost use Rattle.vx_ranked.specs.Groups.{IsGroup};
 ghost use Rattle.vx_ranked.specs.Texts.{ranked_text};
 ghost use Rattle.vx_ranked.specs.Done.{IsRankedWritten};
 ghost use Rattle.vx_ranked.specs.Outcome.{groups_outcome};
-ghost use Rattle.vx_ranked.specs.Status.{may_have_written, status_of};
+ghost use Rattle.vx_ranked.specs.Status.{may_have_written, IsStop};
 
 use crate::fault::RankedFault;
 use crate::groups::{Group, drop_groups};
@@ -77,8 +77,9 @@ pub(crate) fn write_rounds<S: Sink>(
     requires plans { ArePlansOf election.now plans.now }
     requires same { center.now.election ≡ election.now }
     ensures done { IsRankedWritten (groups_outcome election.now plans.now center.now.events bytes.now)
-        (S.taken out.old) (S.taken out.new) (status_of result) }
-    ensures nothing_written { may_have_written (status_of result) ≡ false → S.taken out.new ≡ S.taken out.old }
+        (S.taken out.old) (S.taken out.new) result }
+    ensures stops { IfErr result IsStop }
+    ensures nothing_written { may_have_written result ≡ false → S.taken out.new ≡ S.taken out.old }
     ensures sink { TouchesSink S.Sink out.old out.new result }
 {
     acts_in_order();

@@ -14,5 +14,8 @@ pub mod Records
 pub mod Whole
 pub mod Sums
 pub mod Known
+pub mod Defined
+pub mod Journaled
+pub mod Worded
 pub mod Written
 pub mod Utf8

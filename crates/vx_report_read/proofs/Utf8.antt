@@ -1,6 +1,7 @@
 -- A report whose texts are UTF-8 is.
 use Rattle.std.proofs.Common.{◌≡◌, ℕ, zero, suc, Bool, true, false, List, [], ◌∷◌, ◌++◌, refl, decimal, IsUtf8}
 use Rattle.std.specs.List.{AllByRecursion}
+use Rattle.std.specs.Str.{is_utf8}
 use Rattle.std.proofs.lemmas.Fmt.{IsAscii-decimal}
 use Rattle.std.proofs.lemmas.Str.{IsUtf8-append, IsUtf8-nil, IsUtf8-from_ascii, is_utf8-from_IsUtf8}
 use Rattle.json.specs.Print.{quoted}
@@ -8,13 +9,20 @@ use Rattle.json.proofs.Printed.Utf8.{are_ascii, IsUtf8-are_ascii, IsUtf8-quoted,
 use Rattle.serde_json.specs.Data.{Num, unsigned, negative, float, Data, null, boolean, number, string, array, object, Items, no_items, item, Members, no_members, member}
 use Rattle.serde_json.specs.Written.{number_text, comma_if, compact_text, items_text, members_text}
 use Rattle.vx_base.proofs.Booleans.{and-left, and-right}
+use Rattle.vx_json_trip.specs.Strings.{StringsAreUtf8}
 use Rattle.vx_json_trip.specs.Trips.{names}
 use Rattle.vx_election_model.specs.declared.contest.Contest.{Contest}
 use Rattle.vx_election_model.specs.declared.election.Election.{Election}
 use Rattle.vx_election_model.specs.declared.named.Named.{Named}
+use Rattle.vx_election_model.specs.Valid.{IsValid}
+use Rattle.vx_events.specs.declared.event.Event.{Event}
+use Rattle.vx_records.specs.Laws.{RecordsAreRead}
+use Rattle.vx_center.specs.Histories.{IsHistory}
+use Rattle.vx_command.specs.Laws.{TakenElectionsAreValid}
+use Rattle.vx_journal.specs.Laws.{JournalsAreHistories}
 use Rattle.vx_cvr.specs.Rows.{rows_of}
 use Rattle.vx_cvr.specs.Report.{report_over, report_of}
-use Rattle.vx_report_read.specs.Texts.{IsUtf8Choice, IsUtf8Contest, IsUtf8Election, ReportsAreUtf8}
+use Rattle.vx_report_read.specs.Texts.{AreUtf8, IsUtf8Choice, IsUtf8Contest, IsUtf8Election, JournalsAreUtf8, ReportsAreUtf8}
 use Rattle.vx_report_read.proofs.Each.{each-all, each-weaker, each-both}
 use Rattle.vx_results.specs.Fitting.{IsRow}
 use Rattle.vx_results.specs.Laws.{RowsFit}
@@ -22,6 +30,9 @@ use Rattle.vx_report_read.proofs.Known.{TextsHave, NamesHave, election-has, row-
 use Rattle.vx_report_read.proofs.Parts.{IsKnown, ChoiceHas, RowHas, report-sound}
 use Rattle.vx_report_read.proofs.Sound.{are_ordered, are_plain, IsUnsigned, IsSound, AreSound, MembersAreSound}
 use Rattle.vx_report_read.proofs.Written.{rows-words}
+use Rattle.vx_report_read.proofs.Defined.{defined-utf8, taken-defined}
+use Rattle.vx_report_read.proofs.Journaled.{journaled-utf8}
+use Rattle.vx_report_read.proofs.Worded.{device-utf8, moment-utf8}
 
 number-utf8 : (k : Num) → IsUnsigned k → IsUtf8 (number_text k)
 number-utf8 (unsigned n) h = IsUtf8-from_ascii (decimal n) (IsAscii-decimal n h)
@@ -77,13 +88,28 @@ texts-utf8 election are = record {
       (λ contest is. (is.0, each-all IsUtf8Choice contest.choices is.1)) (each-all IsUtf8Contest election.contests are.contests);
 }
 
-pub report-utf8 : RowsFit → ReportsAreUtf8
+history-utf8 : RowsFit → (election : Election) (kept : List Event) (moment id : List ℕ) → IsValid election → IsHistory election kept → AreUtf8 election kept → IsUtf8 moment → IsUtf8 id
+    → is_utf8 (report_of election kept moment id) ≡ true
 unfolding report_of
-report-utf8 fit election kept moment id valid history texts written at by =
+history-utf8 fit election kept moment id valid history are at by =
     let rows = rows_of election kept in
     let have = each-both (IsRow election) (NamesHave IsUtf8) (RowHas IsUtf8 election) rows (λ row is names. row-has IsUtf8 known election row valid is names)
-    (fit election kept valid history).each (rows-words IsUtf8 election kept history written) in
-    let sound = report-sound IsUtf8 known election rows moment id (election-has IsUtf8 known election valid (texts-utf8 election texts)) have at by in
+    (fit election kept valid history).each (rows-words IsUtf8 election kept history are.names) in
+    let sound = report-sound IsUtf8 known election rows moment id (election-has IsUtf8 known election valid (texts-utf8 election are.texts)) have at by in
     let value = report_over election rows moment id in
     is_utf8-from_IsUtf8 (compact_text value ++ 10 ∷ [])
     (IsUtf8-append (compact_text value) (10 ∷ []) (text-utf8 value 12 sound) (IsUtf8-are_ascii (10 ∷ []) refl))
+
+-- the texts of an election that a command takes, and of a journal
+pub journal-utf8 : StringsAreUtf8 → RecordsAreRead → JournalsAreUtf8
+journal-utf8 strings records election kept of =
+    let defined = taken-defined of.file election of.is_taken in
+    record {
+      texts = defined-utf8 strings defined.0 election defined.1;
+      names = journaled-utf8 records election of.records kept of.are_kept;
+    }
+
+pub report-utf8 : JournalsAreUtf8 → TakenElectionsAreValid → JournalsAreHistories → RowsFit → ReportsAreUtf8
+report-utf8 utf8 valid history fit election kept moment device of words =
+    history-utf8 fit election kept moment device (valid of.file election of.is_taken) (history election of.records kept of.are_kept) (utf8 election kept of)
+    (moment-utf8 moment words.is_moment) (device-utf8 words.word device words.is_named)

@@ -1,5 +1,5 @@
 -- What was exported is read, as what the report of a history says.
-use Rattle.std.specs.Prelude.{◌≡◌, ℕ, true, List, map, Ok, Some}
+use Rattle.std.specs.Prelude.{◌≡◌, ℕ, if◌then◌else◌, List, map, Err, Ok, Some}
 use Rattle.std.specs.List.{flat_map}
 use Rattle.std.specs.Str.{is_utf8}
 use Rattle.serde_json.specs.Read.{read}
@@ -12,10 +12,12 @@ use Rattle.vx_center.specs.Histories.{IsHistory}
 use Rattle.vx_cvr.specs.Votes.{candidate_of, votes_of}
 use Rattle.vx_cvr.specs.Rows as cvr
 use Rattle.vx_cvr.specs.Report.{voted_for, report_over, report_of}
+use Rattle.vx_tally.specs.declared.fault.ReportFault.TheVariants.{NotJson}
 use Rattle.vx_tally.specs.declared.report.Report.{Report}
 use Rattle.vx_tally.specs.Reading.{report_in_bytes}
 use Rattle.vx_tally.specs.Totals as totals
 use Rattle.vx_results.specs.Report.{contest_at, report_of_events, unit_of}
+use Rattle.vx_report_read.specs.Texts.{AreOfJournal, AreOfWords}
 
 -- the report of a history is read back as the value that it was written from
 abbrev pub ReportsAreReadBack : Type 0
@@ -23,13 +25,18 @@ ReportsAreReadBack =
     (election : Election) (kept : List Event) (moment id : List ℕ) → IsValid election → IsHistory election kept
     → read (report_of election kept moment id) ≡ Some (report_over election (cvr.rows_of election kept) moment id)
 
--- the report of a history is read, as what it says. That its bytes are UTF-8 is asked, since neither what a valid
--- election is nor what a history is says it of titles and names: `specs/Texts.antt`
+-- the report of a history is read as what it says, or as no JSON where its bytes aren't UTF-8
+abbrev pub HistoriesAreRead : Type 0
+HistoriesAreRead =
+    (election : Election) (kept : List Event) (moment id : List ℕ) → IsValid election → IsHistory election kept
+    → report_in_bytes (report_of election kept moment id)
+    ≡ (if is_utf8 (report_of election kept moment id) then Ok (report_of_events election kept) else Err NotJson)
+
+-- what `export` writes of a journal is read as what it says
 abbrev pub ReportsAreRead : Type 0
 ReportsAreRead =
-    (election : Election) (kept : List Event) (moment id : List ℕ) → IsValid election → IsHistory election kept
-    → is_utf8 (report_of election kept moment id) ≡ true
-    → report_in_bytes (report_of election kept moment id) ≡ Ok (report_of_events election kept)
+    (election : Election) (kept : List Event) (moment device : List ℕ) → AreOfJournal election kept → AreOfWords moment device
+    → report_in_bytes (report_of election kept moment device) ≡ Ok (report_of_events election kept)
 
 -- the row of a selected option
 abbrev pub exported_vote : Election → ExportSheet → Final → ℕ → totals.Row

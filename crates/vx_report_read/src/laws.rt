@@ -1,13 +1,17 @@
 ghost use Rattle.vx_report_read.specs.Exported.{
+  HistoriesAreRead,
   ReportsAreRead,
   ReportsAreReadBack,
   RowsAreTheExported,
 };
-ghost use Rattle.vx_report_read.specs.Texts.{ReportsAreUtf8};
+ghost use Rattle.vx_report_read.specs.Texts.{JournalsAreUtf8, ReportsAreUtf8};
 ghost use Rattle.vx_report_read.specs.Totals.{TotalsAreTheExported};
 
 use vx_center::{exports_show_what_was_kept, sheets_have_own_keys};
-use vx_json_trip::lines_are_read_back;
+use vx_command::taken_elections_are_valid;
+use vx_journal::journals_are_histories;
+use vx_json_trip::{lines_are_read_back, strings_are_utf8};
+use vx_records::records_are_read;
 use vx_results::rows_fit;
 use vx_styles::each_card_has_its_precinct;
 
@@ -19,19 +23,28 @@ pub fn reports_are_read_back()
     rows_fit();
 }
 
-/// The report of a history is UTF-8, where the texts of the election are, the words that were written
-/// into slots, the moment and the device's id. Each of them is a `Text` or a `str` at run time, and so
-/// is UTF-8 by its type; that a valid election or a history has no other isn't said by what they are.
+/// The texts of an election that a command takes are UTF-8, and so are the words that a journal keeps.
+pub fn journals_are_utf8()
+    ensures { JournalsAreUtf8 }
+{
+    strings_are_utf8();
+    records_are_read();
+}
+
+/// The report that `export` writes of a journal is UTF-8.
 pub fn reports_are_utf8()
     ensures { ReportsAreUtf8 }
 {
+    journals_are_utf8();
+    taken_elections_are_valid();
+    journals_are_histories();
     rows_fit();
 }
 
-/// The report of a history is read, where its bytes are UTF-8: as its units, its contests with their
-/// selections, and a record for each of the history's sheets.
-pub fn reports_are_read()
-    ensures { ReportsAreRead }
+/// The report of a history is read as its units, its contests with their selections, and a record for
+/// each of the history's sheets; or, where its bytes aren't UTF-8, as no JSON.
+pub fn histories_are_read()
+    ensures { HistoriesAreRead }
 {
     reports_are_read_back();
     rows_fit();
@@ -39,12 +52,22 @@ pub fn reports_are_read()
     sheets_have_own_keys();
 }
 
+/// The report that `export` writes of a journal is read so.
+pub fn reports_are_read()
+    ensures { ReportsAreRead }
+{
+    histories_are_read();
+    reports_are_utf8();
+    taken_elections_are_valid();
+    journals_are_histories();
+}
+
 /// The rows of what it is read as are the exported selections of the history's sheets, with their
 /// votes.
 pub fn rows_are_the_exported()
     ensures { RowsAreTheExported }
 {
-    reports_are_read();
+    histories_are_read();
 }
 
 /// The totals of what it is read as are the sums over the exported contests of the sheets that were

@@ -55,7 +55,7 @@ module _ (election : Election) (blank : Bool) (decided : List Decided) where
           absurd cc
 
 -- those of one sheet
-sheet-parts : (election : Election) (kept : List Event) (added : Added)
+pub sheet-parts : (election : Election) (kept : List Event) (added : Added)
     → contests_on added ≡ length (waiting_on election kept added) + contests_exported (row_of election kept added)
 sheet-parts election kept added = one-or-other election (is_blank_sheet added.sheet) (decided_of kept added.key) added.sheet.contests
 

@@ -101,7 +101,7 @@ read-below election marks read = by (slice_get election.contests marks.contest) 
     by (Some contest) there fits = slice_get_within election.contests marks.contest contest there
 
 -- a sheet that fits has at most 500 contests
-sheet-few : (election : Election) (sheet : SheetMarks) → IsValid election → is_sheet election sheet ≡ true → length sheet.contests ≤ 500
+pub sheet-few : (election : Election) (sheet : SheetMarks) → IsValid election → is_sheet election sheet ≡ true → length sheet.contests ≤ 500
 sheet-few election sheet valid fits =
     omega (
       arith,

@@ -116,7 +116,7 @@ sheet-ascends election sheet fits =
     and-right (sheet_head election sheet) (is_ascending (contests_of sheet.contests))
     (and-left (sheet_head election sheet && is_ascending (contests_of sheet.contests)) (list_all (is_read election) sheet.contests) fits)
 
-added-row : (election : Election) (kept : List Event) → IsValid election → IsHistory election kept → (added : Added) → IsAdded election added
+pub added-row : (election : Election) (kept : List Event) → IsValid election → IsHistory election kept → (added : Added) → IsAdded election added
     → IsRow election (row_of election kept added)
 added-row election kept valid history added is = record {
   key = is.0;

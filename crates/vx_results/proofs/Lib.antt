@@ -6,4 +6,13 @@ pub mod Few
 pub mod Sized
 pub mod Counts
 pub mod Precincts
+pub mod Texts
+pub mod Searching
+pub mod Adds
+pub mod Figured
+pub mod Seen
+pub mod Walked
+pub mod Told
+pub mod AddsUp
 mod Written
+pub mod Handed

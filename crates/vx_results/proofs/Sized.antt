@@ -51,7 +51,7 @@ module _ (election : Election) (valid : IsValid election) where
       (λ contest is. omega (arith, options-few (length election.parties) (length election.districts) contest is))
       (each-all IsOne election.contests valid.contests.each))
 
-  contests-few : All HasFew (map contest_of election.contests)
+  pub contests-few : All HasFew (map contest_of election.contests)
   contests-few =
       all-each HasFew (map contest_of election.contests)
       (each-map HasFew contest_of election.contests
@@ -107,7 +107,7 @@ module _ (election : Election) (valid : IsValid election) where
         options-few (length election.parties) (length election.districts) (contest_at election final) one,
       )
 
-  record-countable : (row : ExportSheet) → IsRow election row → IsCountable (record_of election row)
+  pub record-countable : (row : ExportSheet) → IsRow election row → IsCountable (record_of election row)
   record-countable row is = record {
     size = omega (arith, sizes, length-mapped (counted_in election) row.finals, is.few);
     small =

@@ -3,6 +3,16 @@ pub mod Fitting
 pub mod Laws
 pub mod Waiting
 pub mod Results
+pub mod Firsts
+pub mod Sums
+pub mod Kinds
+pub mod Groups
+pub mod Named
+pub mod Figures
+pub mod Summary
+pub mod Counted
+pub mod Frame
+pub mod SummaryLaws
 pub mod Outcome
 pub mod Written
 pub mod Sampling

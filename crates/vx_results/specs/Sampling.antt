@@ -12,7 +12,8 @@ use Rattle.vx_audit.specs.Hand.{hand_of}
 use Rattle.vx_audit.specs.Sample.{sample_of}
 use Rattle.vx_command.specs.declared.halt.Halt.{Halt}
 use Rattle.vx_command.specs.declared.halt.Halt.TheVariants as halt
-use Rattle.vx_command.specs.Acts.{Outcome, goes_on, input_limit, once_taken, writing}
+use Rattle.vx_base.specs.Results.{◌>>=◌}
+use Rattle.vx_command.specs.Acts.{Outcome, goes_on, input_limit, input_of, once_taken, writing}
 use Rattle.vx_command.specs.Elections.{once_election}
 use Rattle.vx_journal.specs.declared.journal.Journal.{Journal}
 use Rattle.vx_journal.specs.Steps.{once_read}
@@ -28,6 +29,10 @@ hand_halt OutOfMemory = halt.NoMemory
 abbrev pub read_hand : Result (List HandLine) HandFault → Result (List HandLine) Halt
 read_hand (Ok lines) = Ok lines
 read_hand (Err fault) = Err (hand_halt fault)
+
+-- what hands read of a report, in the input of word 4, or why a command that needs it halts
+abbrev pub hand_in : Report → Option (List ℕ) → Result (List HandLine) Halt
+hand_in report file = input_of 4 input_limit file >>= (λ bytes. read_hand (hand_of report bytes))
 
 module _ (seed : List ℕ) (size : ℕ) where
   -- the comparison of what hands read with the records of a report that the seed draws

@@ -6,7 +6,11 @@
 //! `specs/Results.antt`. What the rows of a history have is a law of `specs/Fitting.antt`.
 //!
 //! `results` does the command of that name: what it does is `results_outcome` in `specs/Outcome.antt`, and that
-//! what it writes are the results of exactly the kept events is the law of `specs/Written.antt`. `sample` draws
+//! what it writes are the results of exactly the kept events is the law of `specs/Written.antt`. `summary` writes
+//! every figure of a results report as lines, `summary_text` in `specs/Summary.antt`: the figures are defined in
+//! `specs/Figures.antt` over the sheets in the order of adding, the kinds of ballots in `specs/Kinds.antt` and the
+//! names that were written in in `specs/Named.antt`. What is kept while the sheets are walked over, each once, is
+//! said by `specs/Counted.antt`, and what the counts come to by the laws of `specs/SummaryLaws.antt`. `sample` draws
 //! records of a journal by a seed and compares each with what hands read: `sample_outcome` in
 //! `specs/Sampling.antt`, which is `audit` over what the report of the journal's events says. What is drawn, read
 //! and compared stands in `vx_audit`. Neither appends anything.
@@ -14,19 +18,32 @@
 
 mod comparing;
 mod contests;
+mod group_lines;
+mod groups;
 mod kept_results;
+mod kinds;
 mod laws;
+mod named;
+mod piles;
 mod reading;
 mod records;
 mod report;
 mod sampling;
+mod standing;
+mod summarizing;
+mod summary_laws;
+mod summing;
+mod sums;
 mod telling;
+mod text_lines;
 mod waiting;
 mod writing;
 
-pub use kept_results::results_are_of_what_was_kept;
+pub use kept_results::{results_are_of_what_was_kept, summary_is_of_what_was_kept};
 pub use laws::rows_fit;
+pub use reading::take_hand;
 pub use report::journal_report;
-pub use sampling::sample;
+pub use sampling::{sample, seed_of};
+pub use summary_laws::{empty_summary, summary_adds_up};
 pub use telling::results_text;
-pub use writing::results;
+pub use writing::{results, summary};

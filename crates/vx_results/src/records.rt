@@ -93,7 +93,7 @@ fn unique(alloc: Global, key: &Key) -> Result<Text, OutOfMemory>
 }
 
 /// The place of the unit of a card, whose precinct's stands behind that of all of the election.
-fn unit_of(election: &Election, cards: &[Card], number: u32) -> u32
+pub(crate) fn unit_of(election: &Election, cards: &[Card], number: u32) -> u32
     requires valid { IsValid election.now }
     requires cards { cards.now ≡ cards_of election.now }
     ensures { result ≡ spec.unit_at election.now number }
@@ -104,7 +104,7 @@ fn unit_of(election: &Election, cards: &[Card], number: u32) -> u32
 }
 
 /// The record of a row; `cards` are the election's.
-fn record_of(
+pub(crate) fn record_of(
     alloc: Global,
     election: &Election,
     cards: &[Card],

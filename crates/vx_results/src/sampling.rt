@@ -10,14 +10,13 @@ ghost use Rattle.vx_results.specs.Report.{report_of_events};
 ghost use Rattle.vx_words.specs.Samples.{IsSeed, seed_bytes};
 ghost use Rattle.vx_results.specs.Sampling.{hand_outcome, journal_outcome, sample_outcome};
 
-use crate::reading::compare_bytes;
+use crate::comparing::write_sample;
+use crate::reading::take_hand;
 use crate::report::journal_report;
 use std::alloc::Global;
-use vx_base::Bytes;
+use vx_audit::{Hand, drop_hand};
 use vx_center::Center;
-use vx_command::{
-    Halt, INPUT_LIMIT, acts_in_order, asks_in_order, steps_in_order, take_election, take_input,
-};
+use vx_command::{Halt, acts_in_order, asks_in_order, steps_in_order, take_election};
 use vx_election_model::{Election, drop_election};
 use vx_io::{Inputs, Keeper, Sink};
 use vx_journal::{drop_journal, journals_in_order, read_journal};
@@ -25,7 +24,7 @@ use vx_tally::{Report, drop_report};
 use vx_words::sample_seed;
 
 /// Takes what hands read of a report under its name, which is word 4, and writes the comparison.
-fn take_hand<I: Inputs, S: Sink>(
+fn sample_report<I: Inputs, S: Sink>(
     alloc: Global,
     report: &Report,
     seed: [u8; 32],
@@ -42,9 +41,11 @@ fn take_hand<I: Inputs, S: Sink>(
     ensures asked { Asks I.Inputs (hand.now ∷ []) inputs.old inputs.new (is_ok result) }
 {
     asks_in_order::<I>();
-    steps_in_order::<Bytes>();
-    let bytes = take_input(Bytes::new(alloc), inputs, hand, 4, INPUT_LIMIT)?;
-    compare_bytes(alloc, report, seed, size, bytes.as_slice(), out)
+    steps_in_order::<Hand>();
+    let lines = take_hand(alloc, report, hand, inputs)?;
+    let done = write_sample(alloc, report, &lines, seed, size, out);
+    drop_hand(lines);
+    done
 }
 
 /// Makes the report of a journal's events, takes what hands read of it, and writes the comparison.
@@ -70,7 +71,7 @@ fn sample_events<I: Inputs, S: Sink>(
     asks_in_order::<I>();
     acts_in_order();
     let report = journal_report(alloc, election, center)?;
-    let done = take_hand(alloc, &report, seed, size, hand, inputs, out);
+    let done = sample_report(alloc, &report, seed, size, hand, inputs, out);
     drop_report(report);
     done
 }
@@ -105,8 +106,8 @@ fn sample_journal<I: Inputs, S: Sink, K: Keeper>(
     done
 }
 
-/// The bytes of a seed's word.
-fn bytes_of(seed: &str) -> [u8; 32]
+/// The bytes of a seed's word, 64 hexadecimal digits in lower case.
+pub fn seed_of(seed: &str) -> [u8; 32]
     requires { IsSeed seed.now (seed_bytes seed.now) }
     ensures { result ≡ seed_bytes seed.now }
 {
@@ -142,7 +143,7 @@ pub fn sample<I: Inputs, S: Sink, K: Keeper>(
 {
     asks_in_order::<I>();
     steps_in_order::<Election>();
-    let bytes = bytes_of(seed);
+    let bytes = seed_of(seed);
     let given = take_election(alloc, inputs, election)?;
     let done = sample_journal(alloc, &given, bytes, size, hand, inputs, out, keeper);
     drop_election(given);

@@ -1,6 +1,6 @@
 //! The text of the results of a count.
 
-ghost use Rattle.std.specs.Prelude.{◌≡◌, ◌++◌, IfOk, OnOk, length, string_bytes};
+ghost use Rattle.std.specs.Prelude.{◌≡◌, IfOk, length, string_bytes};
 ghost use Rattle.vx_election_model.specs.Valid.{IsValid};
 ghost use Rattle.vx_audit.specs.Sized.{IsSized};
 ghost use Rattle.vx_results.specs.Report.{report_of_events};
@@ -9,6 +9,7 @@ ghost use Rattle.vx_results.specs.Waiting.{waiting_in};
 
 use crate::laws::rows_fit;
 use crate::report::report_of;
+use crate::text_lines::push_waiting;
 use crate::waiting::count_waiting;
 use std::alloc::Global;
 use vx_audit::totals_text;
@@ -45,13 +46,6 @@ fn count(alloc: Global, election: &Election, center: &Center<'_>) -> Result<Coun
     Ok(Counted { report, waiting })
 }
 
-/// Adds the line that says how many contests wait.
-fn push_waiting(text: &mut String, count: usize) -> Result<(), OutOfMemory>
-    ensures { OnOk result (string_bytes text.new ≡ string_bytes text.old ++ lines.waiting_line count) }
-{
-    write!(text, "waiting {count}\n")
-}
-
 /// The results of a count: the totals of what the report of its events says, and then how many contests of
 /// added sheets wait. The only refusal is want of memory.
 #[tactic(auto, unfolding(crate::specs::Results::results_text))]
@@ -67,6 +61,6 @@ pub fn results_text(
 {
     let counted = count(alloc, election, center)?;
     let mut text = totals_text(alloc, &counted.report)?;
-    push_waiting(&mut text, counted.waiting)?;
+    push_waiting(&mut text, counted.waiting as u64)?;
     Ok(text)
 }

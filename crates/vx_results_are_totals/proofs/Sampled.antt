@@ -28,6 +28,7 @@ use Rattle.vx_journal.specs.Keeping.{has_none, journal_read}
 use Rattle.vx_journal.specs.Replay.{replay_of}
 use Rattle.vx_journal.specs.Steps as journal
 use Rattle.vx_report_read.specs.Exported.{ReportsAreRead}
+use Rattle.vx_report_read.specs.Texts.{AreOfJournal}
 use Rattle.vx_results.specs.Report.{report_of_events}
 use Rattle.vx_results_are_totals.specs.Samples.{SamplesAreTheAudits, TellsSame}
 use Rattle.vx_words.specs.Samples.{seed_bytes}
@@ -78,14 +79,15 @@ with-journal election records kept source seed size hand files named replays =
     (goes_on (journal_read election (has_none records) r) (journal_outcome (seed_bytes seed) size election (files hand))))) replays
 
 pub do-the-same : ReportsAreRead → SamplesAreTheAudits
-do-the-same law election records kept moment device source name seed size hand files named replays valid history there utf8 short =
+do-the-same law election records kept moment device source name seed size hand files named replays words there short =
     let bytes : List ℕ = report_of election kept moment device in
+    let of : AreOfJournal election kept = record { file = files source; is_taken = named; records = records; are_kept = replays } in
     let report : Report = report_of_events election kept in
     let rest : Report → AuditOutcome = λ given. with_hand given (files hand) (audited (seed_bytes seed) size given) in
     let own : Outcome = hand_outcome (seed_bytes seed) size report (files hand) in
     let alike : AreAlike (rest report) own = hand-alike (seed_bytes seed) size report (files hand) in
     let audits : asked_outcome (Audit name (seed_bytes seed) size hand) files ≡ after (Take 1 ∷ []) (rest report) =
-    ap (λ (file : Option (List ℕ)). with_report file rest) there ∙ with-bytes bytes report rest short (law election kept moment device valid history utf8) in
+    ap (λ (file : Option (List ℕ)). with_report file rest) there ∙ with-bytes bytes report rest short (law election kept moment device of words) in
     let samples : sample_outcome source seed size hand files records ≡ acts.after (Take 1 ∷ []) (acts.after (ReadJournal ∷ []) own) =
     with-journal election records kept source seed size hand files named replays in
     let Status : AuditStatus → Type 0 = λ status. TellsSame status (sample_outcome source seed size hand files records).ends in

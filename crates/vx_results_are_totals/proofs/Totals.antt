@@ -26,9 +26,9 @@ with-bytes bytes report short read =
 
 pub are-totals : ReportsAreRead → ResultsAreTheTotals
 unfolding results_text
-are-totals law election kept moment device name files valid history there utf8 short =
+are-totals law election kept moment device name files of words there short =
     let bytes : List ℕ = report_of election kept moment device in
-    let read : report_in_bytes bytes ≡ std.Ok (report_of_events election kept) = law election kept moment device valid history utf8 in
+    let read : report_in_bytes bytes ≡ std.Ok (report_of_events election kept) = law election kept moment device of words in
     record {
       text = totals_text (report_of_events election kept);
       totals =

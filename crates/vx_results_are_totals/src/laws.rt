@@ -6,7 +6,7 @@ ghost use Rattle.vx_results_are_totals.specs.Samples.{SamplesAreTheAudits};
 use vx_command_queue::queues_list_what_waits;
 use vx_report_read::reports_are_read;
 
-/// Of an input that is the report of a history `totals` takes the input and writes the results of that history,
+/// Of an input that is the export of a journal `totals` takes the input and writes the results of that journal,
 /// but for their last line.
 pub fn results_are_the_totals()
     ensures { ResultsAreTheTotals }

@@ -1,10 +1,10 @@
 //! That `results` writes what `totals` writes of the export of the same journal, and `sample` what `audit` writes:
 //! laws over the definitions of the commands.
 //!
-//! `results` counts a journal sheet by sheet, and `totals` reads a report. Wherever bytes are the report of a
-//! history, no longer than an input may be, and UTF-8, the text that `totals` writes of them and a line that
-//! says how many contests wait are what `results` writes; and that number is the last line of `queue`:
-//! `specs/Laws.antt`. Of such bytes `audit` does what `sample` does of the history's journal: `specs/Samples.antt`.
+//! `results` counts a journal sheet by sheet, and `totals` reads a report. Wherever bytes are the export of a
+//! journal, and no longer than an input may be, the text that `totals` writes of them and a line that says how
+//! many contests wait are what `results` writes; and that number is the last line of `queue`:
+//! `specs/Laws.antt`. Of such bytes `audit` does what `sample` does of the journal: `specs/Samples.antt`.
 #![tactic(auto)]
 
 mod laws;

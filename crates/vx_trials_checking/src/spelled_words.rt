@@ -118,6 +118,32 @@ fn with_more(alloc: Global, command: &Command) -> Result<String, Fail> {
     })
 }
 
+/// A board or a risk in the debug form of its parts.
+fn with_drawn(alloc: Global, command: &Command) -> Result<String, Fail> {
+    Ok(match command {
+        Command::Board {
+            election,
+            seed,
+            size,
+        } => {
+            let election = election.as_str();
+            format!(in alloc; "board {election} {} {size}", seed.as_str())?
+        }
+        Command::Risk {
+            election,
+            seed,
+            size,
+            hand,
+            limit,
+        } => {
+            let election = election.as_str();
+            let seed = seed.as_str();
+            format!(in alloc; "risk {election} {seed} {size} {} {limit}", hand.as_str())?
+        }
+        _ => String::new(alloc),
+    })
+}
+
 /// A command in the debug form of its parts.
 fn told_of(alloc: Global, command: &Command) -> Result<String, Fail> {
     match command {
@@ -126,7 +152,9 @@ fn told_of(alloc: Global, command: &Command) -> Result<String, Fail> {
         Command::Queue { election } => alone(alloc, "queue", election),
         Command::Cards { election } => alone(alloc, "cards", election),
         Command::Results { election } => alone(alloc, "results", election),
+        Command::Summary { election } => alone(alloc, "summary", election),
         Command::Sample { .. } | Command::Desk { .. } => with_more(alloc, command),
+        Command::Board { .. } | Command::Risk { .. } => with_drawn(alloc, command),
         _ => with_parts(alloc, command),
     }
 }
@@ -185,32 +213,10 @@ const LINES: &[(&[&str], &str)] = &[
     (&["cards", "e", "more"], "usage"),
     (&["results", "e"], "results e"),
     (&["results", "e", "more"], "usage"),
+    (&["summary", "e"], "summary e"),
+    (&["summary", "e", "more"], "usage"),
     (&["try", "e"], "usage"),
     (&["try", "e", "s"], "try e 1"),
-    (
-        &["sample", "e", SEED, "1", "h"],
-        "sample e 00000000000000000000000000000000000000000000000000000000000000af 1 h",
-    ),
-    (
-        &["sample", "e", SEED, "10000", "h"],
-        "sample e 00000000000000000000000000000000000000000000000000000000000000af 10000 h",
-    ),
-    (&["sample", "e", SEED, "10001", "h"], "usage"),
-    (&["sample", "e", SEED, "0", "h"], "usage"),
-    (&["sample", "e", SEED, "01", "h"], "usage"),
-    (&["sample", "e", "af", "1", "h"], "usage"),
-    (
-        &[
-            "sample",
-            "e",
-            "00000000000000000000000000000000000000000000000000000000000000aF",
-            "1",
-            "h",
-        ],
-        "usage",
-    ),
-    (&["sample", "e", SEED, "1"], "usage"),
-    (&["sample", "e", SEED, "1", "h", "more"], "usage"),
     (&["desk", "e", "b-1", "s", "t"], "desk e b-1 2"),
     (&["desk", "e", "b-1"], "usage"),
     (&["desk", "e", "b.1", "s"], "usage"),
@@ -288,9 +294,75 @@ const LINES: &[(&[&str], &str)] = &[
     ),
 ];
 
+/// The same of the commands that draw by a seed.
+const DRAWN: &[(&[&str], &str)] = &[
+    (
+        &["sample", "e", SEED, "1", "h"],
+        "sample e 00000000000000000000000000000000000000000000000000000000000000af 1 h",
+    ),
+    (
+        &["sample", "e", SEED, "10000", "h"],
+        "sample e 00000000000000000000000000000000000000000000000000000000000000af 10000 h",
+    ),
+    (&["sample", "e", SEED, "10001", "h"], "usage"),
+    (&["sample", "e", SEED, "0", "h"], "usage"),
+    (&["sample", "e", SEED, "01", "h"], "usage"),
+    (&["sample", "e", "af", "1", "h"], "usage"),
+    (
+        &[
+            "sample",
+            "e",
+            "00000000000000000000000000000000000000000000000000000000000000aF",
+            "1",
+            "h",
+        ],
+        "usage",
+    ),
+    (&["sample", "e", SEED, "1"], "usage"),
+    (&["sample", "e", SEED, "1", "h", "more"], "usage"),
+    (
+        &["board", "e", SEED, "1"],
+        "board e 00000000000000000000000000000000000000000000000000000000000000af 1",
+    ),
+    (
+        &["board", "e", SEED, "10000"],
+        "board e 00000000000000000000000000000000000000000000000000000000000000af 10000",
+    ),
+    (&["board", "e", SEED, "10001"], "usage"),
+    (&["board", "e", SEED, "0"], "usage"),
+    (&["board", "e", "af", "1"], "usage"),
+    (&["board", "e", SEED], "usage"),
+    (&["board", "e", SEED, "1", "h"], "usage"),
+    (
+        &["risk", "e", SEED, "1", "h", "1"],
+        "risk e 00000000000000000000000000000000000000000000000000000000000000af 1 h 1",
+    ),
+    (
+        &["risk", "e", SEED, "10000", "h", "999"],
+        "risk e 00000000000000000000000000000000000000000000000000000000000000af 10000 h 999",
+    ),
+    (&["risk", "e", SEED, "1", "h", "1000"], "usage"),
+    (&["risk", "e", SEED, "1", "h", "0"], "usage"),
+    (&["risk", "e", SEED, "1", "h", "050"], "usage"),
+    (&["risk", "e", SEED, "1", "50", "h"], "usage"),
+    (&["risk", "e", SEED, "10001", "h", "50"], "usage"),
+    (&["risk", "e", "af", "1", "h", "50"], "usage"),
+    (&["risk", "e", SEED, "1", "h"], "usage"),
+    (&["risk", "e", SEED, "1", "h", "50", "more"], "usage"),
+];
+
 #[test]
 fn lines_of_words_are_read(rt: HostRuntime) -> Result<(), Fail> {
     for (line, told_as) in LINES {
+        let words = words_of(&rt, line, 0)?;
+        assert_eq!(rt; told(&rt, &words)?.as_str(), *told_as);
+    }
+    Ok(())
+}
+
+#[test]
+fn lines_of_words_that_draw_are_read(rt: HostRuntime) -> Result<(), Fail> {
+    for (line, told_as) in DRAWN {
         let words = words_of(&rt, line, 0)?;
         assert_eq!(rt; told(&rt, &words)?.as_str(), *told_as);
     }

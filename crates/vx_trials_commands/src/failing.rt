@@ -65,6 +65,43 @@ fn assert_undisturbed<R: Threads + Sync + AllocGlobal + Abort>(
     Ok(())
 }
 
+/// The first lines of a text.
+fn first_lines(text: &str, lines: u64) -> &str {
+    let mut left = lines;
+    for (place, character) in text.char_indices() {
+        if left == 0 {
+            return text.get(..place).unwrap_or(text);
+        }
+        if character == '\n' {
+            left -= 1;
+        }
+    }
+    text
+}
+
+/// Nothing was asked behind so many calls of the inputs.
+fn assert_asked_no_more<R: Abort>(rt: &R, whole: &str, now: &str, calls: u64) {
+    assert_eq!(rt; now, first_lines(whole, calls));
+}
+
+/// With this call of the inputs failing the command ends with their fault, so many acts stand, and nothing is
+/// asked behind that call.
+fn assert_read_fails<R: Threads + Sync + AllocGlobal + Abort>(
+    rt: &R,
+    day: &Day,
+    trial: &Trial,
+    whole: &Answer,
+    failing: Failing<'_>,
+    call: u64,
+    acts: usize,
+) -> Result<(), Fail> {
+    let now = run_trial(rt, day, trial, failing)?;
+    assert_eq!(rt; now.status.as_str(), "read fault", "{:?}", trial.words);
+    assert_stand(rt, trial, whole, &now, acts);
+    assert_asked_no_more(rt, whole.asked.as_str(), now.asked.as_str(), call);
+    Ok(())
+}
+
 /// Each call of the inputs fails.
 fn reads_fail<R: Threads + Sync + AllocGlobal + Abort>(
     rt: &R,
@@ -79,7 +116,7 @@ fn reads_fail<R: Threads + Sync + AllocGlobal + Abort>(
                 reads: &[call],
                 ..Failing::NONE
             };
-            assert_fails(rt, day, trial, whole, failing, "read fault", *acts)?;
+            assert_read_fails(rt, day, trial, whole, failing, call, *acts)?;
             call = call.saturating_add(1);
         }
     }

@@ -1,9 +1,11 @@
-//! Trials of the commands through the whole program: each call of each device failing in turn, and a count
-//! that is stopped at each append and run again; `count`, `decide` and `queue` with any number of workers,
+//! Trials of the commands through the whole program: each call of each device failing in turn, each input
+//! missing in turn, and a count that is stopped at each append and run again; `count`, `decide` and `queue` with any number of workers,
 //! sheets that are read side by side, what is refused, and a contest that waits; demos; what `center` writes,
 //! keeps and refuses, and two scripts of it side by side. Nothing stands on it.
 #![tactic(auto)]
 
+#[cfg(test)]
+mod asking;
 #[cfg(test)]
 mod center_failing;
 #[cfg(test)]

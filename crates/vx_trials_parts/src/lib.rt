@@ -24,8 +24,6 @@ mod io;
 #[cfg(test)]
 mod json;
 #[cfg(test)]
-mod keep_sqlite;
-#[cfg(test)]
 mod mark;
 #[cfg(test)]
 mod pbm;

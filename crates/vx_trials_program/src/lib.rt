@@ -8,6 +8,8 @@ mod files;
 #[cfg(test)]
 mod journals;
 #[cfg(test)]
+mod keeper;
+#[cfg(test)]
 mod kept;
 #[cfg(test)]
 mod reading;

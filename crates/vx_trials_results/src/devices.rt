@@ -3,10 +3,10 @@
 use std::alloc::{AllocError, Global};
 use vx_audit::run_audit;
 use vx_base::{Bytes, ListOf};
-use vx_command::Halt;
+use vx_command::{Halt, status_of};
 use vx_command_export::export;
 use vx_io::{MemInputs, MemKeeper, MemSink, NamedBytes, Records, Words};
-use vx_results::results;
+use vx_results::{results, summary};
 
 /// When an `export` is written, and by which device.
 const MOMENT: &str = "2026-11-04T08:00:00Z";
@@ -76,10 +76,8 @@ pub(crate) fn answer_of(
 
 /// How a command ended, as the program says it.
 fn told(alloc: Global, ended: Result<(), Halt>) -> Result<String, AllocError> {
-    match ended {
-        Ok(()) => String::from_str(alloc, "ok"),
-        Err(halt) => format!(in alloc; "{halt}"),
-    }
+    let status = status_of(ended);
+    format!(in alloc; "{status}")
 }
 
 /// The devices of a command.
@@ -113,6 +111,15 @@ fn run_results(alloc: Global, name: &str, devices: &mut Devices) -> Result<(), H
     results(alloc, name, inputs, out, keeper)
 }
 
+fn run_summary(alloc: Global, name: &str, devices: &mut Devices) -> Result<(), Halt> {
+    let Devices {
+        inputs,
+        out,
+        keeper,
+    } = devices;
+    summary(alloc, name, inputs, out, keeper)
+}
+
 fn run_export(alloc: Global, devices: &mut Devices) -> Result<(), Halt> {
     let Devices {
         inputs,
@@ -132,6 +139,19 @@ pub fn attempt(
 ) -> Result<Answer, AllocError> {
     let mut devices = devices_of(alloc, election, records, failing)?;
     let ended = run_results(alloc, name, &mut devices);
+    answer_of(alloc, ended, &devices.out)
+}
+
+/// Runs `summary NAME` over a journal, where `E` is the election.
+pub fn summarized(
+    alloc: Global,
+    election: &str,
+    records: &[&str],
+    name: &str,
+    failing: Failing<'_>,
+) -> Result<Answer, AllocError> {
+    let mut devices = devices_of(alloc, election, records, failing)?;
+    let ended = run_summary(alloc, name, &mut devices);
     answer_of(alloc, ended, &devices.out)
 }
 

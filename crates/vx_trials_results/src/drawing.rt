@@ -1,4 +1,4 @@
-//! `sample` and `audit` over devices in memory.
+//! `sample`, `risk`, `board` and `audit` over devices in memory.
 
 ghost use Rattle.vx_words.specs.Samples.{IsSeed, seed_bytes};
 
@@ -7,6 +7,8 @@ use crate::worked::ELECTION;
 use std::alloc::{AllocError, Global};
 use vx_audit::run_audit;
 use vx_base::{Bytes, ListOf};
+use vx_board::board;
+use vx_command_risk::risk;
 use vx_io::{MemInputs, NamedBytes, Words};
 use vx_results::sample;
 
@@ -54,6 +56,56 @@ pub fn sampled(
         zeros(),
         size,
         name,
+        &mut inputs,
+        &mut out,
+        &mut keeper,
+    );
+    answer_of(alloc, ended, &out)
+}
+
+/// Runs `risk E SEED SIZE NAME LIMIT` over a journal with the seed of zeros, where `E` is the election and `H` what
+/// hands read.
+pub fn risked(
+    alloc: Global,
+    records: &[&str],
+    size: u32,
+    hand: &str,
+    name: &str,
+    limit: u32,
+    failing: Failing<'_>,
+) -> Result<Answer, AllocError> {
+    let mut inputs = inputs_of(alloc, ELECTION.as_bytes(), hand, failing.reads)?;
+    let mut out = sink_of(alloc, failing)?;
+    let mut keeper = keeper_of(alloc, records, failing.keeps)?;
+    let ended = risk(
+        alloc,
+        "E",
+        zeros(),
+        size,
+        name,
+        limit,
+        &mut inputs,
+        &mut out,
+        &mut keeper,
+    );
+    answer_of(alloc, ended, &out)
+}
+
+/// Runs `board E SEED SIZE` over a journal with the seed of zeros, where `E` is the election.
+pub fn boarded(
+    alloc: Global,
+    records: &[&str],
+    size: u32,
+    failing: Failing<'_>,
+) -> Result<Answer, AllocError> {
+    let mut inputs = inputs_of(alloc, ELECTION.as_bytes(), "", failing.reads)?;
+    let mut out = sink_of(alloc, failing)?;
+    let mut keeper = keeper_of(alloc, records, failing.keeps)?;
+    let ended = board(
+        alloc,
+        "E",
+        zeros(),
+        size,
         &mut inputs,
         &mut out,
         &mut keeper,

@@ -7,7 +7,7 @@ use std::test::*;
 
 /// What hands read of the day: as it was counted, but for a contest that was passed over, one that waits and one that
 /// they read otherwise.
-const HAND: &str = "hand a-1 contest-mayor selection-mayor-1
+pub(crate) const HAND: &str = "hand a-1 contest-mayor selection-mayor-1
 hand a-1 contest-park selection-park-0
 hand b-1 contest-mayor selection-mayor-1 selection-mayor-0
 hand b-2 contest-mayor selection-mayor-0

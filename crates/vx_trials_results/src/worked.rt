@@ -110,7 +110,7 @@ fn results_are_the_totals_of_the_export(rt: HostRuntime) -> Result<(), Fail> {
 }
 
 /// The word, the journal, and the status.
-const REFUSED: [(&str, &[&str], &str); 5] = [
+pub(crate) const REFUSED: [(&str, &[&str], &str); 5] = [
     ("F", &[HEADER], "no input 1"),
     ("E", &["1 election 00"], "journal 0 bad 13"),
     (

@@ -1,5 +1,5 @@
 //! Trials of a shared center: what it answers to three calls of two passes, worked by hand; eight threads
-//! that wait for their turns and are woken; two scripts side by side. Nothing stands on it.
+//! that wait for their turns and are woken; two scripts as items of `run_items`, side by side. Nothing stands on it.
 #![tactic(auto)]
 
 #[cfg(test)]

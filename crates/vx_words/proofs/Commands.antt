@@ -8,7 +8,7 @@ use Rattle.std.proofs.lemmas.List.Elements.{All-cons, All-nil}
 use Rattle.vx_grid.specs.declared.kind.Kind.{Kind}
 use Rattle.vx_grid.specs.Kinds.{kind_word}
 use Rattle.vx_words.specs.declared.command.Command.{Command}
-use Rattle.vx_words.specs.declared.command.Command.TheVariants.{Print, Read, Check, Count, Decide, Queue, Export, Demo, Center, Try, Cards, Results, Sample, Desk}
+use Rattle.vx_words.specs.declared.command.Command.TheVariants.{Print, Read, Check, Count, Decide, Queue, Export, Demo, Center, Try, Cards, Results, Sample, Desk, Summary, Board, Risk}
 use Rattle.vx_words.specs.declared.command.ItemWord.{ItemWord}
 use Rattle.vx_words.specs.declared.name.Name.{Name}
 use Rattle.vx_words.specs.declared.name.Name.TheVariants as names
@@ -35,6 +35,9 @@ found names.Cards = refl
 found names.Results = refl
 found names.Sample = refl
 found names.Desk = refl
+found names.Summary = refl
+found names.Board = refl
+found names.Risk = refl
 
 -- the command with a name that words spell, if they spell one
 abbrev pub command_at : Name → List (List ℕ) → Command
@@ -52,6 +55,10 @@ command_at names.Cards words = Cards (get_or words 1 [])
 command_at names.Results words = Results (get_or words 1 [])
 command_at names.Sample words = Sample (get_or words 1 []) (get_or words 2 []) (digits_value 10 (get_or words 3 [])) (get_or words 4 [])
 command_at names.Desk words = Desk (get_or words 1 []) (get_or words 2 []) (drop 3 words)
+command_at names.Summary words = Summary (get_or words 1 [])
+command_at names.Board words = Board (get_or words 1 []) (get_or words 2 []) (digits_value 10 (get_or words 3 []))
+command_at names.Risk words =
+    Risk (get_or words 1 []) (get_or words 2 []) (digits_value 10 (get_or words 3 [])) (get_or words 4 []) (digits_value 10 (get_or words 5 []))
 
 -- a command is the one that its words spell
 pub command_back : (device : List ℕ) (command : Command) → IsSound device command → command_at (name_of command) (words_with device command) ≡ command
@@ -79,6 +86,13 @@ command_back device (Results election) sound = refl
 command_back device (Sample election seed size hand) sound =
     ap (λ (n : ℕ). Sample election seed n hand) (decimal_is_IsNumeral size (omega (arith, sound.is_size.few))).1
 command_back device (Desk election batch scans) sound = refl
+command_back device (Summary election) sound = refl
+command_back device (Board election seed size) sound =
+    ap (λ (n : ℕ). Board election seed n) (decimal_is_IsNumeral size (omega (arith, sound.is_size.few))).1
+command_back device (Risk election seed size hand limit) sound =
+    ap (λ (n : ℕ). Risk election seed n hand (digits_value 10 (decimal limit)))
+    (decimal_is_IsNumeral size (omega (arith, sound.as_sample.is_size.few))).1
+    ∙ ap (λ (n : ℕ). Risk election seed size hand n) (decimal_is_IsNumeral limit (omega (arith, sound.is_limit.few))).1
 
 -- a command's words, its name behind them
 pub named : (device : List ℕ) (command : Command) → IsSound device command → HasName (words_with device command) (name_of command)
@@ -171,4 +185,28 @@ named device (Desk election batch scans) sound = record {
   no_more = omega (arith, sound.are_scans.few);
   arguments = All-cons IsArgument election (batch ∷ scans) sound.is_argument
       (All-cons IsArgument batch scans sound.batch_is_argument sound.are_scans.are_arguments);
+}
+named device (Summary election) sound = record {
+  first = refl;
+  enough = omega arith;
+  no_more = omega arith;
+  arguments = All-cons IsArgument election [] sound (All-nil IsArgument);
+}
+named device (Board election seed size) sound = record {
+  first = refl;
+  enough = omega arith;
+  no_more = omega arith;
+  arguments = All-cons IsArgument election (seed ∷ decimal size ∷ []) sound.is_argument
+      (All-cons IsArgument seed (decimal size ∷ []) sound.seed_is_argument
+      (All-cons IsArgument (decimal size) [] (number_is_argument size (omega (arith, sound.is_size.few))) (All-nil IsArgument)));
+}
+named device (Risk election seed size hand limit) sound = record {
+  first = refl;
+  enough = omega arith;
+  no_more = omega arith;
+  arguments = All-cons IsArgument election (seed ∷ decimal size ∷ hand ∷ decimal limit ∷ []) sound.as_sample.is_argument
+      (All-cons IsArgument seed (decimal size ∷ hand ∷ decimal limit ∷ []) sound.as_sample.seed_is_argument
+      (All-cons IsArgument (decimal size) (hand ∷ decimal limit ∷ []) (number_is_argument size (omega (arith, sound.as_sample.is_size.few)))
+      (All-cons IsArgument hand (decimal limit ∷ []) sound.as_sample.hand_is_argument
+      (All-cons IsArgument (decimal limit) [] (number_is_argument limit (omega (arith, sound.is_limit.few))) (All-nil IsArgument)))));
 }

@@ -1,5 +1,6 @@
 pub mod Centers
 pub mod Commands
+pub mod Drawn
 pub mod ItemWords
 pub mod Made
 pub mod Moving

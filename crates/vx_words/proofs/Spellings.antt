@@ -10,7 +10,7 @@ use Rattle.vx_grid.specs.declared.kind.Kind.{Kind}
 use Rattle.vx_grid.specs.declared.kind.Kind.TheVariants.{Other}
 use Rattle.vx_grid.specs.Kinds.{kind_word}
 use Rattle.vx_words.specs.declared.command.Command.{Command}
-use Rattle.vx_words.specs.declared.command.Command.TheVariants.{Print, Read, Check, Count, Decide, Queue, Export, Demo, Try, Cards, Results, Sample, Desk}
+use Rattle.vx_words.specs.declared.command.Command.TheVariants.{Print, Read, Check, Count, Decide, Queue, Export, Demo, Try, Cards, Results, Sample, Desk, Summary}
 use Rattle.vx_words.specs.declared.fault.UsageFault.{UsageFault}
 use Rattle.vx_words.specs.declared.fault.UsageFault.TheVariants.{Usage, OutOfMemory}
 use Rattle.vx_events.specs.Fits.{is_batch}
@@ -113,6 +113,16 @@ results_spelled (name ∷ election ∷ []) called = record {
   sound = All-head IsArgument election [] called.arguments;
 }
 results_spelled (a ∷ b ∷ c ∷ more) called = absurd (omega (arith, called.no_more))
+
+pub summary_spelled : (words : List (List ℕ)) → HasName words names.Summary → Spells words (Summary (get_or words 1 []))
+summary_spelled [] called = absurd (omega (arith, called.enough))
+summary_spelled (a ∷ []) called = absurd (omega (arith, called.enough))
+summary_spelled (name ∷ election ∷ []) called = record {
+  device = [];
+  words_are = (let first = called.first in cc);
+  sound = All-head IsArgument election [] called.arguments;
+}
+summary_spelled (a ∷ b ∷ c ∷ more) called = absurd (omega (arith, called.no_more))
 
 pub print_spelled :
     (words : List (List ℕ)) (third fourth : List ℕ) (card : ℕ) (kind : Kind) (test : Bool) → HasName words names.Print

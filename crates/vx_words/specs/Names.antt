@@ -2,7 +2,7 @@
 use Rattle.std.specs.Prelude.{ℕ, List, [], ◌∷◌, Option, codes, find}
 use Rattle.std.specs.Str.{bytes_eq}
 use Rattle.vx_words.specs.declared.name.Name.{Name}
-use Rattle.vx_words.specs.declared.name.Name.TheVariants.{Print, Read, Check, Count, Decide, Queue, Export, Demo, Center, Try, Cards, Results, Sample, Desk}
+use Rattle.vx_words.specs.declared.name.Name.TheVariants.{Print, Read, Check, Count, Decide, Queue, Export, Demo, Center, Try, Cards, Results, Sample, Desk, Summary, Board, Risk}
 
 -- a command's name, and how many words it has at least and at most, its name among them
 pub record Row : Type 0 where
@@ -29,10 +29,15 @@ row_of Cards = row (codes "cards") 2 2
 row_of Results = row (codes "results") 2 2
 row_of Sample = row (codes "sample") 5 5
 row_of Desk = row (codes "desk") 4 67
+row_of Summary = row (codes "summary") 2 2
+row_of Board = row (codes "board") 4 4
+row_of Risk = row (codes "risk") 6 6
 
 -- all commands, in the table's order
 abbrev pub all_names : List Name
-all_names = Print ∷ Read ∷ Check ∷ Count ∷ Decide ∷ Queue ∷ Export ∷ Demo ∷ Center ∷ Try ∷ Cards ∷ Results ∷ Sample ∷ Desk ∷ []
+all_names =
+    Print ∷ Read ∷ Check ∷ Count ∷ Decide ∷ Queue ∷ Export ∷ Demo ∷ Center ∷ Try ∷ Cards ∷ Results ∷ Sample ∷ Desk ∷ Summary
+    ∷ Board ∷ Risk ∷ []
 
 -- the word that names a command
 abbrev pub name_word : Name → List ℕ

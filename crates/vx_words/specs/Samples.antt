@@ -1,4 +1,4 @@
--- Seeds and sizes of a sample, as words: what an audit draws by.
+-- Seeds and sizes of a sample, and limits of risk, as words: what an audit draws by, and what it allows.
 use Rattle.std.specs.Prelude.{ℕ, ◌≡◌, ◌≤◌, ◌&&◌, ◌||◌, Bool, true, List, [], nat_le, Result, Ok, Err}
 use Rattle.std.specs.Fmt.{decimal}
 use Rattle.std.specs.List.{list_all}
@@ -27,3 +27,9 @@ pub record IsSize (word : List ℕ) (size : ℕ) : Type 0 where
   pub digits : word ≡ decimal size
   pub some : 1 ≤ size
   pub few : size ≤ 10000
+
+-- thousandths: 1 to 999, without a sign and without a leading zero
+pub record IsLimit (word : List ℕ) (limit : ℕ) : Type 0 where
+  pub digits : word ≡ decimal limit
+  pub some : 1 ≤ limit
+  pub few : limit ≤ 999

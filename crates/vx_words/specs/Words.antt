@@ -6,7 +6,7 @@ use Rattle.vx_grid.specs.declared.kind.Kind.TheVariants.{Other}
 use Rattle.vx_grid.specs.Kinds.{kind_word}
 use Rattle.vx_events.specs.Fits.{is_batch}
 use Rattle.vx_words.specs.declared.command.Command.{Command}
-use Rattle.vx_words.specs.declared.command.Command.TheVariants.{Print, Read, Check, Count, Decide, Queue, Export, Demo, Center, Try, Cards, Results, Sample, Desk}
+use Rattle.vx_words.specs.declared.command.Command.TheVariants.{Print, Read, Check, Count, Decide, Queue, Export, Demo, Center, Try, Cards, Results, Sample, Desk, Summary, Board, Risk}
 use Rattle.vx_words.specs.declared.command.ItemWord.{ItemWord}
 use Rattle.vx_words.specs.declared.fault.UsageFault.{UsageFault}
 use Rattle.vx_words.specs.declared.fault.UsageFault.TheVariants.{Usage, OutOfMemory}
@@ -14,7 +14,7 @@ use Rattle.vx_words.specs.declared.name.Name.{Name}
 use Rattle.vx_words.specs.declared.name.Name.TheVariants as names
 use Rattle.vx_words.specs.Names.{name_word, row_of}
 use Rattle.vx_words.specs.Moments.{is_moment}
-use Rattle.vx_words.specs.Samples.{IsSeed, IsSize, seed_bytes}
+use Rattle.vx_words.specs.Samples.{IsLimit, IsSeed, IsSize, seed_bytes}
 use Rattle.vx_words.specs.Devices.{device_of}
 use Rattle.vx_words.specs.Items.{AreItemWords, item_word}
 
@@ -34,6 +34,9 @@ name_of (Cards election) = names.Cards
 name_of (Results election) = names.Results
 name_of (Sample election seed size hand) = names.Sample
 name_of (Desk election batch scans) = names.Desk
+name_of (Summary election) = names.Summary
+name_of (Board election seed size) = names.Board
+name_of (Risk election seed size hand limit) = names.Risk
 
 -- the words behind a command's name, where the word that names its device is this one
 abbrev pub behind_name : List ℕ → Command → List (List ℕ)
@@ -51,6 +54,9 @@ behind_name device (Cards election) = election ∷ []
 behind_name device (Results election) = election ∷ []
 behind_name device (Sample election seed size hand) = election ∷ seed ∷ decimal size ∷ hand ∷ []
 behind_name device (Desk election batch scans) = election ∷ batch ∷ scans
+behind_name device (Summary election) = election ∷ []
+behind_name device (Board election seed size) = election ∷ seed ∷ decimal size ∷ []
+behind_name device (Risk election seed size hand limit) = election ∷ seed ∷ decimal size ∷ hand ∷ decimal limit ∷ []
 
 -- the words of a command
 abbrev pub words_with : List ℕ → Command → List (List ℕ)
@@ -113,6 +119,18 @@ pub record IsSoundSample (election seed : List ℕ) (size : ℕ) (hand : List �
   pub is_size : IsSize (decimal size) size
   pub hand_is_argument : IsArgument hand
 
+-- a seed and a size
+pub record IsSoundBoard (election seed : List ℕ) (size : ℕ) : Type 0 where
+  pub is_argument : IsArgument election
+  pub seed_is_argument : IsArgument seed
+  pub is_seed : IsSeed seed (seed_bytes seed)
+  pub is_size : IsSize (decimal size) size
+
+-- the words of a sample, and the risk that is allowed
+pub record IsSoundRisk (election seed : List ℕ) (size : ℕ) (hand : List ℕ) (limit : ℕ) : Type 0 where
+  pub as_sample : IsSoundSample election seed size hand
+  pub is_limit : IsLimit (decimal limit) limit
+
 -- a batch and its scans
 pub record IsSoundDesk (election batch : List ℕ) (scans : List (List ℕ)) : Type 0 where
   pub is_argument : IsArgument election
@@ -136,6 +154,9 @@ IsSound device (Cards election) = IsArgument election
 IsSound device (Results election) = IsArgument election
 IsSound device (Sample election seed size hand) = IsSoundSample election seed size hand
 IsSound device (Desk election batch scans) = IsSoundDesk election batch scans
+IsSound device (Summary election) = IsArgument election
+IsSound device (Board election seed size) = IsSoundBoard election seed size
+IsSound device (Risk election seed size hand limit) = IsSoundRisk election seed size hand limit
 
 -- The words are this command. It has one spelling, but for the word that names a device, which has several.
 pub record Spells (words : List (List ℕ)) (command : Command) : Type 0 where

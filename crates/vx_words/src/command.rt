@@ -94,6 +94,29 @@ pub enum Command {
         batch: Text,
         scans: Texts,
     },
+    /// Write every figure of the count: by precinct, by kind, by batch, and each written-in name.
+    Summary {
+        election: Text,
+    },
+    /// Write a page for the people who hold the paper: which ballots a seed draws, and each to read.
+    Board {
+        election: Text,
+        /// 64 hexadecimal digits in lower case, as it was given.
+        seed: Text,
+        /// How many words are drawn, from 1 to 10,000.
+        size: u32,
+    },
+    /// Bound the risk that a contest's outcome is wrong, by what hands read of the ballots that a seed draws.
+    Risk {
+        election: Text,
+        /// 64 hexadecimal digits in lower case, as it was given.
+        seed: Text,
+        /// How many words are drawn, from 1 to 10,000.
+        size: u32,
+        hand: Text,
+        /// The risk that is allowed, from 1 to 999 thousandths.
+        limit: u32,
+    },
 }
 
 /// An item of a count, as a word names it.

@@ -9,7 +9,7 @@ use crate::items::are_items;
 use crate::kinds::kind_and_test;
 use crate::moment::{is_device, is_moment};
 use crate::name::{Name, Row, name_in, row_in_table};
-use crate::sample::{sample_seed, sample_size};
+use crate::sample::{risk_limit, sample_seed, sample_size};
 use crate::seed::read_seed;
 use vx_base::read_number;
 use vx_events::is_batch;
@@ -109,6 +109,35 @@ fn is_desk(words: &Words) -> bool
     true
 }
 
+fn is_board(words: &Words) -> bool
+    requires { HasName words.now Name.Board }
+    ensures { Decides words.now result }
+{
+    let Some(_seed) = sample_seed(words.word(2)) else {
+        return false;
+    };
+    let Some(_size) = sample_size(words.word(3)) else {
+        return false;
+    };
+    true
+}
+
+fn is_risk(words: &Words) -> bool
+    requires { HasName words.now Name.Risk }
+    ensures { Decides words.now result }
+{
+    let Some(_seed) = sample_seed(words.word(2)) else {
+        return false;
+    };
+    let Some(_size) = sample_size(words.word(3)) else {
+        return false;
+    };
+    let Some(_limit) = risk_limit(words.word(5)) else {
+        return false;
+    };
+    true
+}
+
 /// The command whose name the words begin with, if they are as many as it has.
 fn called(words: &Words) -> Option<Name>
     ensures { MatchOption result
@@ -151,5 +180,8 @@ pub fn is_command(words: &Words) -> bool
         Name::Results => true,
         Name::Sample => is_sample(words),
         Name::Desk => is_desk(words),
+        Name::Summary => true,
+        Name::Board => is_board(words),
+        Name::Risk => is_risk(words),
     }
 }

@@ -2,13 +2,14 @@
 //!
 //! The commands' names are a table, in `name.rt` and `specs/Names.antt`. Which words stand behind a name is
 //! in `specs/Words.antt`, one line a command; moments in `specs/Moments.antt`, devices in
-//! `specs/Devices.antt`, items in `specs/Items.antt`, seeds and sizes of samples in `specs/Samples.antt`. `parse` answers Usage exactly where the words are no
-//! command. The words are split by `clap`, whose command line is made of the table in `line.rt` and
-//! `specs/Line.antt`; each command is made of the words behind its name in `making.rt`, and decided without
-//! memory in `deciding.rt`.
+//! `specs/Devices.antt`, items in `specs/Items.antt`, seeds and sizes of samples and limits of risk in
+//! `specs/Samples.antt`. `parse` answers Usage exactly where the words are no command. The words are split by
+//! `clap`, whose command line is made of the table in `line.rt` and `specs/Line.antt`; each command is made of
+//! the words behind its name in `making.rt` and `auditing.rt`, and decided without memory in `deciding.rt`.
 #![tactic(auto)]
 
 mod arguments;
+mod auditing;
 mod command;
 mod deciding;
 mod fault;
@@ -28,4 +29,4 @@ pub use command::{Command, ItemWord, ItemWords};
 pub use fault::UsageFault;
 pub use laws::words_spell_one_command;
 pub use parsing::parse;
-pub use sample::{sample_seed, sample_size};
+pub use sample::{risk_limit, sample_seed, sample_size};

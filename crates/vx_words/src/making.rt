@@ -5,6 +5,7 @@ ghost use Rattle.vx_words.specs.Names.{name_word};
 ghost use Rattle.vx_words.specs.Words.{IsArgument, Reads};
 
 use crate::arguments::texts_from;
+use crate::auditing::{board_of, risk_of};
 use crate::command::Command;
 use crate::fault::UsageFault;
 use crate::items::items_from;
@@ -277,6 +278,18 @@ fn desk_of(alloc: Global, arguments: &[&str]) -> Result<Command, UsageFault>
     })
 }
 
+/// `summary ELECTION`.
+fn summary_of(alloc: Global, arguments: &[&str]) -> Result<Command, UsageFault>
+    requires { All IsArgument (map (λ word. word.now) arguments.now) }
+    ensures { Reads (name_word Name.Summary ∷ map (λ word. word.now) arguments.now) result }
+{
+    let [election] = arguments else {
+        return Err(UsageFault::Usage);
+    };
+    let election = Text::from_str(alloc, election)?;
+    Ok(Command::Summary { election })
+}
+
 /// The command of a row of the table, of the words behind its name.
 fn command_named(alloc: Global, name: Name, arguments: &[&str]) -> Result<Command, UsageFault>
     requires { All IsArgument (map (λ word. word.now) arguments.now) }
@@ -297,6 +310,9 @@ fn command_named(alloc: Global, name: Name, arguments: &[&str]) -> Result<Comman
         Name::Results => results_of(alloc, arguments),
         Name::Sample => sample_of(alloc, arguments),
         Name::Desk => desk_of(alloc, arguments),
+        Name::Summary => summary_of(alloc, arguments),
+        Name::Board => board_of(alloc, arguments),
+        Name::Risk => risk_of(alloc, arguments),
     }
 }
 

@@ -22,10 +22,13 @@ pub enum Name {
     Results,
     Sample,
     Desk,
+    Summary,
+    Board,
+    Risk,
 }
 
 /// All commands, in the table's order.
-pub const NAMES: [Name; 14] = [
+pub const NAMES: [Name; 17] = [
     Name::Print,
     Name::Read,
     Name::Check,
@@ -40,6 +43,9 @@ pub const NAMES: [Name; 14] = [
     Name::Results,
     Name::Sample,
     Name::Desk,
+    Name::Summary,
+    Name::Board,
+    Name::Risk,
 ];
 
 /// A command's name, and how many words it has at least and at most, its name among them.
@@ -80,6 +86,9 @@ pub fn row_in_table(name: Name) -> Row
         Name::Results => named("results", 2, 2),
         Name::Sample => named("sample", 5, 5),
         Name::Desk => named("desk", 4, 67),
+        Name::Summary => named("summary", 2, 2),
+        Name::Board => named("board", 4, 4),
+        Name::Risk => named("risk", 6, 6),
     }
 }
 

@@ -1,14 +1,17 @@
-//! Seeds and sizes of a sample among the words.
+//! Seeds and sizes of a sample, and limits of risk, among the words.
 
 ghost use Rattle.std.specs.Prelude.{◌≡◌, ℕ, List, MatchOption};
 ghost use Rattle.std.specs.List.{list_all};
-ghost use Rattle.vx_words.specs.Samples.{IsSeed, IsSize, is_lower_digit};
+ghost use Rattle.vx_words.specs.Samples.{IsLimit, IsSeed, IsSize, is_lower_digit};
 
 use hex::FromHex;
 use vx_base::read_number;
 
 /// The most words that a sample draws.
 const MOST_WORDS: u32 = 10_000;
+
+/// The greatest risk that may be allowed, in thousandths.
+const MOST_RISK: u32 = 999;
 
 fn is_lower_digit(byte: u8) -> bool
     ensures { result ≡ is_lower_digit byte }
@@ -43,5 +46,16 @@ pub fn sample_size(word: &str) -> Option<u32>
     match read_number(word, MOST_WORDS) {
         None => None,
         Some(size) => { if size == 0 { None } else { Some(size) } }
+    }
+}
+
+/// The risk that is allowed: 1 to 999 thousandths.
+#[tactic(auto, using(std::proofs::lemmas::Fmt::decimal_injective))]
+pub fn risk_limit(word: &str) -> Option<u32>
+    ensures { MatchOption result ((limit : ℕ) → IsLimit word.now limit → ⊥) (λ limit. IsLimit word.now limit) }
+{
+    match read_number(word, MOST_RISK) {
+        None => None,
+        Some(limit) => { if limit == 0 { None } else { Some(limit) } }
     }
 }

@@ -3,7 +3,7 @@ use Rattle.std.proofs.lemmas.List.{drop_more}
 use Rattle.std.proofs.lemmas.Result.{err_from_is_err_and}
 use Rattle.vx_command.specs.Done.{IsDone}
 use Rattle.vx_command_desk.specs.Outcome.{scans_outcome}
-use Rattle.vx_command_desk.specs.Setting.{closing_of, texts_of, waits}
+use Rattle.vx_command_desk.specs.Setting.{closing_of, texts_by, waits}
 use Rattle.vx_command_desk.proofs.scans.walk_scans.Goals as goal
 
 pub returns-in_err-walked-clause-asked : goal.returns-in_err-walked-clause-asked
@@ -20,7 +20,7 @@ loop-scan-preserved g c =
     record {
       comes = λ files told held taken_then held_then answer done.
           let Done : List (List ℕ) → Type 0 = λ left.
-          IsDone (scans_outcome (texts_of c.args.setting.now) (closing_of c.args.setting.now) files c.loop-scan.word c.loop-scan.walked.sheets (waits c.loop-scan.walked.waiting) left)
+          IsDone (scans_outcome (texts_by c.args.setting.now) (closing_of c.args.setting.now) files c.loop-scan.word c.loop-scan.walked.sheets (waits c.loop-scan.walked.waiting) left)
           (g.S.Sink.taken c.loop-scan.out) taken_then held held_then answer in
           let here : drop i names ≡ c.as_str-name.result.now ∷ drop (i + 1) names = drop_more names i _ c.loop-scan-test.true ∙ ap (λ (next : List ℕ). next ∷ drop (i + 1) names) (sym (c.as_str-name.ensures ∙ c.scan-item.is)) in
           c.loop-scan.invariant.comes files told held taken_then held_then answer

@@ -3,13 +3,13 @@ use Rattle.vx_io.specs.Outside.{Files}
 use Rattle.vx_command.specs.Asking.{Asks}
 use Rattle.vx_command.specs.Done.{WritesTo}
 use Rattle.vx_command_desk.specs.Outcome.{scans_outcome}
-use Rattle.vx_command_desk.specs.Setting.{closing_of, images_in, texts_of, waits}
+use Rattle.vx_command_desk.specs.Setting.{closing_of, images_in, texts_by, waits}
 use Rattle.vx_command_desk.proofs.scans.walk_scans.Given as goal
 
 -- the scans so far are gone through, without a fault
 abbrev pub invariant-loop-scan : goal.invariant-loop-scan
 invariant-loop-scan g l = record {
-  comes : (files : Files) → g.I.Inputs.held l.fn.inputs ≡ Some files → WritesTo (scans_outcome (texts_of l.setting) (closing_of l.setting) files 3 0 [] l.scans) (scans_outcome (texts_of l.setting) (closing_of l.setting) files l.word l.walked.sheets (waits l.walked.waiting) (drop l.scan-index l.scans)) (g.S.Sink.taken l.fn.out) (g.S.Sink.taken l.out);
+  comes : (files : Files) → g.I.Inputs.held l.fn.inputs ≡ Some files → WritesTo (scans_outcome (texts_by l.setting) (closing_of l.setting) files 3 0 [] l.scans) (scans_outcome (texts_by l.setting) (closing_of l.setting) files l.word l.walked.sheets (waits l.walked.waiting) (drop l.scan-index l.scans)) (g.S.Sink.taken l.fn.out) (g.S.Sink.taken l.out);
   word : l.word ≡ 3 + l.scan-index;
   room : images_in l.walked ≤ l.scan-index * 67108864;
   same : g.I.Inputs.held l.inputs ≡ g.I.Inputs.held l.fn.inputs;

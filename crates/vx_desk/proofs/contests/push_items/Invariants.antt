@@ -2,7 +2,7 @@ use Rattle.std.proofs.Common.{◌≡◌, ◌++◌, drop, map, false}
 use Rattle.std.specs.Prelude.{filter}
 use Rattle.serde_json.specs.View.{items_of}
 use Rattle.serde_json.specs.Written.{items_text}
-use Rattle.vx_desk.specs.Escaped.{escaped}
+use Rattle.vx_markup.specs.Escaped.{escaped}
 use Rattle.vx_desk.specs.Lines as lines
 use Rattle.vx_desk.specs.Waits.{contest_waits}
 use Rattle.vx_desk.proofs.contests.push_items.Given as goal

@@ -2,8 +2,8 @@ use Rattle.std.proofs.Common.{◌≡◌, ◌++◌, ◌∷◌, [], ℕ, List, tru
 use Rattle.std.proofs.lemmas.Result.{on_ok_weaker}
 use Rattle.serde_json.specs.Written.{compact_text, members_text}
 use Rattle.serde_json.proofs.OnLiterals.{serde_json_on_literals}
-use Rattle.vx_desk.specs.Escaped.{escaped}
-use Rattle.vx_desk.specs.Json.{members}
+use Rattle.vx_markup.specs.Escaped.{escaped}
+use Rattle.vx_markup.specs.Json.{members}
 use Rattle.vx_desk.specs.Lines as lines
 use Rattle.vx_desk.proofs.Texts.{escaped_joined}
 use Rattle.vx_desk.proofs.data.push_kept.Goals as goal
@@ -15,7 +15,7 @@ returns c =
     let front : List ℕ = codes "{\"contests\":" in
     let contests : List ℕ =
     compact_text (lines.contests_of c.args.election.now c.args.center.now.events c.args.key.now c.args.sheet.now c.args.first.now c.args.second.now) in
-    let behind : List ℕ = members_text true (members (lines.behind_contests c.args.center.now.events c.args.key.now)) in
+    let behind : List ℕ = members_text true (members (lines.behind_contests c.args.center.now.events c.args.key.now c.args.scan.now)) in
     let end : List ℕ = 10 ∷ [] in
     let fronted : c.extend_from_slice.new.self ≡ before ++ front = search rules in
     on_ok_weaker c.push_behind.result

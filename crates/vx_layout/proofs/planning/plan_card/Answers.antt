@@ -6,8 +6,8 @@ use Rattle.vx_layout.specs.Faults.{is_no_memory}
 use Rattle.vx_layout.specs.Plan.{plan_of}
 use Rattle.vx_layout.specs.Options.{ShowsEachOption, GivesEachContestAPage}
 use Rattle.vx_layout.specs.Pages.{IsNumbered, HasPaper, StandsOnGrid}
-use Rattle.vx_layout.specs.Zones.{IsClearPlan, AreApartInPlan}
-use Rattle.vx_layout.proofs.Clear.{clear-plan, planned-paper, planned-on_grid}
+use Rattle.vx_layout.specs.Zones.{IsClearPlan, ZonesMeetNoTextInPlan, AreApartInPlan}
+use Rattle.vx_layout.proofs.Clear.{clear-plan, free-plan, planned-paper, planned-on_grid}
 use Rattle.vx_layout.proofs.Made.{holds-each}
 use Rattle.vx_layout.proofs.OnePage.{page-for_contests}
 use Rattle.vx_layout.proofs.Order.{apart-plan}
@@ -38,6 +38,9 @@ returns-clause-one_page c = holds c GivesEachContestAPage (λ plan h. page-for_c
 
 pub returns-clause-clear : goal.returns-clause-clear
 returns-clause-clear c = holds c IsClearPlan (λ plan h. clear-plan c.args.election.now c.args.card plan c.requires h)
+
+pub returns-clause-cells : goal.returns-clause-cells
+returns-clause-cells c = holds c ZonesMeetNoTextInPlan (λ plan h. free-plan c.args.election.now c.args.card plan c.requires h)
 
 pub returns-clause-apart : goal.returns-clause-apart
 returns-clause-apart c = holds c AreApartInPlan (λ plan h. apart-plan c.args.election.now c.args.card plan c.requires h)

@@ -2,8 +2,8 @@ use Rattle.std.proofs.Common.{◌∙◌, Err, ap}
 use Rattle.std.proofs.lemmas.Result.{err_from_is_err_and}
 use Rattle.vx_journal.specs.declared.journal.Journal.{Journal}
 use Rattle.vx_ranked.specs.Outcome.{RankedOutcome, file_outcome, journal_outcome}
-use Rattle.vx_ranked.specs.Status.{status_of}
 use Rattle.vx_ranked.proofs.Acts.{comes_done, not_read, read}
+use Rattle.vx_ranked.proofs.Stops.{reading_stops}
 use Rattle.vx_ranked.proofs.taking.rank_journal.Goals as goal
 
 pub returns-in_err-journal-clause-done : goal.returns-in_err-journal-clause-done
@@ -23,7 +23,12 @@ returns-clause-done g c files told records kept =
     let held = g.K.Keeper.held c.args.keeper.now in
     rw c.read_journal.ensures.held
     (comes_done (journal_outcome election plans file records) (rest c.in_ok-journal.journal) (g.S.Sink.taken c.args.out.now)
-    (g.S.Sink.taken c.args.out.now) (g.S.Sink.taken c.rank_file-done.new.out) held held held (status_of c.rank_file-done.result)
+    (g.S.Sink.taken c.args.out.now) (g.S.Sink.taken c.rank_file-done.new.out) held held held c.rank_file-done.result
     (read c.journals_in_order.ensures election records rest (g.S.Sink.taken c.args.out.now) held c.in_ok-journal.journal
     (c.in_ok-journal.ensures.told records kept))
     (c.rank_file-done.ensures.done files told held))
+
+pub returns-in_err-journal-clause-stops : goal.returns-in_err-journal-clause-stops
+returns-in_err-journal-clause-stops g c =
+    let err = err_from_is_err_and c.from_residual.result c.from_residual.ensures.1 in
+    rw (err.1 ∙ ap Err err.2) (reading_stops c.in_err-journal.field-0.0 c.in_err-journal.ensures.halts)

@@ -6,8 +6,9 @@ use Rattle.vx_command.specs.declared.halt.Halt.{Halt}
 use Rattle.vx_ranked.specs.declared.fault.RankedFault.{RankedFault}
 use Rattle.vx_ranked.specs.Groups.{IsGroup}
 use Rattle.vx_ranked.specs.Texts.{ranked_text}
-use Rattle.vx_ranked.specs.Status.{may_have_written, status_of}
+use Rattle.vx_ranked.specs.Status.{may_have_written}
 use Rattle.vx_ranked.proofs.Acts.{late}
+use Rattle.vx_ranked.proofs.Stops.{written_stops}
 use Rattle.vx_ranked.proofs.writing.write_rounds.Goals as goal
 
 pub write_groups-done-requires-clause-groups : goal.write_groups-done-requires-clause-groups
@@ -18,9 +19,16 @@ write_groups-done-requires-clause-groups g c =
 pub returns-in_err-done-in-Ok-clause-nothing_written : goal.returns-in_err-done-in-Ok-clause-nothing_written
 returns-in_err-done-in-Ok-clause-nothing_written g c none =
     let err = err_from_is_err_and c.from_residual.result c.from_residual.ensures.1 in
-    let Never : Result (Option RankedFault) Halt → Type 0 = λ r. may_have_written (status_of r) ≡ false in
+    let Never : Result (Option RankedFault) Halt → Type 0 = λ r. may_have_written r ≡ false in
     let never = subst Never (err.1 ∙ ap Err err.2) none in
     absurd (not-both _
     (late (ranked_text c.args.election.now c.args.center.now.events c.as_slice.result.now) (g.S.Sink.taken c.args.out.now)
     (g.S.Sink.taken c.write_groups-done.new.out) _ c.in_err-done-in-Ok.ensures.done)
     never)
+
+pub returns-in_err-done-in-Ok-clause-stops : goal.returns-in_err-done-in-Ok-clause-stops
+returns-in_err-done-in-Ok-clause-stops g c =
+    let err = err_from_is_err_and c.from_residual.result c.from_residual.ensures.1 in
+    rw (err.1 ∙ ap Err err.2)
+    (written_stops (ranked_text c.args.election.now c.args.center.now.events c.as_slice.result.now) (g.S.Sink.taken c.args.out.now)
+    (g.S.Sink.taken c.write_groups-done.new.out) c.in_err-done-in-Ok.field-0.0 c.in_err-done-in-Ok.ensures.done)

@@ -12,9 +12,9 @@ returns-clause-done g c files told records kept =
     (λ (given : Election). once_read given records (journal_outcome bytes c.args.size given (files c.args.hand.now))))
     (g.S.Sink.taken c.args.out.now) (g.S.Sink.taken c.sample_journal-done.new.out) (g.K.Keeper.held c.args.keeper.now) (g.K.Keeper.held c.sample_journal-done.new.keeper)
     c.sample_journal-done.result in
-    subst Done c.bytes_of-bytes.ensures
+    subst Done c.seed_of-bytes.ensures
     (c.steps_in_order.ensures.taken 1 (election_in (files c.args.election.now)) c.in_ok-given.given
-    (λ (given : Election). once_read given records (journal_outcome c.bytes_of-bytes.result c.args.size given (files c.args.hand.now))) (g.S.Sink.taken c.args.out.now)
+    (λ (given : Election). once_read given records (journal_outcome c.seed_of-bytes.result c.args.size given (files c.args.hand.now))) (g.S.Sink.taken c.args.out.now)
     (c.in_ok-given.ensures.told files told) (g.K.Keeper.held c.args.keeper.now) (g.S.Sink.taken c.sample_journal-done.new.out) (g.K.Keeper.held c.sample_journal-done.new.keeper)
     c.sample_journal-done.result
     (c.sample_journal-done.ensures.done files (c.in_ok-given.ensures.inputs.inputs.same ∙ told) records kept))

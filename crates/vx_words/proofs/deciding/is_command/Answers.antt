@@ -1,5 +1,5 @@
 use Rattle.std.proofs.Common.{rules}
-use Rattle.vx_words.proofs.Spellings.{no_command, read_spelled, check_spelled, decide_spelled, queue_spelled, try_spelled, cards_spelled, results_spelled}
+use Rattle.vx_words.proofs.Spellings.{no_command, read_spelled, check_spelled, decide_spelled, queue_spelled, try_spelled, cards_spelled, results_spelled, summary_spelled}
 use Rattle.vx_words.proofs.deciding.is_command.Goals as goal
 
 pub returns-in_default : goal.returns-in_default
@@ -25,3 +25,6 @@ returns-in-Cards c = (_, cards_spelled c.args.words.now (search rules))
 
 pub returns-in-Results : goal.returns-in-Results
 returns-in-Results c = (_, results_spelled c.args.words.now (search rules))
+
+pub returns-in-Summary : goal.returns-in-Summary
+returns-in-Summary c = (_, summary_spelled c.args.words.now (search rules))

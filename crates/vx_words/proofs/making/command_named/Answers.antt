@@ -41,3 +41,12 @@ returns-in-Sample c = rw c.in-Sample.is c.sample_of.ensures
 
 pub returns-in-Desk : goal.returns-in-Desk
 returns-in-Desk c = rw c.in-Desk.is c.desk_of.ensures
+
+pub returns-in-Summary : goal.returns-in-Summary
+returns-in-Summary c = rw c.in-Summary.is c.summary_of.ensures
+
+pub returns-in-Board : goal.returns-in-Board
+returns-in-Board c = rw c.in-Board.is c.board_of.ensures
+
+pub returns-in-Risk : goal.returns-in-Risk
+returns-in-Risk c = rw c.in-Risk.is c.risk_of.ensures

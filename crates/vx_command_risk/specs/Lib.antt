@@ -1,0 +1,10 @@
+pub mod Standing
+pub mod Sides
+pub mod Votes
+pub mod Said
+pub mod Findings
+pub mod Sampled
+pub mod Rows
+pub mod Text
+pub mod Outcome
+pub mod Laws

@@ -1,0 +1,10 @@
+use Rattle.std.proofs.Common.{◌≡◌, ◌++◌, take}
+use Rattle.std.specs.Prelude.{string_bytes}
+use Rattle.std.specs.List.{flat_map}
+use Rattle.vx_results.specs.Counted.{pile_of}
+use Rattle.vx_results.specs.Summary.{group_sheets}
+use Rattle.vx_results.proofs.group_lines.push_all_sheets.Given as goal
+
+abbrev pub invariant-loop-group : goal.invariant-loop-group
+invariant-loop-group l =
+    string_bytes l.text ≡ string_bytes l.initial.text ++ flat_map (group_sheets l.units (pile_of l.piles)) (take l.group-index l.groups)

@@ -1,4 +1,0 @@
-use Rattle.vx_trials_rounds.proofs.counting.rounds_text.Given as goal
-
-abbrev pub ghosts-counted : goal.ghosts-counted
-ghosts-counted a = record { name = a.blank.name; parts = a.blank.parts }
