@@ -8,6 +8,7 @@ pub mod Numbered
 pub mod Finding
 pub mod Answered
 pub mod Rowed
+pub mod Keyed
 pub mod Lasting
 pub mod Answering
 mod Histories

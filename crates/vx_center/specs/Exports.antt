@@ -1,5 +1,5 @@
 -- What is exported: for each sheet its exported contests and what they count as. This project's own rules.
-use Rattle.std.specs.Prelude.{ℕ, Bool, if◌then◌else◌, List, [], ◌∷◌, map, slice_get, Option, Some, None, IsPermutation, IsSortedByKey}
+use Rattle.std.specs.Prelude.{◌<◌, ℕ, All, Bool, if◌then◌else◌, List, [], ◌∷◌, length, map, slice_get, Option, Some, None, IsPermutation, IsSortedByKey}
 use Rattle.std.specs.List.{flat_map}
 use Rattle.std.specs.declared.cmp.Ordering.{Ordering}
 use Rattle.std.specs.Ordering.{nat_cmp, ordering_then}
@@ -15,6 +15,7 @@ use Rattle.vx_events.specs.declared.key.Key.{Key}
 use Rattle.vx_center.specs.declared.rows.Final.{Final}
 use Rattle.vx_center.specs.declared.rows.ExportSheet.{ExportSheet}
 use Rattle.vx_center.specs.Sheets.{Added, sheets_in}
+use Rattle.vx_center.specs.Places.{sheet_at}
 use Rattle.vx_center.specs.declared.decided.Decided.{Decided}
 use Rattle.vx_center.specs.Decisions.{decided_of, decisions_on, ruling_of}
 use Rattle.vx_center.specs.Finals.{selected_by, is_overvoted, names_of}
@@ -60,10 +61,13 @@ row_by election key sheet decided = record {
 abbrev pub row_of : Election → List Event → Added → ExportSheet
 row_of election kept added = row_by election added.key added.sheet (decided_of kept added.key)
 
--- the row of a sheet, if there is one
-abbrev pub rows_at : Election → List Event → Option Added → List ExportSheet
-rows_at election kept None = []
-rows_at election kept (Some added) = row_of election kept added ∷ []
+-- what is exported of the sheet at a place in the order of adding
+abbrev pub row_at : Election → List Event → ℕ → ExportSheet
+row_at election kept place = row_of election kept (sheet_at kept place)
+
+-- a place in the order of adding, with the key of the sheet there
+abbrev pub keyed_at : List Event → ℕ → ℕ × Key
+keyed_at kept place = (place, (sheet_at kept place).key)
 
 -- the order of keys: the batch's bytes, then the number
 abbrev pub key_order : Key → Key → Ordering
@@ -73,3 +77,8 @@ key_order one other = ordering_then (slice_cmp nat_cmp one.batch other.batch) (n
 pub record AreExportRows (election : Election) (kept : List Event) (rows : List ExportSheet) : Type 0 where
   pub all : IsPermutation (map (row_of election kept) (sheets_in kept)) rows
   pub sorted : IsSortedByKey (λ (row : ExportSheet). row.key) key_order rows
+
+-- the places of an export: at each stands a sheet, and the rows of these sheets are the export's
+pub record AreExportPlaces (election : Election) (kept : List Event) (places : List ℕ) : Type 0 where
+  pub there : All (λ place. place < length (sheets_in kept)) places
+  pub rows : AreExportRows election kept (map (row_at election kept) places)

@@ -1,12 +1,11 @@
-ghost use Rattle.std.specs.Prelude.{◌≡◌, ◌<◌, ◌^◌, ◌++◌, IfOk, OnOk, length, map, slice_get, true};
-ghost use Rattle.std.specs.List.{list_all};
+ghost use Rattle.std.specs.Prelude.{◌≡◌, ◌<◌, ◌^◌, ◌++◌, IfOk, OnOk, length, map, true};
+ghost use Rattle.std.specs.List.{list_all, range_with_len};
 ghost use Rattle.std.specs.Option.{option_copied};
 ghost use Rattle.vx_election_model.specs.Valid.{IsValid};
 ghost use Rattle.vx_events.specs.Fits.{is_read};
 ghost use Rattle.vx_center.specs.Decisions.{decisions_on};
 ghost use Rattle.vx_center.specs.Exports as spec;
-ghost use Rattle.vx_center.specs.Exports.{AreExportRows};
-ghost use Rattle.vx_center.specs.Places.{sheet_at};
+ghost use Rattle.vx_center.specs.Exports.{AreExportPlaces, AreExportRows, keyed_at};
 ghost use Rattle.vx_center.specs.Sheets.{sheets_in};
 ghost use Rattle.vx_center.specs.Finals.{is_overvoted, marked_options, names_of, selected_by};
 
@@ -181,48 +180,72 @@ fn key_order(one: &Key, other: &Key) -> Ordering
     batch.cmp(&other_batch).then(one.number.cmp(&other.number))
 }
 
+/// A place in the order of adding, with the key of the sheet there.
+#[derive(Clone, Copy)]
+struct KeyedPlace<'a> {
+    place: usize,
+    key: &'a Key,
+}
+
+/// The places alone, in their order.
+fn places_of(alloc: Global, keyed: &[KeyedPlace<'_>]) -> Result<Vec<usize>, OutOfMemory>
+    ensures { IfOk result (λ places. places.items ≡ map (λ one. one.place) keyed.now) }
+{
+    let mut places = Vec::with_capacity(alloc, keyed.len())?;
+    for one in keyed {
+        places.push(one.place)?;
+    }
+    Ok(places)
+}
+
 impl<'e> Center<'e> {
     /// What is exported of the sheet at a place in the order of adding.
     #[tactic(auto, using(crate::proofs::Rowed::row_found))]
     pub fn row_at(&self, alloc: Global, place: usize) -> Result<ExportSheet, OutOfMemory>
         requires { place < length (sheets_in self.now.events) }
-        ensures { IfOk result (λ made. made
-            ≡ spec.row_of self.now.election self.now.events (sheet_at self.now.events place)) }
+        ensures { IfOk result (λ made. made ≡ spec.row_at self.now.election self.now.events place) }
     {
         let found = self.found(place).unwrap();
         let decided = found.entry.decided();
         row(alloc, self.election(), found.key, found.sheet, decided)
     }
 
-    /// Adds the row of the sheet at a place in the order of adding.
-    fn add_row(
-        &self,
-        alloc: Global,
-        rows: &mut Vec<ExportSheet>,
-        place: usize,
-    ) -> Result<(), OutOfMemory>
-        ensures { OnOk result (rows.new.items
-            ≡ rows.old.items
-            ++ spec.rows_at self.now.election self.now.events (slice_get (sheets_in self.now.events) place)) }
+    /// A place with the key of the sheet there.
+    #[tactic(auto, using(crate::proofs::Rowed::key_found))]
+    fn keyed_place(&self, place: usize) -> KeyedPlace<'_>
+        requires { place < length (sheets_in self.now.events) }
+        ensures { (result.place, result.key.now) ≡ keyed_at self.now.events place }
     {
-        if let Some(found) = self.found(place) {
-            let decided = found.entry.decided();
-            rows.push(row(alloc, self.election(), found.key, found.sheet, decided)?)?;
-        }
-        Ok(())
+        let key = self.found(place).unwrap().key;
+        KeyedPlace { place, key }
     }
 
-    /// The rows of the sheets, in the order of adding.
-    fn rows(&self, alloc: Global) -> Result<Vec<ExportSheet>, OutOfMemory>
-        ensures { IfOk result (λ rows. rows.items
-            ≡ map (spec.row_of self.now.election self.now.events) (sheets_in self.now.events)) }
+    /// The places of the sheets with their keys, in the order of adding.
+    fn keyed_places(&self, alloc: Global) -> Result<Vec<KeyedPlace<'_>>, OutOfMemory>
+        ensures { IfOk result (λ keyed. map (λ one. (one.place, one.key.now)) keyed.items
+            ≡ map (keyed_at self.now.events) (range_with_len 0 (length (sheets_in self.now.events)))) }
     {
         let count = self.sheet_count();
-        let mut rows = Vec::with_capacity(alloc, count)?;
+        let mut keyed = Vec::with_capacity(alloc, count)?;
         for place in 0..count {
-            self.add_row(alloc, &mut rows, place)?;
+            keyed.push(self.keyed_place(place))?;
         }
-        Ok(rows)
+        Ok(keyed)
+    }
+
+    /// The places of the sheets, in the order of the batches' bytes and then of the numbers: so an export
+    /// goes through them one at a time.
+    pub fn export_places(&self, alloc: Global) -> Result<Vec<usize>, OutOfMemory>
+        ensures { IfOk result (λ places. AreExportPlaces self.now.election self.now.events places.items) }
+    {
+        let mut keyed = self.keyed_places(alloc)?;
+        keyed.sort_by(
+            |one: &KeyedPlace<'_>, other: &KeyedPlace<'_>| -> Ordering
+                ensures { result ≡ spec.key_order one.now.key.now other.now.key.now }
+            { key_order(one.key, other.key) },
+        )?;
+        let places = places_of(alloc, keyed.as_slice())?;
+        Ok(places)
     }
 
     /// What is exported: a row for each sheet with its exported contests, in the order of the batches'
@@ -230,12 +253,11 @@ impl<'e> Center<'e> {
     pub fn export_rows(&self, alloc: Global) -> Result<ExportSheets, OutOfMemory>
         ensures { IfOk result (λ rows. AreExportRows self.now.election self.now.events rows) }
     {
-        let mut rows = self.rows(alloc)?;
-        rows.sort_by(
-            |one: &ExportSheet, other: &ExportSheet| -> Ordering
-                ensures { result ≡ spec.key_order one.now.key other.now.key }
-            { key_order(&one.key, &other.key) },
-        )?;
+        let places = self.export_places(alloc)?;
+        let mut rows = Vec::with_capacity(alloc, places.len())?;
+        for place in places.as_slice() {
+            rows.push(self.row_at(alloc, *place)?)?;
+        }
         Ok(ExportSheets::from_vec(rows))
     }
 }
