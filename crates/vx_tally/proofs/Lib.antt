@@ -7,5 +7,7 @@ pub mod FirstKept
 pub mod KeptRecords
 pub mod Numbered
 pub mod Readings
+pub mod Running
 pub mod SameSums
 pub mod Summed
+pub mod Voted

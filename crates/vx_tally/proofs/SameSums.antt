@@ -45,7 +45,7 @@ same-equal (Under c) (VotesIn v d t) e = absurd cc
 same-equal (Under c) (Over d) e = absurd cc
 
 -- the derived test says the same
-derived-same : (one other : Counted) → derived one other ≡ same_counted one other
+pub derived-same : (one other : Counted) → derived one other ≡ same_counted one other
 derived-same (Votes c s) (Votes d t) = refl
 derived-same (VotesIn u c s) (VotesIn v d t) = refl
 derived-same (Over c) (Over d) = refl
@@ -71,7 +71,7 @@ looked-same {X} p q same (entry ∷ entries) =
 pub get-same : {S : Type 0} (sums : IndexMap Counted ℕ S) (key : Counted) → get derived sums key ≡ get same_counted sums key
 get-same sums key = looked-same (derived key) (same_counted key) (derived-same key) sums.entries
 
-same-turned : (one other : Counted) → same_counted one other ≡ same_counted other one
+pub same-turned : (one other : Counted) → same_counted one other ≡ same_counted other one
 same-turned one other = same-bool _ _ (turned one other) (turned other one)
   where
     turned : (a b : Counted) → same_counted a b ≡ true → same_counted b a ≡ true

@@ -9,3 +9,6 @@ pub mod Reading
 pub mod Totals
 pub mod Sums
 pub mod Kept
+pub mod Cells
+pub mod Running
+pub mod Laws

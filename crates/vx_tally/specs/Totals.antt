@@ -62,6 +62,24 @@ over_of records contest = sum_by (λ (counted : RecordContest). counted.over) (c
 unfoldable pub under_of : List CvrRecord → ℕ → ℕ
 under_of records contest = sum_by (λ (counted : RecordContest). counted.under) (counts_of records contest)
 
+-- what records sum up to: how many there are, and by their places the votes for a selection of a contest, those in a unit, and
+-- the overvotes and the undervotes of a contest
+pub record Summed : Type 0 where
+  pub count : ℕ
+  pub votes : ℕ → ℕ → ℕ
+  pub votes_in : ℕ → ℕ → ℕ → ℕ
+  pub over : ℕ → ℕ
+  pub under : ℕ → ℕ
+
+abbrev pub summed_of : List CvrRecord → Summed
+summed_of records = record {
+  count = length records;
+  votes = total_of records;
+  votes_in = total_in_of records;
+  over = over_of records;
+  under = under_of records;
+}
+
 -- equal votes, equal contests and equal records
 abbrev pub same_row : VoteRow → VoteRow → Bool
 same_row one other = one.selection == other.selection && one.votes == other.votes

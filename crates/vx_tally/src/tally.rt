@@ -36,7 +36,7 @@ impl Model for Tally {
 }
 
 /// How many contests and rows a record has.
-fn size_of(one: &CvrRecord) -> usize
+pub(crate) fn size_of(one: &CvrRecord) -> usize
     requires { size_of one.now ≤ 10000000 }
     ensures { result ≡ size_of one.now }
 {
