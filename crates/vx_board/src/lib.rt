@@ -20,3 +20,4 @@ pub use boarding::board;
 pub use laws::{
     ballots_are_the_sample, board_is_blind, board_is_of_what_was_kept, data_is_no_markup,
 };
+pub use page::{push_head, push_tail};

@@ -11,7 +11,7 @@ const HEAD: [&str; 2] = [
 <html lang=\"en\">
 <head>
 <meta charset=\"utf-8\">
-<meta http-equiv=\"Content-Security-Policy\" content=\"default-src 'none'; script-src 'sha256-dGim7yDGoJtSGnJQ8gxm8k0BdBMj1UYkhYGN7gJEOwg='; style-src 'sha256-oWhQ48gCxtIQIm6ZR0dPqYPmgiGEQVKEkCHKusRY8u4='; base-uri 'none'; form-action 'none'; require-trusted-types-for 'script'; trusted-types 'none'\">
+<meta http-equiv=\"Content-Security-Policy\" content=\"default-src 'none'; script-src 'sha256-Jo8mZ9l+2Wk3dePpodL0hWLEEm6tXnBI3qkaPgyaVhY='; style-src 'sha256-dpAuLWvoINttl26Ku02DrCDk4a9bPFY9fOFu8tYIeE8='; base-uri 'none'; form-action 'none'; require-trusted-types-for 'script'; trusted-types 'none'\">
 <meta name=\"viewport\" content=\"width=device-width, initial-scale=1\">
 <meta name=\"referrer\" content=\"no-referrer\">
 <title>Audit board</title>
@@ -58,22 +58,25 @@ section { background: var(--sheet); border: 1px solid var(--hair); border-radius
 .bar { display: flex; flex-wrap: wrap; gap: .5rem; align-items: center; }
 .bar .space { flex: 1 1 0; }
 
-button, input, textarea, a.button { font: inherit; color: inherit; }
+button, input, select, textarea, a.button { font: inherit; color: inherit; }
 button, a.button { display: inline-block; min-height: 2.5rem; padding: .25rem .8rem; border: 1px solid var(--line); border-radius: 4px; background: #fff; color: var(--ink); text-decoration: none; cursor: pointer; }
 button:hover, a.button:hover { background: #eef3f8; border-color: var(--ink); }
 button.main, a.main { background: var(--accent); border-color: var(--accent); color: #fff; font-weight: 600; }
 button.main:hover, a.main:hover { background: #083b77; }
 button[aria-pressed=\"true\"], button[aria-current=\"true\"] { background: #24303c; border-color: #24303c; color: #fff; font-weight: 600; }
-input[type=\"text\"], input[type=\"file\"], textarea { min-height: 2.25rem; max-width: 100%; padding: .2rem .5rem; border: 1px solid var(--line); border-radius: 4px; background: #fff; color: var(--ink); }
+input[type=\"text\"], input[type=\"file\"], select, textarea { min-height: 2.25rem; max-width: 100%; padding: .2rem .5rem; border: 1px solid var(--line); border-radius: 4px; background: #fff; color: var(--ink); }
 input[type=\"checkbox\"] { width: 1.15rem; height: 1.15rem; vertical-align: -.2rem; }
 kbd { font: 600 .8rem/1 ui-monospace, \"DejaVu Sans Mono\", monospace; border: 1px solid var(--line); border-bottom-width: 2px; border-radius: 3px; padding: .08rem .3rem; background: #fff; color: var(--ink); }
 button kbd { margin-left: .35rem; }
 
 table { border-collapse: collapse; width: 100%; table-layout: fixed; }
 th, td { text-align: left; padding: .3rem .6rem .3rem 0; border-bottom: 1px solid var(--hair); vertical-align: top; overflow-wrap: anywhere; }
+col.number { width: 6.5rem; }
 ",
-    "td.number, th.number { width: 6.5rem; text-align: right; padding-right: 1.2rem; font-variant-numeric: tabular-nums; }
-td.box, th.box { width: 2.6rem; }
+    "td.number, th.number { text-align: right; padding-right: 1.2rem; font-variant-numeric: tabular-nums; }
+col.box { width: 2.6rem; }
+col.batch { width: 25%; }
+.heading { display: none; }
 
 .options { list-style: none; display: grid; gap: .4rem; }
 .options button { display: grid; grid-template-columns: 1.8rem minmax(0, 1fr); gap: .5rem; align-items: center; width: 100%; text-align: left; }
@@ -81,6 +84,8 @@ td.box, th.box { width: 2.6rem; }
 .options button bdi { font-weight: 600; text-align: start; }
 fieldset { border: 0; min-width: 0; }
 .rulings { display: grid; grid-template-columns: repeat(auto-fit, minmax(12rem, 1fr)); gap: .5rem; }
+.others { display: grid; gap: .4rem; }
+.others select { width: 100%; }
 .state { padding: .5rem .8rem; border-radius: 4px; background: #f1f3f5; border-left: 5px solid var(--line); overflow-wrap: anywhere; }
 .state.done { background: var(--done-ground); border-color: var(--done); }
 .live { min-height: 1.5rem; font-weight: 600; overflow-wrap: anywhere; }
@@ -92,13 +97,17 @@ textarea { width: 100%; font: .9rem/1.4 ui-monospace, \"DejaVu Sans Mono\", mono
 
 @media print {
   html { background: none; font-size: 11pt; }
-  header { background: none; color: #000; padding: 0 0 .5rem; }
-  header .of p { color: #000; }
-  header .progress, .notes, #views, #read, #save, .screen, #unwhole, noscript { display: none !important; }
+  header, #views, #read, #save, .screen, #unkept, #twice, #together, noscript { display: none !important; }
   main { max-width: none; padding: 0; display: block; }
-  #fetch { display: block !important; border: 0; padding: 0; }
-  #fetch tr { break-inside: avoid; }
+  #views:not([hidden]) ~ #fetch { display: block !important; border: 0; padding: 0; }
+  #fetch p { margin: .3rem 0 .6rem; }
   #fetch thead { display: table-header-group; }
+  #fetch .heading { display: table-row; }
+  #fetch tr { break-inside: avoid; }
+  #fetch tr.first td { border-top: 2px solid #000; }
+  #fetch th, #fetch td { border-color: #000; }
+  #fetch input { appearance: none; width: .95rem; height: .95rem; margin: 0; border: 1.5px solid #000; border-radius: 0; background: none; }
+  #fetch input:checked { border-width: .475rem; }
 }
 </style>
 </head>
@@ -108,7 +117,7 @@ textarea { width: 100%; font: .9rem/1.4 ui-monospace, \"DejaVu Sans Mono\", mono
 ",
 ];
 
-const TAIL: [&str; 9] = [
+const TAIL: [&str; 10] = [
     "</script>
 <noscript><p class=\"alert\">This page does its work with JavaScript, which is turned off. Nothing can be entered here.</p></noscript>
 <header>
@@ -141,7 +150,11 @@ const TAIL: [&str; 9] = [
     <p id=\"fetch-told\"></p>
     <p class=\"screen\"><button type=\"button\" id=\"print\">Print the list</button></p>
     <table>
-      <thead><tr><th class=\"box\" scope=\"col\">Got</th><th scope=\"col\">Batch</th><th class=\"number\" scope=\"col\">Number</th><th scope=\"col\">Card</th></tr></thead>
+      <colgroup><col class=\"box\"><col class=\"batch\"><col class=\"number\"><col></colgroup>
+      <thead>
+        <tr class=\"heading\"><td colspan=\"4\"><bdi id=\"list-election\"></bdi><br>Seed <span id=\"list-seed\"></span>, size <span id=\"list-size\"></span></td></tr>
+        <tr><th class=\"box\" scope=\"col\">Got</th><th scope=\"col\">Batch</th><th class=\"number\" scope=\"col\">Number</th><th scope=\"col\">Card</th></tr>
+      </thead>
       <tbody id=\"rows\"></tbody>
     </table>
   </section>
@@ -175,6 +188,16 @@ const TAIL: [&str; 9] = [
       <button type=\"button\" id=\"absent\" aria-keyshortcuts=\"X\">Not on this ballot<kbd>X</kbd></button>
       <button type=\"button\" id=\"lost\" aria-keyshortcuts=\"U\">Ballot can't be found<kbd>U</kbd></button>
     </div>
+    <p><button type=\"button\" id=\"more\" aria-keyshortcuts=\"Plus\" aria-expanded=\"false\" aria-controls=\"others\">Another contest is on this ballot<kbd>+</kbd></button></p>
+",
+    "    <div id=\"others\" class=\"others\" hidden>
+      <label for=\"other\">The contest that stands on this paper too</label>
+      <select id=\"other\" size=\"6\"></select>
+      <div class=\"bar\">
+        <button type=\"button\" id=\"add\" class=\"main\">Add it to this ballot<kbd>Enter</kbd></button>
+        <button type=\"button\" id=\"leave\">Leave it<kbd>Esc</kbd></button>
+      </div>
+    </div>
     <p><button type=\"button\" id=\"confirm\" class=\"main\" aria-keyshortcuts=\"Enter\">It is so: go on<kbd>Enter</kbd></button></p>
     <ul class=\"keys\" aria-label=\"Keys\">
       <li><kbd>1</kbd>&hairsp;&ndash;&hairsp;<kbd>9</kbd> and letters: the options</li>
@@ -182,8 +205,8 @@ const TAIL: [&str; 9] = [
       <li><kbd>O</kbd> overvoted</li>
       <li><kbd>X</kbd> not on this ballot</li>
       <li><kbd>U</kbd> ballot can't be found</li>
-",
-    "      <li><kbd>Enter</kbd> it is so: go on</li>
+      <li><kbd>+</kbd> another contest is on this ballot</li>
+      <li><kbd>Enter</kbd> it is so: go on</li>
       <li><kbd>P</kbd> <kbd>N</kbd> previous, next</li>
       <li><kbd>F</kbd> first unread</li>
       <li><kbd>Esc</kbd> leave a field</li>
@@ -239,7 +262,8 @@ function readData(text) {
   const lines = text.split('\\n').filter((line) => line !== '');
   let at = 0;
   const next = () => JSON.parse(lines[at++]);
-  try {
+",
+    "  try {
     demand(lines.length >= 2, 'it is not whole');
     const first = next();
     checkFirst(first);
@@ -262,8 +286,7 @@ function sumOf(text) {
   let a = 0xdeadbeef;
   let b = 0x41c6ce57;
   for (let at = 0; at < text.length; at++) {
-",
-    "    const code = text.charCodeAt(at);
+    const code = text.charCodeAt(at);
     a = Math.imul(a ^ code, 2654435761);
     b = Math.imul(b ^ code, 1597334677);
   }
@@ -275,13 +298,15 @@ function sumOf(text) {
 // ---- What a board says of a contest ----
 //
 // A statement is a text: '-' blank, 'o' overvoted, 'x' not on this ballot, or 'v' and the numbers of the options with
-// a vote, ascending, as 'v 0 2'. Where nothing was said it is null. A reading of a ballot has a statement for each
-// contest of its card, and whether the ballot can't be found.
+// a vote, ascending, as 'v 0 2'. Where nothing was said it is null. A reading of a ballot has the numbers of contests
+// that stand on the paper and not on its card, ascending, a statement for each contest of the card and behind them
+// for each of those, and whether the ballot can't be found. A contest that was added and isn't there is taken away.
 
 const BLANK = '-';
 const OVERVOTED = 'o';
 const ABSENT = 'x';
 const RULINGS = [BLANK, OVERVOTED, ABSENT];
+const LOST_TOLD = 'This ballot is told as one that can\\'t be found: press U if it is here.';
 
 const numbersOf = (said) => (said === null || RULINGS.includes(said) ? [] : said.split(' ').slice(1).map(Number));
 
@@ -294,14 +319,46 @@ function isStatement(contest, said) {
     number < contest.options.length && (at === 0 || numbers[at - 1] < number));
 }
 
-const contestsOf = (place) => data.cards[data.ballots[place].card].contests.map((number) => data.contests[number]);
-const newReading = (place) => ({ said: contestsOf(place).map(() => null), isLost: false });
-const isTouched = (reading) => reading.isLost || reading.said.some((said) => said !== null);
+const cardContests = (place) => data.cards[data.ballots[place].card].contests;
+const newReading = (place) => ({ said: cardContests(place).map(() => null), added: [], isLost: false });
+const isTouched = (reading) => reading.isLost || reading.added.length > 0 || reading.said.some((said) => said !== null);
+
+/** The numbers of a ballot's contests: those of its card, and behind them those that were added. */
+const numbersOn = (place, reading = readings()[place]) => [...cardContests(place), ...reading.added];
+const contestsOf = (place, reading) => numbersOn(place, reading).map((number) => data.contests[number]);
+const isAdded = (place, at) => at >= cardContests(place).length;
+
+/** Whether these are contests of the election that the card hasn't, ascending. */
+function areAdded(place, added) {
+  return isList(added, isCount) && added.every((number, at) =>
+    number < data.contests.length && !cardContests(place).includes(number) && (at === 0 || added[at - 1] < number));
+}
 
 function isReading(place, reading) {
-  const contests = contestsOf(place);
-  return Boolean(reading) && typeof reading.isLost === 'boolean' && Array.isArray(reading.said)
-    && reading.said.length === contests.length && reading.said.every((said, at) => isStatement(contests[at], said));
+  if (!reading || typeof reading.isLost !== 'boolean' || !Array.isArray(reading.said) || !areAdded(place, reading.added)) return false;
+  const contests = contestsOf(place, reading);
+  return reading.said.length === contests.length && reading.said.every((said, at) =>
+    isStatement(contests[at], said) && !(said === ABSENT && isAdded(place, at)));
+}
+
+/** What a reading says of a contest by its number: of one that the ballot hasn't, that it isn't there. */
+",
+    "function saidOf(place, reading, number) {
+  const at = numbersOn(place, reading).indexOf(number);
+  return at === -1 ? ABSENT : reading.said[at];
+}
+
+/** A reading in which one contest more stands on the paper. */
+function withContest(place, reading, number, said) {
+  const added = [...reading.added, number].sort((one, other) => one - other);
+  const at = cardContests(place).length + added.indexOf(number);
+  return { ...reading, said: [...reading.said.slice(0, at), said, ...reading.said.slice(at)], added };
+}
+
+/** The same without one that was added. */
+function withoutContest(place, reading, number) {
+  const at = numbersOn(place, reading).indexOf(number);
+  return { ...reading, said: reading.said.filter((_, other) => other !== at), added: reading.added.filter((one) => one !== number) };
 }
 
 /** The option's name for people; a write-in slot is told by its number. */
@@ -327,7 +384,7 @@ function lineOf(ballot, contest, said) {
 function handOf(readings) {
   return readings.map((reading, place) => {
     if (reading.isLost) return '';
-    const contests = contestsOf(place);
+    const contests = contestsOf(place, reading);
     return reading.said.map((said, at) => lineOf(data.ballots[place], contests[at], said)).join('');
   }).join('');
 }
@@ -353,8 +410,7 @@ let differing = [];
 let isTogether = false;
 let ticked = new Set();
 let view = 'fetch';
-",
-    "// The ballot and the contest that are shown, and what is entered of it and isn't said yet.
+// The ballot and the contest that are shown, and what is entered of it and isn't said yet.
 let shown = 0;
 let at = 0;
 let draft = null;
@@ -389,7 +445,8 @@ const placeOf = (ballot) => `Batch ${ballot.batch}, number ${ballot.number}`;
 
 /** The readings of which something was said, by the ballots' places. */
 function touched(some) {
-  return Object.fromEntries(some.flatMap((one, place) => (isTouched(one) ? [[place, one]] : [])));
+",
+    "  return Object.fromEntries(some.flatMap((one, place) => (isTouched(one) ? [[place, one]] : [])));
 }
 
 function keep() {
@@ -409,12 +466,13 @@ function keep() {
 function filled(kept) {
   return data.ballots.map((ballot, place) => {
     const one = kept && kept[place];
-    return isReading(place, one) ? { said: [...one.said], isLost: one.isLost } : newReading(place);
+    return isReading(place, one) ? { said: [...one.said], added: [...one.added], isLost: one.isLost } : newReading(place);
   });
 }
 
-const isPlace = (pair) => Array.isArray(pair) && pair.length === 2 && isCount(pair[0]) && pair[0] < data.ballots.length
-  && (pair[1] === null || (isCount(pair[1]) && pair[1] < contestsOf(pair[0]).length));
+/** A ballot's place, and the number of a contest or null. */
+const isPair = (pair) => Array.isArray(pair) && pair.length === 2 && isCount(pair[0]) && pair[0] < data.ballots.length
+  && (pair[1] === null || (isCount(pair[1]) && pair[1] < data.contests.length));
 
 function takeKept() {
   let kept = null;
@@ -428,14 +486,14 @@ function takeKept() {
   }
   if (kept === null || typeof kept !== 'object') kept = {};
   own = filled(kept.own);
-  if (kept.both && isList(kept.differing, isPlace)) {
+  if (kept.both && isList(kept.differing, isPair)) {
     both = filled(kept.both);
     differing = kept.differing;
     isTogether = kept.isTogether === true;
   }
   if (isList(kept.ticked, isCount)) ticked = new Set(kept.ticked);
   if (VIEWS.includes(kept.view)) view = kept.view;
-  if (isPlace([kept.shown, kept.at])) [shown, at] = [kept.shown, kept.at === null ? 0 : kept.at];
+  if (isCount(kept.shown) && kept.shown < data.ballots.length && isCount(kept.at) && kept.at <= lastOn(kept.shown)) [shown, at] = [kept.shown, kept.at];
   find('letters').checked = kept.letters !== false;
 }
 
@@ -476,12 +534,12 @@ function watchWindows() {
 
 function cardOf(ballot) {
   const { precinct, style } = data.cards[ballot.card];
-",
-    "  return `${isolated(precinct)}, style ${isolated(style)}`;
+  return `${isolated(precinct)}, style ${isolated(style)}`;
 }
 
 function rowOf(ballot, place) {
-  const row = make('tr');
+  const isFirst = place > 0 && data.ballots[place - 1].batch !== ballot.batch;
+  const row = make('tr', isFirst ? 'first' : '');
   const box = make('input');
   box.type = 'checkbox';
   box.checked = ticked.has(place);
@@ -500,7 +558,8 @@ function rowOf(ballot, place) {
 function showList() {
   const count = data.ballots.length;
   const batches = new Set(data.ballots.map((ballot) => ballot.batch)).size;
-  find('fetch-told').textContent = `${count} of ${data.records} ballots were drawn, in ${batches} batches. Fetch each by its batch and its number in it, in the order of boxes, and tick it when it is here.`;
+",
+    "  find('fetch-told').textContent = `${count} of ${data.records} ballots were drawn, in ${batches} batches. Fetch each by its batch and its number in it, in the order of boxes, and tick it when it is here.`;
   find('rows').replaceChildren(...data.ballots.map(rowOf));
 }
 
@@ -556,8 +615,10 @@ function showBallot() {
   find('card').textContent = `${cardOf(ballot)}. Ballot ${shown + 1} of ${data.ballots.length}.`;
   find('place').value = String(shown + 1);
   find('contest').replaceChildren(makeBdi(contests.length === 0 ? '' : contest().title));
-  find('where').textContent = contests.length === 0 ? '' : `Contest ${at + 1} of ${contests.length}. Votes for at most ${contest().seats}.`;
+  const which = `Contest ${at + 1} of ${contests.length}${isAdded(shown, at) ? ', which was added to this ballot' : ''}.`;
+  find('where').textContent = contests.length === 0 ? '' : `${which} Votes for at most ${contest().seats}.`;
   find('options').replaceChildren(...(contests.length === 0 ? [] : contest().options.map(showOption)));
+  openOthers(false);
   showDraft();
 }
 
@@ -565,7 +626,7 @@ function showBallot() {
 function change(how) {
   if (contest() === undefined) return;
   if (reading().isLost) {
-    say('This ballot is told as one that can\\'t be found: press U if it is here.', true);
+    say(LOST_TOLD, true);
     return;
   }
   how();
@@ -573,8 +634,7 @@ function change(how) {
   say('');
 }
 
-",
-    "function toggle(number) {
+function toggle(number) {
   if (contest() === undefined || number >= contest().options.length) return;
   change(() => {
     draft.ruling = null;
@@ -592,13 +652,15 @@ function rule(ruling) {
 function toggleLost() {
   reading().isLost = !reading().isLost;
   draft = newDraft();
+  openOthers(false);
   showDraft();
   showCount();
   keep();
   say(reading().isLost ? 'The ballot can\\'t be found. Enter goes on to the next one.' : 'The ballot is here: read it.');
 }
 
-/** Says what is entered, and goes on to the next contest of which nothing was said. */
+",
+    "/** Says what is entered, and goes on to the next contest of which nothing was said. */
 function confirmDraft() {
   if (!reading().isLost && contest() !== undefined) {
     const said = statementOf(draft);
@@ -610,13 +672,84 @@ function confirmDraft() {
       say(`${draft.numbers.size} have a vote and ${contest().seats} may: take votes away, or say overvoted.`, true);
       return;
     }
+    if (said === ABSENT && isAdded(shown, at)) {
+      takeAway();
+      return;
+    }
     reading().said[at] = said;
   }
+  const told = reading().isLost || contest() === undefined ? find('state').textContent : toldOf(contest(), reading().said[at]);
+  goOn(`${placeOf(data.ballots[shown])}: ${told}`, reading().isLost ? contestsOf(shown).length : at);
+}
+
+/** Goes on behind a contest of the ballot, and says what was done. */
+function goOn(last, behind) {
   showCount();
-  const last = `${placeOf(data.ballots[shown])}: ${reading().isLost || contest() === undefined ? find('state').textContent : toldOf(contest(), reading().said[at])}`;
-  const isOver = !goToUnread([shown, reading().isLost ? contestsOf(shown).length : at]);
+  const isOver = !goToUnread([shown, behind]);
   keep();
   say(isOver ? `${last} Everything is read: save the file.` : last);
+}
+
+// ---- Contests that stand on the paper and not on the card ----
+
+const numbersOff = (place) => data.contests.map((_, number) => number).filter((number) => !numbersOn(place).includes(number));
+
+function openOthers(isOpen) {
+  find('others').hidden = !isOpen;
+  find('more').setAttribute('aria-expanded', String(isOpen));
+}
+
+function makeOther(number) {
+  const { title, name } = data.contests[number];
+  const element = make('option', '', `${title} (${name})`);
+  element.dir = 'auto';
+  element.value = String(number);
+  return element;
+}
+
+function toggleOthers() {
+  if (!find('others').hidden) {
+    leaveOthers();
+    return;
+  }
+  const others = numbersOff(shown);
+  if (reading().isLost) say(LOST_TOLD, true);
+  else if (others.length === 0) say('Every contest of the election is on this ballot.', true);
+  else {
+    find('other').replaceChildren(...others.map(makeOther));
+    find('other').selectedIndex = 0;
+    openOthers(true);
+    find('other').focus();
+    say('Choose the contest that stands on this paper too.');
+  }
+}
+
+function leaveOthers() {
+  openOthers(false);
+  find('title').focus({ preventScroll: true });
+  say('');
+}
+
+/** Replaces the reading of the ballot that is shown. */
+function become(changed) {
+  readings()[shown] = changed;
+  showCount();
+}
+
+function addOther() {
+  const number = Number(find('other').value);
+  if (find('other').value === '' || !numbersOff(shown).includes(number)) return;
+  become(withContest(shown, reading(), number, null));
+  goTo(shown, numbersOn(shown).indexOf(number));
+  say(`Added to this ballot: ${isolated(contest().title)}. Say what the paper has, or that it is not on this ballot.`);
+}
+
+/** Takes the contest that is shown away again, which was added. */
+function takeAway() {
+  const { title } = contest();
+  become(withoutContest(shown, reading(), numbersOn(shown)[at]));
+  at = Math.min(at, lastOn(shown));
+  goOn(`${placeOf(data.ballots[shown])}: ${isolated(title)} was taken away again.`, at - 1);
 }
 
 // ---- From contest to contest ----
@@ -648,7 +781,8 @@ function goToUnread(behind) {
   let before = null;
   for (let place = 0; place < data.ballots.length; place++) {
     const one = readings()[place];
-    for (let number = 0; !one.isLost && number < one.said.length; number++) {
+",
+    "    for (let number = 0; !one.isLost && number < one.said.length; number++) {
       if (one.said[number] !== null) continue;
       const isBehind = place > behind[0] || (place === behind[0] && number > behind[1]);
       if (before === null) before = [place, number];
@@ -700,8 +834,7 @@ function showCount() {
 let addresses = [];
 
 function offer(id, content, name) {
-",
-    "  const address = URL.createObjectURL(new Blob([content], { type: 'text/plain' }));
+  const address = URL.createObjectURL(new Blob([content], { type: 'text/plain' }));
   addresses.push(address);
   find(id).href = address;
   find(id).download = name;
@@ -755,20 +888,24 @@ function putTogether(one, other) {
     if (first.isLost && second.isLost) return { ...newReading(place), isLost: true };
     if (first.isLost !== second.isLost) {
       differing.push([place, null]);
-      return newReading(place);
+",
+    "      return newReading(place);
     }
-    return { isLost: false, said: first.said.map((said, number) => {
-      if (said === second.said[number]) return said;
+    const added = [...new Set([...first.added, ...second.added])].sort((one, other) => one - other);
+    const said = [...cardContests(place), ...added].map((number) => {
+      const answer = saidOf(place, first, number);
+      if (answer === saidOf(place, second, number)) return answer;
       differing.push([place, number]);
       return null;
-    }) };
+    });
+    return { said, added, isLost: false };
   });
   isTogether = true;
 }
 
 function isReadAnew([place, number]) {
   const one = both[place];
-  return one.isLost || (number === null ? one.said.every((said) => said !== null) : one.said[number] !== null);
+  return one.isLost || (number === null ? one.said.every((said) => said !== null) : saidOf(place, one, number) !== null);
 }
 
 function showDiffering() {
@@ -781,7 +918,7 @@ function showDiffering() {
   find('differing').replaceChildren(...differing.map((pair) => {
     const [place, number] = pair;
     const isDone = isReadAnew(pair);
-    const what = number === null ? 'whether it can be found' : isolated(contestsOf(place)[number].title);
+    const what = number === null ? 'whether it can be found' : isolated(data.contests[number].title);
     return make('li', isDone ? 'done' : '', `${placeOf(data.ballots[place])}: ${what}${isDone ? ' (read anew)' : ''}`);
   }));
 }
@@ -801,15 +938,14 @@ async function compareBoards() {
       }
     }
   } catch (fault) {
-",
-    "    find('compared').textContent = `Nothing was taken. ${fault.message}.`;
+    find('compared').textContent = `Nothing was taken. ${fault.message}.`;
     find('compared').classList.add('wrong');
     find('boards').value = '';
     return;
   }
   putTogether(taken.length === 2 ? taken[0] : own, taken[taken.length - 1]);
   find('boards').value = '';
-  [shown, at] = differing.length === 0 ? [0, 0] : [differing[0][0], differing[0][1] ?? 0];
+  [shown, at] = differing.length === 0 ? [0, 0] : [differing[0][0], Math.max(numbersOn(differing[0][0]).indexOf(differing[0][1]), 0)];
   keep();
   show();
   find('compared').textContent = differing.length === 0
@@ -827,7 +963,7 @@ function goApart() {
 
 // ---- Keys ----
 
-const isField = (element) => element instanceof Element && element.matches('input[type=\"text\"], textarea');
+const isField = (element) => element instanceof Element && element.matches('input[type=\"text\"], textarea, select');
 
 // An option is pressed by its key, a click or the space bar: Enter says what is entered, wherever an option has the focus.
 const isControl = (element) => element instanceof Element && element.matches('button, a, input');
@@ -842,6 +978,7 @@ const READ_KEYS = {
   p: goBack,
   n: goNext,
   f: goToFirst,
+  '+': toggleOthers,
 };
 
 /** Does what a key is for; false where it is for nothing here. */
@@ -858,9 +995,15 @@ function onKey(event) {
   if (data.ballots.length === 0 || event.isComposing || event.altKey || event.metaKey || event.ctrlKey) return;
   const name = event.key.toLowerCase();
   if (isField(event.target)) {
-    if (name === 'escape') find(view === 'read' ? 'title' : 'save-title').focus({ preventScroll: true });
-    else if (name === 'enter' && event.target === find('place')) goToBallot();
+    if (name === 'escape' && event.target === find('other')) leaveOthers();
+    else if (name === 'escape') find(view === 'read' ? 'title' : 'save-title').focus({ preventScroll: true });
+",
+    "    else if (name === 'enter' && event.target === find('place')) goToBallot();
+    else if (name === 'enter' && event.target === find('other')) addOther();
     else return;
+  } else if (name === 'escape') {
+    if (view !== 'read' || find('others').hidden) return;
+    leaveOthers();
   } else if (name === 'enter') {
     if (view !== 'read' || (isControl(event.target) && !isChoice(event.target))) return;
     confirmDraft();
@@ -901,6 +1044,9 @@ function watch() {
   on('overvoted', 'click', () => rule(OVERVOTED));
   on('absent', 'click', () => rule(ABSENT));
   on('lost', 'click', toggleLost);
+  on('more', 'click', toggleOthers);
+  on('add', 'click', addOther);
+  on('leave', 'click', leaveOthers);
   on('confirm', 'click', confirmDraft);
   on('forget', 'click', forget);
   on('boards', 'change', compareBoards);
@@ -918,11 +1064,14 @@ function begin() {
   data = readData(text);
   sum = sumOf(text);
   key = `board ${data.seed} ${data.size} ${sum} ${data.election}`;
-",
-    "  find('election').textContent = data.election;
+  find('election').textContent = data.election;
   find('election').dir = 'auto';
   find('seed').textContent = data.seed;
   find('size').textContent = String(data.size);
+  find('list-election').textContent = data.election;
+  find('list-election').dir = 'auto';
+  find('list-seed').textContent = data.seed;
+  find('list-size').textContent = String(data.size);
   find('of-all').textContent = `of ${data.ballots.length}`;
   document.title = `Audit board: ${data.ballots.length} ballots`;
   takeKept();
@@ -952,14 +1101,14 @@ try {
 ];
 
 /// Adds what stands before the data.
-pub(crate) fn push_head(text: &mut Bytes) -> Result<(), OutOfMemory>
+pub fn push_head(text: &mut Bytes) -> Result<(), OutOfMemory>
     ensures { OnOk result (text.new ≡ text.old ++ head) }
 {
     push_pieces(text, &HEAD)
 }
 
 /// Adds what stands behind the data.
-pub(crate) fn push_tail(text: &mut Bytes) -> Result<(), OutOfMemory>
+pub fn push_tail(text: &mut Bytes) -> Result<(), OutOfMemory>
     ensures { OnOk result (text.new ≡ text.old ++ tail) }
 {
     push_pieces(text, &TAIL)

@@ -4,8 +4,6 @@
 #![tactic(auto)]
 
 #[cfg(test)]
-mod desk_pinned;
-#[cfg(test)]
 mod desk_printed;
 #[cfg(test)]
 mod desk_worked;
@@ -17,6 +15,8 @@ mod devices;
 mod forms;
 #[cfg(test)]
 mod pages;
+#[cfg(test)]
+mod pages_pinned;
 #[cfg(test)]
 mod sheets;
 #[cfg(test)]
