@@ -1,5 +1,8 @@
 pub mod Counted
+pub mod Extremes
 pub mod Few
+pub mod Kept
+pub mod Leads
 pub mod Most
 pub mod Put
 pub mod Ranges

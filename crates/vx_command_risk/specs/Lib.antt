@@ -2,6 +2,7 @@ pub mod Standing
 pub mod Sides
 pub mod Votes
 pub mod Said
+pub mod Leads
 pub mod Findings
 pub mod Sampled
 pub mod Rows

@@ -4,7 +4,6 @@ use Rattle.std.specs.Prelude.{ℕ, ◌+◌, ◌-◌, ◌==◌, ◌&&◌, ◌||�
 use Rattle.std.specs.List.{flat_map, list_any}
 use Rattle.vx_tally.specs.declared.report.CvrRecord.{CvrRecord}
 use Rattle.vx_tally.specs.Totals.{total_of}
-use Rattle.vx_audit.specs.declared.hand.HandLine.{HandLine}
 use Rattle.vx_command_risk.specs.declared.said.Said.{Said}
 
 -- a hand's votes for a selection: one where it is marked, but none for any where more are marked than there are seats
@@ -32,7 +31,7 @@ abbrev pub as_one : List Said → Said
 as_one slots = record { counted = 0; read = if list_any is_missed slots then 1 else 0 }
 
 -- the slots are one more loser where there are slots; where there is no loser at all, a winner is held against no votes
-abbrev pub slots_count : List Said → List Said → Bool
+abbrev pub slots_count : {X : Type 0} → List X → List X → Bool
 slots_count losers slots = length losers == 0 || not (length slots == 0)
 
 abbrev pub rivals_of : List Said → List Said → List Said

@@ -17,5 +17,7 @@ mod telling;
 mod top;
 mod weighing;
 
-pub use laws::{each_draw_counts, larger_samples_begin_alike, met_is_the_bound};
+pub use laws::{
+    each_draw_counts, larger_samples_begin_alike, margin_is_the_least_lead, met_is_the_bound,
+};
 pub use top::risk;

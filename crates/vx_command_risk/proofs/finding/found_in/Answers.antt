@@ -1,4 +1,4 @@
-use Rattle.std.proofs.Common.{◌≡◌, ℕ, ◌||◌, ◌==◌, Bool, ap, sym, ◌∙◌, arith, take, length}
+use Rattle.std.proofs.Common.{◌||◌, ◌==◌, Bool, ap, sym, ◌∙◌, arith, take}
 use Rattle.std.specs.List.{list_any}
 use Rattle.std.proofs.lemmas.List.Folds.{list_any_more}
 use Rattle.vx_audit.specs.declared.hand.HandLine.{HandLine}

@@ -1,5 +1,3 @@
-use Rattle.std.proofs.Common.{◌∙◌, sym, ap}
-use Rattle.std.specs.Prelude.{sum_by}
 use Rattle.vx_command_risk.proofs.Summed.{one_record}
 use Rattle.vx_command_risk.proofs.said.record_votes.Goals as goal
 
