@@ -80,8 +80,11 @@ fn first_lines(text: &str, lines: u64) -> &str {
 }
 
 /// Nothing was asked behind so many calls of the inputs.
-fn assert_asked_no_more<R: Abort>(rt: &R, whole: &str, now: &str, calls: u64) {
-    assert_eq!(rt; now, first_lines(whole, calls));
+fn assert_asked_no_more<R: Abort>(rt: &R, whole: &Answer, now: &Answer, calls: u64) {
+    assert_eq!(rt;
+        now.asked.as_str(),
+        first_lines(whole.asked.as_str(), calls)
+    );
 }
 
 /// With this call of the inputs failing the command ends with their fault, so many acts stand, and nothing is
@@ -98,7 +101,7 @@ fn assert_read_fails<R: Threads + Sync + AllocGlobal + Abort>(
     let now = run_trial(rt, day, trial, failing)?;
     assert_eq!(rt; now.status.as_str(), "read fault", "{:?}", trial.words);
     assert_stand(rt, trial, whole, &now, acts);
-    assert_asked_no_more(rt, whole.asked.as_str(), now.asked.as_str(), call);
+    assert_asked_no_more(rt, whole, &now, call);
     Ok(())
 }
 
