@@ -4,3 +4,4 @@ pub mod Order
 pub mod Rows
 mod Keyed
 pub mod Texts
+pub mod Joined

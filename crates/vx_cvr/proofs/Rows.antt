@@ -192,7 +192,7 @@ finals_there election blank decided marks = by (exports_by election blank decide
         (slice_get_within election.contests marks.contest contest is) (All-nil (IsOfElection election))
     by false found is = All-nil (IsOfElection election)
 
-row_there : (election : Election) (kept : List Event) (added : Added) → HasItsContests election (row_of election kept added)
+pub row_there : (election : Election) (kept : List Event) (added : Added) → HasItsContests election (row_of election kept added)
 row_there election kept added =
     let make : ContestMarks → List Final = final_if_exported election (is_blank_sheet added.sheet) (decided_of kept added.key) in
     All-flat_map (IsOfElection election) make added.sheet.contests

@@ -6,6 +6,8 @@ use Rattle.vx_events.specs.declared.key.Key.{Key}
 use Rattle.vx_center.specs.declared.rows.ExportSheet.{ExportSheet}
 use Rattle.vx_center.specs.Exports.{AreExportRows, row_of}
 use Rattle.vx_center.specs.Sheets.{Added, has_key, same_key, sheets_in}
+use Rattle.vx_cvr.specs.Pieces.{joined, report_pieces}
+use Rattle.vx_cvr.specs.Report.{report_of}
 use Rattle.vx_cvr.specs.Rows.{rows_of}
 
 -- the rows are one for each sheet that was added, and none else, in the order of their keys
@@ -30,3 +32,9 @@ OneRowOfAKey =
     (election : Election) (kept : List Event) (key : Key) (added : Added)
     → filter (has_key key) (sheets_in kept) ≡ added ∷ []
     → filter (λ (row : ExportSheet). same_key key row.key) (rows_of election kept) ≡ row_of election kept added ∷ []
+
+-- the pieces of a report, joined, are the report
+abbrev pub PiecesAreTheReport : Type 0
+PiecesAreTheReport =
+    (election : Election) (kept : List Event) (moment device : List ℕ)
+    → joined (report_pieces election kept moment device) ≡ report_of election kept moment device

@@ -3,4 +3,5 @@ pub mod Names
 pub mod Votes
 pub mod Rows
 pub mod Report
+pub mod Pieces
 pub mod Laws

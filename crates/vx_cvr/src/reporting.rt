@@ -1,94 +1,59 @@
-ghost use Rattle.std.specs.Prelude.{◌≡◌, ◌++◌, ◌∷◌, [], ℕ, List, All, IfOk, OnOk, codes, false, map, true};
-ghost use Rattle.serde_json.specs.Data.{Data, Members, member, object};
-ghost use Rattle.serde_json.specs.View.{view};
-ghost use Rattle.serde_json.specs.Written.{compact_text, has_float, members_text};
+ghost use Rattle.std.specs.Prelude.{◌≡◌, ◌++◌, ◌<◌, All, IfOk, OnOk, false, length, map};
 ghost use Rattle.vx_election_model.specs.Valid.{IsValid};
-ghost use Rattle.vx_cvr.specs.Json.{described};
+ghost use Rattle.vx_center.specs.Exports.{row_at};
+ghost use Rattle.vx_center.specs.Sheets.{sheets_in};
+ghost use Rattle.vx_cvr.specs.Pieces.{joined, sheet_pieces};
 ghost use Rattle.vx_cvr.specs.Report as spec;
 ghost use Rattle.vx_cvr.specs.Rows.{rows_of};
 
-use crate::contests::election as election_object;
-use crate::members::{put_list, texts};
-use crate::names::device_name;
-use crate::places::{device as device_object, places};
-use crate::sheets::push_sheets;
-use serde_json::{Value, put};
+use crate::laws::pieces_are_the_report;
+use crate::pieces::{front_piece, last_piece, report_places, sheet_piece};
 use std::alloc::Global;
 use vx_base::{Bytes, OutOfMemory};
-use vx_center::{Center, ExportSheet, ExportSheets, sheets_have_own_keys};
+use vx_center::{Center, ExportSheets, sheets_have_own_keys};
 use vx_election_model::Election;
 use vx_styles::cards;
 
-/// Writes what stands before the sheets of a report.
-fn push_front(text: &mut Bytes) -> Result<(), OutOfMemory>
-    ensures { OnOk result (text.new
-        ≡ text.old ++ codes "{\"@type\":\"CVR.CastVoteRecordReport\",\"CVR\":[") }
-{
-    text.extend_from_slice(b"{\"@type\":\"CVR.CastVoteRecordReport\",\"CVR\":[")
-}
-
-/// The members of a report behind its sheets, as a value.
-fn behind_sheets(
-    alloc: Global,
-    election: &Election,
-    moment: &str,
-    device: &str,
-) -> Result<Value, OutOfMemory>
-    requires { IsValid election.now }
-    ensures { IfOk result (λ value. view value
-        ≡ described (spec.behind_sheets election.now moment.now device.now)) }
-{
-    let mut members = texts(alloc, &[("GeneratedDate", moment), ("Version", "1.0.0")])?;
-    let given = election_object(alloc, election)?;
-    put_list(&mut members, alloc, "Election", given)?;
-    let places = places(alloc, election)?;
-    put(&mut members, alloc, "GpUnit", places)?;
-    let name = device_name(alloc, device)?;
-    put_list(
-        &mut members,
-        alloc,
-        "ReportGeneratingDeviceIds",
-        Value::String(name),
-    )?;
-    let reporting = device_object(alloc, device)?;
-    put_list(&mut members, alloc, "ReportingDevice", reporting)?;
-    Ok(Value::Object(members))
-}
-
-/// Writes the members of an object behind others, and its closing brace.
-fn push_members(alloc: Global, text: &mut Bytes, value: &Value) -> Result<(), OutOfMemory>
-    requires { has_float (view value.now) ≡ false }
-    ensures { OnOk result ((key : List ℕ) (of : Data) (others : Members) →
-        view value.now ≡ object (member key of others) →
-        text.new ≡ text.old ++ members_text true (member key of others)) }
-{
-    let whole = value.to_vec(alloc)?;
-    text.push(b',')?;
-    match whole.as_slice().split_first() {
-        Some((_brace, members)) => text.extend_from_slice(members),
-        None => Ok(()),
-    }
-}
-
-/// Writes the report of rows.
-fn push_report(
+/// Writes the sheets at places in the order of adding.
+fn push_sheets(
     alloc: Global,
     text: &mut Bytes,
     election: &Election,
-    rows: &[ExportSheet],
-    moment: &str,
-    device: &str,
+    center: &Center<'_>,
+    places: &[usize],
 ) -> Result<(), OutOfMemory>
-    requires election { IsValid election.now }
-    requires contests { All (spec.HasItsContests election.now) rows.now }
-    ensures { OnOk result (text.new
-        ≡ text.old ++ compact_text (spec.report_over election.now rows.now moment.now device.now)) }
+    requires valid { IsValid election.now }
+    requires election { center.now.election ≡ election.now }
+    requires there { All (λ place. place < length (sheets_in center.now.events)) places.now }
+    ensures { OnOk result (text.new ≡ text.old
+        ++ joined (sheet_pieces election.now false (map (row_at election.now center.now.events) places.now))) }
 {
     let cards = cards(alloc, election)?;
-    push_front(text)?;
-    push_sheets(alloc, text, election, cards.as_slice(), rows)?;
-    let behind = behind_sheets(alloc, election, moment, device)?;
-    push_members(alloc, text, &behind)
+    let cards = cards.as_slice();
+    let mut is_later = false;
+    for place in places {
+        let piece = sheet_piece(alloc, election, cards, center, *place, is_later)?;
+        text.extend_from_slice(piece.as_slice())?;
+        is_later = true;
+    }
+    Ok(())
+}
+
+/// Writes all sheets that the center has kept, in the order of their keys.
+fn push_kept(
+    alloc: Global,
+    text: &mut Bytes,
+    election: &Election,
+    center: &Center<'_>,
+) -> Result<(), OutOfMemory>
+    requires valid { IsValid election.now }
+    requires election { center.now.election ≡ election.now }
+    ensures { OnOk result (text.new ≡ text.old
+        ++ joined (sheet_pieces election.now false (rows_of election.now center.now.events))) }
+{
+    let places = report_places(alloc, election, center)?;
+    push_sheets(alloc, text, election, center, places.as_slice())?;
+    Ok(())
 }
 
 /// The rows of a report: what is exported of each sheet that the center has kept, in the order of their keys.
@@ -122,9 +87,10 @@ pub fn report(
     ensures { IfOk result (λ text. text
         ≡ spec.report_of election.now center.now.events moment.now device.now) }
 {
-    let rows = report_rows(alloc, election, center)?;
-    let mut text = Bytes::new(alloc);
-    push_report(alloc, &mut text, election, rows.as_slice(), moment, device)?;
-    text.push(b'\n')?;
+    pieces_are_the_report();
+    let mut text = Bytes::from_slice(alloc, front_piece())?;
+    push_kept(alloc, &mut text, election, center)?;
+    let last = last_piece(alloc, election, moment, device)?;
+    text.extend_from_slice(last.as_slice())?;
     Ok(text)
 }

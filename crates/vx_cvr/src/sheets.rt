@@ -2,13 +2,14 @@
 
 ghost use Rattle.std.specs.Prelude.{◌≡◌, ◌++◌, ◌+◌, ◌/◌, ◌∷◌, [], All, IfOk, OnOk, codes, false, map, slice_index_or, string_bytes};
 ghost use Rattle.serde_json.specs.Data.{object, put as with_member};
-ghost use Rattle.serde_json.specs.View.{items_of, members_view, view};
-ghost use Rattle.serde_json.specs.Written.{comma_if, compact_text, has_float, items_text};
+ghost use Rattle.serde_json.specs.View.{members_view, view};
+ghost use Rattle.serde_json.specs.Written.{comma_if, compact_text, has_float};
 ghost use Rattle.std.specs.Fmt.{decimal};
 ghost use Rattle.vx_styles.specs.Cards.{cards_of, no_card, no_style};
 ghost use Rattle.vx_cvr.specs.Json.{described, list, members as members_of, text};
 ghost use Rattle.vx_cvr.specs.Names as spec_names;
 ghost use Rattle.vx_cvr.specs.Votes as votes;
+ghost use Rattle.vx_cvr.specs.Pieces.{sheet_piece};
 ghost use Rattle.vx_cvr.specs.Report as spec;
 
 use crate::members::{Members, list_of_one, object_of_texts, put_list, put_numbers, texts};
@@ -339,25 +340,20 @@ fn push_item(
     text.extend_from_slice(own.as_slice())
 }
 
-/// Writes sheets in order, as the items of a list, and its closing bracket. A sheet's value goes once its text
-/// stands, so that no more than one is held.
-pub fn push_sheets(
+/// A sheet's text, with a comma where another stands before it; `cards` are the election's.
+pub fn row_piece(
     alloc: Global,
-    text: &mut Bytes,
     election: &Election,
     cards: &[Card],
-    rows: &[ExportSheet],
-) -> Result<(), OutOfMemory>
+    row: &ExportSheet,
+    is_later: bool,
+) -> Result<Bytes, OutOfMemory>
     requires cards { cards.now ≡ cards_of election.now }
-    requires contests { All (spec.HasItsContests election.now) rows.now }
-    ensures { OnOk result (text.new
-        ≡ text.old ++ items_text false (items_of (map (spec.sheet election.now) rows.now))) }
+    requires contests { All (spec.IsOfElection election.now) row.now.finals }
+    ensures { IfOk result (λ text. text ≡ sheet_piece election.now is_later row.now) }
 {
-    let mut is_later = false;
-    for row in rows {
-        let value = sheet(alloc, election, cards, row)?;
-        push_item(alloc, text, is_later, &value)?;
-        is_later = true;
-    }
-    text.push(b']')
+    let value = sheet(alloc, election, cards, row)?;
+    let mut text = Bytes::new(alloc);
+    push_item(alloc, &mut text, is_later, &value)?;
+    Ok(text)
 }

@@ -1,27 +1,20 @@
-use Rattle.std.proofs.Common.{◌≡◌, ◌++◌, ◌∷◌, [], ℕ, List, rules, sym, ap, ◌∙◌, subst}
-use Rattle.std.specs.Prelude.{All}
-use Rattle.serde_json.specs.Written.{compact_text}
+use Rattle.std.proofs.Common.{rules, ◌≡◌, ◌++◌, ℕ, List, false, ap, ap₂, ◌∙◌}
 use Rattle.vx_election_model.specs.declared.election.Election.{Election}
 use Rattle.vx_events.specs.declared.event.Event.{Event}
-use Rattle.vx_center.specs.declared.rows.ExportSheet.{ExportSheet}
-use Rattle.vx_cvr.specs.Report.{HasItsContests, report_of, report_over}
+use Rattle.vx_cvr.specs.Pieces.{front_piece, joined, sheet_pieces}
 use Rattle.vx_cvr.specs.Rows.{rows_of}
+use Rattle.vx_cvr.proofs.Joined.{in_pieces}
 use Rattle.vx_cvr.proofs.reporting.report.Goals as goal
 
-pub push_report-requires-clause-contests : goal.push_report-requires-clause-contests
-push_report-requires-clause-contests c =
-    let shown : c.as_slice.result.now ≡ c.in_ok-rows.rows = search rules in
-    subst (λ (rows : List ExportSheet). All (HasItsContests c.args.election.now) rows) (sym shown) c.in_ok-rows.ensures.contests
-
 pub returns : goal.returns
-unfolding report_of
 returns c =
     let election : Election = c.args.election.now in
     let kept : List Event = c.args.center.now.events in
-    let shown : c.as_slice.result.now ≡ c.in_ok-rows.rows = search rules in
-    let rows : c.as_slice.result.now ≡ rows_of election kept = shown ∙ c.in_ok-rows.ensures.exact in
-    let written : c.push_report.new.text ≡ compact_text (report_over election c.as_slice.result.now c.args.moment.now c.args.device.now) = search rules in
-    let pushed : c.push.new.self ≡ c.push_report.new.text ++ 10 ∷ [] = search rules in
-    pushed
-    ∙ ap (λ (line : List ℕ). line ++ 10 ∷ [])
-    (written ∙ ap (λ (r : List ExportSheet). compact_text (report_over election r c.args.moment.now c.args.device.now)) rows)
+    let begun : c.in_ok-text.text ≡ front_piece = c.in_ok-text.ensures ∙ c.front_piece.ensures in
+    let put : c.extend_from_slice.new.self ≡ c.push_kept.new.text ++ c.in_ok-last.last = search rules in
+    put
+    ∙ ap₂ (λ (front last : List ℕ). front ++ last)
+    (c.in_ok-push_kept.ensures ∙ ap (λ (text : List ℕ). text ++ joined (sheet_pieces election false (rows_of election kept))) begun)
+    c.in_ok-last.ensures
+    ∙ in_pieces election kept c.args.moment.now c.args.device.now
+    ∙ c.pieces_are_the_report.ensures election kept c.args.moment.now c.args.device.now
