@@ -1,11 +1,10 @@
 -- What `totals` writes of a report: the sums over its records, for each contest and its selections, then those of each
 -- unit above 0, and last how many records there are.
-use Rattle.std.specs.Prelude.{ℕ, ◌==◌, if◌then◌else◌, List, [], ◌∷◌, ◌++◌, length, codes}
+use Rattle.std.specs.Prelude.{ℕ, ◌==◌, if◌then◌else◌, List, [], ◌∷◌, ◌++◌, codes}
 use Rattle.std.specs.Fmt.{decimal}
 use Rattle.vx_tally.specs.declared.report.Report.{Report}
 use Rattle.vx_tally.specs.declared.report.ReportContest.{ReportContest}
-use Rattle.vx_tally.specs.declared.report.CvrRecord.{CvrRecord}
-use Rattle.vx_tally.specs.Totals.{total_of, total_in_of, over_of, under_of}
+use Rattle.vx_tally.specs.Totals.{Summed, summed_of}
 use Rattle.vx_audit.specs.Walk.{by_place}
 
 -- `contest C over O under U`
@@ -26,20 +25,20 @@ unit_line unit selection votes =
 abbrev pub records_line : ℕ → List ℕ
 records_line count = codes "records " ++ decimal count ++ 10 ∷ []
 
-module _ (records : List CvrRecord) where
+module _ (sums : Summed) where
   -- the line of the selection at a place of the contest at a place
   abbrev pub selection_total : ℕ → List ℕ → ℕ → List ℕ → List ℕ
-  selection_total contest id selection name = total_line id name (total_of records contest selection)
+  selection_total contest id selection name = total_line id name (sums.votes contest selection)
 
   -- the line of the contest at a place, and then those of its selections
   abbrev pub contest_totals : ℕ → ReportContest → List ℕ
   contest_totals place contest =
-      contest_line contest.id (over_of records place) (under_of records place)
+      contest_line contest.id (sums.over place) (sums.under place)
       ++ by_place (selection_total place contest.id) 0 contest.selections
 
   -- the line of the selection at a place of the contest at a place, in the unit at a place
   abbrev pub unit_selection : ℕ → List ℕ → ℕ → ℕ → List ℕ → List ℕ
-  unit_selection unit id contest selection name = unit_line id name (total_in_of records unit contest selection)
+  unit_selection unit id contest selection name = unit_line id name (sums.votes_in unit contest selection)
 
   -- those of the selections of the contest at a place
   abbrev pub unit_contest : ℕ → List ℕ → ℕ → ReportContest → List ℕ
@@ -49,9 +48,11 @@ module _ (records : List CvrRecord) where
   abbrev pub unit_totals : List ReportContest → ℕ → List ℕ → List ℕ
   unit_totals contests unit id = by_place (unit_contest unit id) 0 contests
 
--- the whole text
+  -- the whole text, with the contests and the units that are told
+  unfoldable pub sums_text : List ReportContest → List (List ℕ) → List ℕ
+  sums_text contests units =
+      by_place contest_totals 0 contests ++ by_place (unit_totals contests) 0 units ++ records_line sums.count
+
+-- that of a report, by the sums of its records
 unfoldable pub totals_text : Report → List ℕ
-totals_text report =
-    by_place (contest_totals report.records) 0 report.contests
-    ++ by_place (unit_totals report.records report.contests) 0 report.units
-    ++ records_line (length report.records)
+totals_text report = sums_text (summed_of report.records) report.contests report.units

@@ -1,10 +1,10 @@
 //! The call `run_audit`: the totals of a report, and its comparison with paper ballots that hands have read.
 //!
 //! `totals_text` is what `totals` writes of a report: `totals_text` in `specs/Totals.antt`, by the sums of
-//! `vx_tally`. For an audit `draw_sample` draws records by the words of a generator, `sample_of` in
-//! `specs/Sample.antt`; `read_hand` reads what hands have read, `hand_of` in `specs/Hand.antt`; and
-//! `audit_text` compares the two, contest by contest, by `specs/Pairs.antt` and `specs/Audit.antt`. Nothing
-//! here says anything of the risk that an election's outcome is wrong.
+//! `vx_tally`, of which alone `sums_text` writes the same. For an audit `draw_sample` draws records by the words of a
+//! generator, `sample_of` in `specs/Sample.antt`; `read_hand` reads what hands have read, `hand_of` in
+//! `specs/Hand.antt`; and `audit_text` compares the two, contest by contest, by `specs/Pairs.antt` and
+//! `specs/Audit.antt`. Nothing here says anything of the risk that an election's outcome is wrong.
 //!
 //! `run_audit` does the commands `totals` and `audit`, whole. What they do is `asked_outcome` in
 //! `specs/Outcome.antt`, acts in order and the status that they end with; which words ask for which stands in
@@ -38,4 +38,4 @@ pub use reading::read_sized;
 pub use sample::{Places, draw_places, draw_sample};
 pub use status::{AuditMessage, AuditStatus};
 pub use top::run_audit;
-pub use totals::{tally_of, totals_text};
+pub use totals::{sums_text, totals_of, totals_text};

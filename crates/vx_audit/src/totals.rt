@@ -1,6 +1,7 @@
 //! The text of the totals of a report.
 
 ghost use Rattle.std.specs.Prelude.{◌≡◌, ◌<◌, ◌≤◌, ◌++◌, All, IfOk, OnOk, length, string_bytes};
+ghost use Rattle.vx_tally.specs.Running.{SumsUp, summed_in};
 ghost use Rattle.vx_tally.specs.Totals.{AreCountable};
 ghost use Rattle.vx_audit.specs.Sized.{HasFew, IsSized};
 ghost use Rattle.vx_audit.specs.Totals as lines;
@@ -10,18 +11,18 @@ use crate::units::push_units;
 use std::alloc::Global;
 use vx_base::OutOfMemory;
 use vx_json::Text;
-use vx_tally::{CvrRecord, Report, ReportContest, Tally, drop_tally};
+use vx_tally::{CvrRecord, Report, ReportContest, Totals, drop_totals};
 
-/// Records, summed.
-pub fn tally_of(alloc: Global, records: &[CvrRecord]) -> Result<Tally, OutOfMemory>
+/// What records sum up to.
+pub fn totals_of(alloc: Global, records: &[CvrRecord]) -> Result<Totals, OutOfMemory>
     requires { AreCountable records.now }
-    ensures { IfOk result (λ tally. tally ≡ records.now) }
+    ensures { IfOk result (SumsUp records.now) }
 {
-    let mut tally = Tally::new(alloc);
+    let mut totals = Totals::new(alloc);
     for one in records {
-        tally.add(alloc, one)?;
+        totals.add(alloc, one)?;
     }
-    Ok(tally)
+    Ok(totals)
 }
 
 /// Adds the line of a selection.
@@ -40,17 +41,17 @@ fn push_total(
 /// Adds the lines of the selections of the contest at a place.
 fn push_selections(
     text: &mut String,
-    tally: &Tally,
+    totals: &Totals,
     place: u32,
     contest: &str,
     selections: &[Text],
 ) -> Result<(), OutOfMemory>
     requires { length selections.now ≤ 1000000 }
     ensures { OnOk result (string_bytes text.new ≡ string_bytes text.old
-        ++ by_place (lines.selection_total tally.now place contest.now) 0 selections.now) }
+        ++ by_place (lines.selection_total (summed_in totals.now) place contest.now) 0 selections.now) }
 {
     for (selection, name) in selections.iter().enumerate() {
-        let votes = tally.total(place, selection as u32);
+        let votes = totals.total(place, selection as u32);
         push_total(text, contest, name.as_str(), votes)?;
     }
     Ok(())
@@ -59,60 +60,67 @@ fn push_selections(
 /// Adds the lines of the contest at a place.
 fn push_contest(
     text: &mut String,
-    tally: &Tally,
+    totals: &Totals,
     place: u32,
     contest: &ReportContest,
 ) -> Result<(), OutOfMemory>
     requires { HasFew contest.now }
     ensures { OnOk result (string_bytes text.new ≡ string_bytes text.old
-        ++ lines.contest_totals tally.now place contest.now) }
+        ++ lines.contest_totals (summed_in totals.now) place contest.now) }
 {
-    let (over, under) = (tally.over(place), tally.under(place));
+    let (over, under) = (totals.over(place), totals.under(place));
     let id = contest.id.as_str();
     write!(text, "contest {id} over {over} under {under}\n")?;
-    push_selections(text, tally, place, id, contest.selections.as_slice())?;
+    push_selections(text, totals, place, id, contest.selections.as_slice())?;
     Ok(())
 }
 
 /// Adds the lines of all contests.
 fn push_contests(
     text: &mut String,
-    tally: &Tally,
+    totals: &Totals,
     contests: &[ReportContest],
 ) -> Result<(), OutOfMemory>
     requires few { length contests.now ≤ 1000000 }
     requires selections { All HasFew contests.now }
     ensures { OnOk result (string_bytes text.new ≡ string_bytes text.old
-        ++ by_place (lines.contest_totals tally.now) 0 contests.now) }
+        ++ by_place (lines.contest_totals (summed_in totals.now)) 0 contests.now) }
 {
     for (place, contest) in contests.iter().enumerate() {
-        push_contest(text, tally, place as u32, contest)?;
+        push_contest(text, totals, place as u32, contest)?;
     }
     Ok(())
 }
 
-/// What `totals` writes of a report whose records are in the tally.
-#[tactic(auto, unfolding(crate::specs::Totals::totals_text))]
-fn text_by(alloc: Global, report: &Report, tally: &Tally) -> Result<String, OutOfMemory>
-    requires sized { IsSized report.now }
-    requires summed { tally.now ≡ report.now.records }
-    ensures { IfOk result (λ text. string_bytes text ≡ lines.totals_text report.now) }
+/// What `totals` writes of sums, with the contests and the units that they are of.
+#[tactic(auto, unfolding(crate::specs::Totals::sums_text))]
+pub fn sums_text(
+    alloc: Global,
+    contests: &[ReportContest],
+    units: &[Text],
+    totals: &Totals,
+) -> Result<String, OutOfMemory>
+    requires few { length contests.now ≤ 1000000 }
+    requires selections { All HasFew contests.now }
+    ensures { IfOk result (λ text. string_bytes text
+        ≡ lines.sums_text (summed_in totals.now) contests.now units.now) }
 {
-    let contests = report.contests.as_slice();
     let mut text = String::new(alloc);
-    push_contests(&mut text, tally, contests)?;
-    push_units(alloc, &mut text, tally, report)?;
-    write!(text, "records {}\n", report.records.len())?;
+    push_contests(&mut text, totals, contests)?;
+    push_units(alloc, &mut text, totals, contests, units)?;
+    write!(text, "records {}\n", totals.len())?;
     Ok(text)
 }
 
 /// What `totals` writes of a report.
+#[tactic(auto, unfolding(crate::specs::Totals::totals_text))]
 pub fn totals_text(alloc: Global, report: &Report) -> Result<String, OutOfMemory>
     requires { IsSized report.now }
     ensures { IfOk result (λ text. string_bytes text ≡ lines.totals_text report.now) }
 {
-    let tally = tally_of(alloc, report.records.as_slice())?;
-    let text = text_by(alloc, report, &tally);
-    drop_tally(tally);
+    let (contests, units) = (report.contests.as_slice(), report.units.as_slice());
+    let totals = totals_of(alloc, report.records.as_slice())?;
+    let text = sums_text(alloc, contests, units, &totals);
+    drop_totals(totals);
     text
 }

@@ -1,5 +1,5 @@
 use Rattle.std.proofs.Common.{◌<◌, sym, subst, arith}
-use Rattle.std.specs.Prelude.{All, ◌%◌}
+use Rattle.std.specs.Prelude.{All}
 use Rattle.vx_audit.specs.Sample.{word_of}
 use Rattle.vx_audit.proofs.Drawn.{rest-below}
 use Rattle.std.specs.List.{range_with_len}
