@@ -1,1 +1,3 @@
+pub mod PieceActs
+mod Alike
 mod Written

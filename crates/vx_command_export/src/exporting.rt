@@ -1,62 +1,19 @@
-ghost use Rattle.std.specs.Prelude.{◌≡◌, ◌∷◌, [], Bool, true, false, Ok, is_ok};
+ghost use Rattle.std.specs.Prelude.{◌≡◌, ◌∷◌, [], true, false, is_ok};
 ghost use Rattle.std.specs.Option.{ForSome};
-ghost use Rattle.vx_base.specs.Refusals.{Gives};
 ghost use Rattle.vx_election_model.specs.Valid.{IsValid};
-ghost use Rattle.vx_command.specs.Acts.{writing};
 ghost use Rattle.vx_command.specs.Asking.{Asks};
-ghost use Rattle.vx_command.specs.Devices.{LeavesDevices, TouchesNothing, TouchesSink, TouchesSinkAndKeeper, writes_nothing};
-ghost use Rattle.vx_command.specs.Done.{IsDone, IsWritten};
-ghost use Rattle.vx_command.specs.Steps.{is_no_memory};
-ghost use Rattle.vx_cvr.specs.Report.{report_of};
+ghost use Rattle.vx_command.specs.Devices.{LeavesDevices, TouchesSinkAndKeeper, writes_nothing};
+ghost use Rattle.vx_command.specs.Done.{IsDone};
+ghost use Rattle.vx_cvr.specs.Pieces.{report_pieces};
 ghost use Rattle.vx_journal.specs.Steps.{once_read};
-ghost use Rattle.vx_command_export.specs.Outcome.{export_outcome};
+ghost use Rattle.vx_command_export.specs.Outcome.{export_outcome, writing_each};
 
+use crate::pieces::write_report;
 use std::alloc::Global;
-use vx_base::Bytes;
-use vx_center::Center;
-use vx_command::{Halt, acts_in_order, asks_in_order, steps_in_order, take_election, write_text};
-use vx_cvr::report;
+use vx_command::{Halt, asks_in_order, steps_in_order, take_election};
 use vx_election_model::{Election, drop_election};
 use vx_io::{Inputs, Keeper, Sink};
 use vx_journal::{drop_journal, journals_in_order, read_journal};
-
-/// The report of a journal's events.
-fn text_of(
-    alloc: Global,
-    election: &Election,
-    center: &Center<'_>,
-    moment: &str,
-    device: &str,
-) -> Result<Bytes, Halt>
-    requires valid { IsValid election.now }
-    requires election { center.now.election ≡ election.now }
-    ensures exact { Gives is_no_memory result
-        (Ok (report_of election.now center.now.events moment.now device.now)) }
-    ensures devices { TouchesNothing result }
-{
-    Ok(report(alloc, election, center, moment, device)?)
-}
-
-/// Writes the report.
-fn write_report<S: Sink>(
-    alloc: Global,
-    election: &Election,
-    center: &Center<'_>,
-    moment: &str,
-    device: &str,
-    out: &mut S,
-) -> Result<(), Halt>
-    requires valid { IsValid election.now }
-    requires election { center.now.election ≡ election.now }
-    ensures done { IsWritten (writing (report_of election.now center.now.events moment.now device.now))
-        (S.taken out.old) (S.taken out.new) result }
-    ensures sink { TouchesSink S.Sink out.old out.new result }
-    ensures late { (first : Bool) → writes_nothing first result ≡ false }
-{
-    acts_in_order();
-    let text = text_of(alloc, election, center, moment, device)?;
-    write_text(out, text.as_slice())
-}
 
 /// Reads the journal and writes its report.
 fn export_for<S: Sink, K: Keeper>(
@@ -70,7 +27,7 @@ fn export_for<S: Sink, K: Keeper>(
     requires { IsValid election.now }
     ensures done { ForSome (K.held keeper.old) (λ records.
         IsDone (once_read election.now records
-        (λ journal. writing (report_of election.now journal.center.events moment.now device.now)))
+        (λ journal. writing_each (report_pieces election.now journal.center.events moment.now device.now)))
         (S.taken out.old) (S.taken out.new) (K.held keeper.old) (K.held keeper.new) result) }
     ensures nothing_written { writes_nothing false result ≡ true → S.taken out.new ≡ S.taken out.old }
     ensures held { K.held keeper.new ≡ K.held keeper.old }

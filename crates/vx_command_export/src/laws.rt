@@ -3,6 +3,7 @@
 ghost use Rattle.vx_command_export.specs.Laws.{ExportsWriteWhatWasKept};
 
 use vx_center::exports_show_what_was_kept;
+use vx_cvr::pieces_are_the_report;
 use vx_journal::texts_are_of_journals;
 
 /// Whatever stands of the acts of `export`: where it ended well, all that it wrote is the report of
@@ -12,4 +13,5 @@ pub fn exports_write_what_was_kept()
 {
     exports_show_what_was_kept();
     texts_are_of_journals();
+    pieces_are_the_report();
 }

@@ -7,6 +7,7 @@
 
 mod exporting;
 mod laws;
+mod pieces;
 
 pub use exporting::export;
 pub use laws::exports_write_what_was_kept;

@@ -1,14 +1,15 @@
 use Rattle.std.proofs.Common.{subst, sym}
-use Rattle.vx_command.specs.Acts.{Outcome, writing}
+use Rattle.vx_command.specs.Acts.{Outcome}
 use Rattle.vx_command.specs.Done.{Held, IsDone}
 use Rattle.vx_journal.specs.declared.journal.Journal.{Journal}
 use Rattle.vx_journal.specs.Steps.{once_read}
-use Rattle.vx_cvr.specs.Report.{report_of}
+use Rattle.vx_cvr.specs.Pieces.{report_pieces}
+use Rattle.vx_command_export.specs.Outcome.{writing_each}
 use Rattle.vx_command_export.proofs.exporting.export_for.Goals as goal
 
 pub returns-clause-done : goal.returns-clause-done
 returns-clause-done g c records told =
-    let rest : Journal → Outcome = λ journal. writing (report_of c.args.election.now journal.center.events c.args.moment.now c.args.device.now) in
+    let rest : Journal → Outcome = λ journal. writing_each (report_pieces c.args.election.now journal.center.events c.args.moment.now c.args.device.now) in
     let Done : Held → Type 0 = λ held. IsDone (once_read c.args.election.now records rest) (g.S.Sink.taken c.args.out.now) (g.S.Sink.taken c.write_report-done.new.out)
     (g.K.Keeper.held c.args.keeper.now) held c.write_report-done.result in
     subst Done (sym c.read_journal.ensures.held)
