@@ -17,15 +17,14 @@ use Rattle.vx_rules.specs.declared.marks.SheetMarks.{SheetMarks}
 use Rattle.vx_refusals.specs.declared.reply.Reply.TheVariants.{Done, Full}
 use Rattle.vx_events.specs.declared.event.Event.{Event}
 use Rattle.vx_events.specs.declared.event.Event.TheVariants.{Add, Claim, Release, Decide}
-use Rattle.vx_events.specs.Fits.{Fits, has_options, is_key, is_read, is_sheet}
+use Rattle.vx_events.specs.Fits.{has_options, is_read, is_sheet}
 use Rattle.vx_center.specs.declared.rows.ExportSheet.{ExportSheet}
 use Rattle.vx_center.specs.Exports.{key_order, row_of}
 use Rattle.vx_center.specs.Histories.{IsHistory}
 use Rattle.vx_center.specs.Replies.{event_limit, reply_with_room}
 use Rattle.vx_center.specs.Sheets.{added_by, added_from, sheets_in}
 use Rattle.vx_cvr.specs.Rows.{placed, in_order, rows_of}
-use Rattle.vx_results.specs.Waiting.{contests_added}
-use Rattle.vx_results.proofs.Each.{each-at, each-test, each-weaker, length-mapped}
+use Rattle.vx_results.proofs.Each.{each-test, each-weaker, length-mapped}
 use Rattle.vx_results.proofs.Fitting.{ascends-room, sheet-ascends}
 
 -- how many there are
@@ -117,24 +116,7 @@ sheet-few election sheet valid fits =
     below = each-weaker (λ (marks : ContestMarks). is_read election marks ≡ true) (λ (marks : ContestMarks). marks.contest < length election.contests)
         sheet.contests (read-below election) (each-test (is_read election) sheet.contests read)
 
-event-few : (election : Election) → IsValid election → (event : Event) → Fits election event → contests_added event ≤ 1000
-event-few election valid (Add key sheet) fits = omega (arith, sheet-few election sheet valid (and-right (is_key key) (is_sheet election sheet) fits))
-event-few election valid (Claim station key) fits = omega arith
-event-few election valid (Release station key) fits = omega arith
-event-few election valid (Decide station key contest decision) fits = omega arith
-
 -- a sum of numbers none of which is above 1,000
 pub sum-few : {X : Type 0} (f : X → ℕ) (xs : List X) → AllByRecursion (λ (x : X). f x ≤ 1000) xs → sum_by f xs ≤ 1000 * length xs
 sum-few f [] each = omega arith
 sum-few f (x ∷ xs) each = omega (arith, sum_by-cons f x xs, each.0, sum-few f xs each.1)
-
--- the sheets of a history have few contests together
-pub added-sum : (election : Election) (kept : List Event) → IsValid election → IsHistory election kept → sum_by contests_added kept ≤ 1000000000
-added-sum election kept valid history =
-    omega (
-      arith,
-      sum-few contests_added kept
-          (each-weaker (Fits election) (λ (event : Event). contests_added event ≤ 1000) kept (event-few election valid)
-          (each-at (Fits election) kept history.fits)),
-      events-few election kept history,
-    )

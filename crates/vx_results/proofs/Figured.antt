@@ -1,6 +1,6 @@
 -- What is counted of sheets, with one sheet more.
-use Rattle.std.proofs.Common.{◌≡◌, ℕ, zero, suc, ◌+◌, ◌*◌, ◌<◌, Bool, true, false, cond, ◌==◌, List, [], ◌∷◌, ◌++◌, length, map, set, replicate, refl, sym, ap, subst, ◌∙◌, arith, append-nil, length-append, length-set, get_or-set_same, get_or-set_other}
-use Rattle.std.specs.Prelude.{filter, slice_index_or}
+use Rattle.std.proofs.Common.{◌≡◌, ℕ, zero, suc, ◌+◌, ◌*◌, ◌<◌, Bool, true, false, cond, ◌==◌, List, [], ◌∷◌, ◌++◌, length, map, replicate, refl, sym, ap, subst, ◌∙◌, arith, append-nil, length-append, length-set, get_or-set_other}
+use Rattle.std.specs.Prelude.{All, filter, slice_index_or}
 use Rattle.std.specs.List.{flat_map}
 use Rattle.std.proofs.lemmas.List.{map-append, length-replicate, get_or-replicate}
 use Rattle.std.proofs.lemmas.List.Concat.{flat_map-append}
@@ -14,8 +14,9 @@ use Rattle.vx_center.specs.declared.rows.ExportSheet.{ExportSheet}
 use Rattle.vx_center.specs.Exports.{row_of}
 use Rattle.vx_center.specs.Sheets.{Added}
 use Rattle.vx_tally.specs.declared.report.CvrRecord.{CvrRecord}
+use Rattle.vx_tally.specs.Running.{Running, SumsUp}
 use Rattle.vx_results.specs.declared.summing.Figures.{Figures}
-use Rattle.vx_results.specs.Counted.{AreFigures, ArePiles, IsCounted, left_on, pile_place, unit_count, with_record}
+use Rattle.vx_results.specs.Counted.{AreFigures, ArePiles, IsCounted, WithRecord, left_on, none_kept, pile_at, pile_place, unit_count}
 use Rattle.vx_results.specs.Figures.{batch_sheets, batch_waiting, is_at, names_of, records_of, sheet_record}
 use Rattle.vx_results.specs.Firsts.{Numbered}
 use Rattle.vx_results.specs.Kinds.{kind_of}
@@ -35,15 +36,13 @@ replicate_more n x = let on : n + 1 ≡ suc n = omega arith in ap (λ m. replica
     behind (suc m) = ap (λ xs. x ∷ xs) (behind m)
 
 pub figures_none : (election : Election) (kept : List Event) (figures : Figures)
-    → figures.piles.items ≡ replicate (8 * unit_count election) [] → figures.sheets ≡ [] → figures.waits ≡ []
+    → length figures.piles.items ≡ 8 * unit_count election → All (SumsUp []) figures.piles.items → figures.sheets ≡ [] → figures.waits ≡ []
     → figures.names.items ≡ replicate (length election.contests) [] → figures.waiting ≡ 0
     → AreFigures election kept [] figures
-figures_none election kept figures piles sheets waits names waiting = record {
+figures_none election kept figures count none sheets waits names waiting = record {
   piles = record {
-    count = ap length piles ∙ length-replicate (8 * unit_count election) [];
-    each = λ kind unit low there.
-        ap (λ (all : List (List CvrRecord)). slice_index_or all (pile_place kind unit) []) piles
-        ∙ get_or-replicate (8 * unit_count election) (pile_place kind unit) [] [] (omega (arith, low, there));
+    count = count;
+    each = λ kind unit low there. none (pile_place kind unit) none_kept (omega (arith, low, there, count));
   };
   sheets = subst (λ (entries : List Numbered). AreSums [] entries) (sym sheets) sums_none;
   waits = subst (λ (entries : List Numbered). AreSums [] entries) (sym waits) sums_none;
@@ -82,37 +81,32 @@ module _ (election : Election) (kept : List Event) (sheets : List Added) (added 
       ∙ map-append (sheet_record election kept) (filter (is_at election k u) sheets) (filter (is_at election k u) (added ∷ []))
       ∙ ap (λ (more : List CvrRecord). records_of election kept sheets k u ++ more) (chosen (is_at election k u added))
 
-  piles-more : (old new : List (List CvrRecord)) → kind < 8 → unit < unit_count election
-      → ArePiles election kept sheets old → new ≡ with_record election kind row old → ArePiles election kept (sheets ++ added ∷ []) new
-  piles-more old new low there are changed =
-      subst (λ (all : List (List CvrRecord)). ArePiles election kept (sheets ++ added ∷ []) all) (sym changed)
-      (record {
-        count = length-set old (pile_place kind unit) more ∙ are.count;
-        each = λ k u k_low u_there. by k u k_low u_there (is_at election k u added) refl ∙ sym (records-more k u);
-      })
+  piles-more : (old new : List Running) → kind < 8 → unit < unit_count election
+      → ArePiles election kept sheets old → WithRecord election kind row old new → ArePiles election kept (sheets ++ added ∷ []) new
+  piles-more old new low there are changed = record {
+    count = ap length changed.others ∙ length-set old (pile_place kind unit) (pile_at new (pile_place kind unit)) ∙ are.count;
+    each = λ k u k_low u_there.
+        subst (λ (records : List CvrRecord). SumsUp records (pile_at new (pile_place k u))) (sym (records-more k u))
+        (by k u k_low u_there (is_at election k u added) refl);
+  }
     where
-      more : List CvrRecord
-      more = slice_index_or old (pile_place kind unit) [] ++ record_of election row ∷ []
-
-      inside : pile_place kind unit < length old
-      inside = omega (arith, low, there, are.count)
-
       by : (k u : ℕ) → k < 8 → u < unit_count election → (b : Bool) → is_at election k u added ≡ b
-          → slice_index_or (set old (pile_place kind unit) more) (pile_place k u) [] ≡ records_of election kept sheets k u ++ cond b (record_of election row ∷ []) []
+          → SumsUp (records_of election kept sheets k u ++ cond b (record_of election row ∷ []) []) (pile_at new (pile_place k u))
       by k u k_low u_there true e =
-          let same_kind : k ≡ kind = equal-from_yes k kind (and-left (k == kind) (u == unit) e) in
-          let same_unit : u ≡ unit = equal-from_yes u unit (and-right (k == kind) (u == unit) e) in
-          let at : pile_place k u ≡ pile_place kind unit = (λ i. pile_place (same_kind i) (same_unit i)) in
-          ap (λ (p : ℕ). slice_index_or (set old (pile_place kind unit) more) p []) at
-          ∙ get_or-set_same old (pile_place kind unit) more [] inside
-          ∙ ap (λ (front : List CvrRecord). front ++ record_of election row ∷ [])
-          (are.each kind unit low there ∙ (λ i. records_of election kept sheets (sym same_kind i) (sym same_unit i)))
+          let same_kind : kind ≡ k = sym (equal-from_yes k kind (and-left (k == kind) (u == unit) e)) in
+          let same_unit : unit ≡ u = sym (equal-from_yes u unit (and-right (k == kind) (u == unit) e)) in
+          subst (λ (one : ℕ). SumsUp (records_of election kept sheets one u ++ record_of election row ∷ []) (pile_at new (pile_place one u))) same_kind
+          (subst (λ (one : ℕ). SumsUp (records_of election kept sheets kind one ++ record_of election row ∷ []) (pile_at new (pile_place kind one)))
+          same_unit (changed.pile (records_of election kept sheets kind unit) (are.each kind unit low there)))
       by k u k_low u_there false e =
-          get_or-set_other old (pile_place kind unit) (pile_place k u) more []
+          let same : pile_at new (pile_place k u) ≡ pile_at old (pile_place k u) =
+          ap (λ (all : List Running). pile_at all (pile_place k u)) changed.others
+          ∙ get_or-set_other old (pile_place kind unit) (pile_place k u) (pile_at new (pile_place kind unit)) none_kept
           (λ same. not-both (is_at election k u added)
-          (and-both (k == kind) (u == unit) (equal-yes k kind (omega (arith, same, k_low, low))) (equal-yes u unit (omega (arith, same, k_low, low)))) e)
-          ∙ are.each k u k_low u_there
-          ∙ sym (append-nil (records_of election kept sheets k u))
+          (and-both (k == kind) (u == unit) (equal-yes k kind (omega (arith, same, k_low, low))) (equal-yes u unit (omega (arith, same, k_low, low)))) e) in
+          subst (λ (running : Running). SumsUp (records_of election kept sheets k u ++ []) running) (sym same)
+          (subst (λ (records : List CvrRecord). SumsUp records (pile_at old (pile_place k u))) (sym (append-nil (records_of election kept sheets k u)))
+          (are.each k u k_low u_there))
 
   names-more : (contest : ℕ) → names_of election kept (sheets ++ added ∷ []) contest ≡ names_of election kept sheets contest ++ named_on election contest row
   names-more contest =

@@ -13,6 +13,7 @@ pub mod Figured
 pub mod Seen
 pub mod Walked
 pub mod Told
+pub mod Recorded
 pub mod AddsUp
 mod Written
 pub mod Handed

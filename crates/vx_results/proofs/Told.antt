@@ -6,8 +6,8 @@ use Rattle.std.proofs.lemmas.List.FromFn.{get_or-range_with_len, length-range_wi
 use Rattle.vx_election_model.specs.declared.election.Election.{Election}
 use Rattle.vx_events.specs.declared.event.Event.{Event}
 use Rattle.vx_center.specs.Sheets.{sheets_in}
-use Rattle.vx_tally.specs.declared.report.CvrRecord.{CvrRecord}
 use Rattle.vx_tally.specs.declared.report.ReportContest.{ReportContest}
+use Rattle.vx_tally.specs.Totals.{Summed}
 use Rattle.vx_audit.specs.Walk.{by_place}
 use Rattle.vx_results.specs.declared.groups.Group.{Group}
 use Rattle.vx_results.specs.declared.summing.Figures.{Figures}
@@ -17,7 +17,7 @@ use Rattle.vx_results.specs.Groups.{groups_of, unit_groups}
 use Rattle.vx_results.specs.Kinds.{has_lines, kinds_in}
 use Rattle.vx_results.specs.Report.{contest_of, units_of}
 use Rattle.vx_results.specs.Results.{waiting_line}
-use Rattle.vx_results.specs.Summary.{batches_text, batch_line, contest_groups, contest_text, contests_text, group_over, group_records, group_sheets, group_under, group_votes, groups_text, named_line, sheet_groups, sheets_text, summary_text}
+use Rattle.vx_results.specs.Summary.{batches_text, batch_line, contest_groups, contest_text, contests_text, group_over, group_sheets, group_sums, group_under, group_votes, groups_text, named_line, sheet_groups, sheets_text, summary_text}
 use Rattle.vx_results.proofs.Each.{each-all, each-flat_map, each-map, each-weaker, length-mapped}
 
 -- ---- the same for all that are walked over
@@ -80,32 +80,32 @@ module _ (election : Election) (kept : List Event) where
       (each-chosen (λ (u : ℕ). u < unit_count election) (stands_in election place) (precinct_units election) units-there)
 
   module _ (figures : Figures) (are : AreFigures election kept (sheets_in kept) figures) where
-    -- what is made of a group's records
-    of-groups : (make : Group → List CvrRecord → List ℕ) (groups : List Group) → AllByRecursion (IsGroup election) groups
+    -- what is made of the sums of a group's records
+    of-groups : (make : Group → Summed → List ℕ) (groups : List Group) → AllByRecursion (IsGroup election) groups
         → flat_map (λ (group : Group). make group (pile_of figures.piles.items group)) groups
-        ≡ flat_map (λ (group : Group). make group (group_records election kept group)) groups
+        ≡ flat_map (λ (group : Group). make group (group_sums election kept group)) groups
     of-groups make groups each =
         flat_map-among (λ (group : Group). make group (pile_of figures.piles.items group))
-        (λ (group : Group). make group (group_records election kept group)) groups
+        (λ (group : Group). make group (group_sums election kept group)) groups
         (each-weaker (IsGroup election)
-        (λ (group : Group). make group (pile_of figures.piles.items group) ≡ make group (group_records election kept group)) groups
+        (λ (group : Group). make group (pile_of figures.piles.items group) ≡ make group (group_sums election kept group)) groups
         (λ group is. ap (make group) (are.piles.each group.kind group.unit is.0 is.1)) each)
 
-    abbrev with_records : List CvrRecord → Group → List CvrRecord
-    with_records records group = records
+    abbrev with_sums : Summed → Group → Summed
+    with_sums sums group = sums
 
     told-sheets : kept_sheets election kept figures ≡ sheets_text election kept
     told-sheets =
-        of-groups (λ group records. group_sheets (units_of election) (with_records records) group) (sheet_groups election kept) sheet-groups
+        of-groups (λ group sums. group_sheets (units_of election) (with_sums sums) group) (sheet_groups election kept) sheet-groups
 
     told-counts : (place : ℕ) (contest : ReportContest)
         → kept_counts election kept figures place contest
-        ≡ groups_text (units_of election) (group_records election kept) place contest (contest_groups election kept place)
+        ≡ groups_text (units_of election) (group_sums election kept) place contest (contest_groups election kept place)
     told-counts place contest =
         let groups = contest_groups election kept place in
-        let votes = of-groups (λ group records. group_votes (units_of election) (with_records records) place contest group) groups (contest-groups place) in
-        let over = of-groups (λ group records. group_over (units_of election) (with_records records) place contest group) groups (contest-groups place) in
-        let under = of-groups (λ group records. group_under (units_of election) (with_records records) place contest group) groups (contest-groups place) in
+        let votes = of-groups (λ group sums. group_votes (units_of election) (with_sums sums) place contest group) groups (contest-groups place) in
+        let over = of-groups (λ group sums. group_over (units_of election) (with_sums sums) place contest group) groups (contest-groups place) in
+        let under = of-groups (λ group sums. group_under (units_of election) (with_sums sums) place contest group) groups (contest-groups place) in
         (λ i. votes i ++ over i ++ under i)
 
     told-batches : kept_batches election kept figures ≡ batches_text election kept

@@ -8,6 +8,8 @@ use Rattle.vx_center.specs.declared.rows.ExportSheet.{ExportSheet}
 use Rattle.vx_center.specs.Sheets.{Added}
 use Rattle.vx_tally.specs.declared.report.CvrRecord.{CvrRecord}
 use Rattle.vx_tally.specs.declared.report.ReportContest.{ReportContest}
+use Rattle.vx_tally.specs.Running.{Running, SumsUp, summed_in}
+use Rattle.vx_tally.specs.Totals.{Summed}
 use Rattle.vx_audit.specs.Walk.{by_place}
 use Rattle.vx_results.specs.declared.groups.Group.{Group}
 use Rattle.vx_results.specs.declared.summing.Figures.{Figures}
@@ -27,20 +29,31 @@ use Rattle.vx_results.specs.Waiting.{waiting_on}
 abbrev pub pile_place : ℕ → ℕ → ℕ
 pile_place kind unit = 8 * unit + kind
 
--- the pile of a group
-abbrev pub pile_of : List (List CvrRecord) → Group → List CvrRecord
-pile_of piles group = slice_index_or piles (pile_place group.kind group.unit) []
+-- those of no record
+abbrev pub none_kept : Running
+none_kept = (0, [])
+
+-- the running sums at a place
+abbrev pub pile_at : List Running → ℕ → Running
+pile_at piles place = slice_index_or piles place none_kept
+
+-- those of a group, and what they say
+abbrev pub group_pile : List Running → Group → Running
+group_pile piles group = pile_at piles (pile_place group.kind group.unit)
+
+abbrev pub pile_of : List Running → Group → Summed
+pile_of piles group = summed_in (group_pile piles group)
 
 -- so many units are there: all of the election, and its precincts
 abbrev pub unit_count : Election → ℕ
 unit_count election = length election.precincts + 1
 
 module _ (election : Election) (kept : List Event) (seen : List Added) where
-  -- there is a pile for each kind in each unit, and in it are the records of the sheets
-  pub record ArePiles (piles : List (List CvrRecord)) : Type 0 where
+  -- there are running sums for each kind in each unit, and they are those of the records of the sheets
+  pub record ArePiles (piles : List Running) : Type 0 where
     pub count : length piles ≡ 8 * unit_count election
     pub each : (kind unit : ℕ) → kind < 8 → unit < unit_count election
-        → slice_index_or piles (pile_place kind unit) [] ≡ records_of election kept seen kind unit
+        → SumsUp (records_of election kept seen kind unit) (pile_at piles (pile_place kind unit))
 
   -- there are sums of names for each contest, and they are those of the sheets
   pub record AreNames (names : List (List Numbered)) : Type 0 where
@@ -58,11 +71,14 @@ module _ (election : Election) (kept : List Event) (seen : List Added) where
 
 -- ---- one sheet more
 
--- the piles with one record more
-abbrev pub with_record : Election → ℕ → ExportSheet → List (List CvrRecord) → List (List CvrRecord)
-with_record election kind row piles =
-    set piles (pile_place kind (unit_at election row.card))
-    (slice_index_or piles (pile_place kind (unit_at election row.card)) [] ++ record_of election row ∷ [])
+-- the running sums at a place have one record more, and the others stay
+pub record HasRecord (place : ℕ) (one : CvrRecord) (old new : List Running) : Type 0 where
+  pub pile : (records : List CvrRecord) → SumsUp records (pile_at old place) → SumsUp (records ++ one ∷ []) (pile_at new place)
+  pub others : new ≡ set old place (pile_at new place)
+
+-- those of a kind in the unit of a row have its record
+abbrev pub WithRecord : Election → ℕ → ExportSheet → List Running → List Running → Type 0
+WithRecord election kind row old new = HasRecord (pile_place kind (unit_at election row.card)) (record_of election row) old new
 
 -- how many contests of a sheet wait
 abbrev pub left_on : SheetMarks → ExportSheet → ℕ
@@ -70,7 +86,7 @@ left_on sheet row = length sheet.contests - length row.finals
 
 -- a sheet was counted
 pub record IsCounted (election : Election) (sheet : SheetMarks) (row : ExportSheet) (old new : Figures) : Type 0 where
-  pub piles : new.piles.items ≡ with_record election (kind_of sheet) row old.piles.items
+  pub piles : WithRecord election (kind_of sheet) row old.piles.items new.piles.items
   pub sheets : new.sheets ≡ raised old.sheets row.key.batch 1
   pub waits : new.waits ≡ raised old.waits row.key.batch (left_on sheet row)
   pub names : AddsEach (λ contest. named_on election contest row) old.names.items new.names.items

@@ -11,6 +11,7 @@ pub mod Named
 pub mod Figures
 pub mod Summary
 pub mod Counted
+pub mod Telling
 pub mod Frame
 pub mod SummaryLaws
 pub mod Outcome

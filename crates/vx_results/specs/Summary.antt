@@ -8,7 +8,7 @@ use Rattle.vx_events.specs.declared.event.Event.{Event}
 use Rattle.vx_center.specs.Sheets.{sheets_in}
 use Rattle.vx_tally.specs.declared.report.ReportContest.{ReportContest}
 use Rattle.vx_tally.specs.declared.report.CvrRecord.{CvrRecord}
-use Rattle.vx_tally.specs.Totals.{over_of, total_of, under_of}
+use Rattle.vx_tally.specs.Totals.{Summed, summed_of}
 use Rattle.vx_audit.specs.Walk.{by_place}
 use Rattle.vx_results.specs.declared.groups.Group.{Group}
 use Rattle.vx_results.specs.Figures.{batch_sheets, batch_waiting, contest_units, names_of, precinct_units, records_at}
@@ -45,30 +45,30 @@ under_line contest unit kind count = codes "under " ++ contest ++ 32 ∷ unit ++
 abbrev pub named_line : List ℕ → List ℕ → ℕ → List ℕ
 named_line contest text count = codes "named " ++ contest ++ 32 ∷ text ++ 32 ∷ decimal count ++ 10 ∷ []
 
--- ---- the lines of groups, by the units' names and the records of each group
+-- ---- the lines of groups, by the units' names and what the records of each group sum up to
 
-module _ (units : List (List ℕ)) (records : Group → List CvrRecord) where
+module _ (units : List (List ℕ)) (sums : Group → Summed) where
   -- the name of the unit of a group
   abbrev pub unit_name : Group → List ℕ
   unit_name group = slice_index_or units group.unit []
 
   abbrev pub group_sheets : Group → List ℕ
-  group_sheets group = sheets_line (unit_name group) (word_at group.kind) (length (records group))
+  group_sheets group = sheets_line (unit_name group) (word_at group.kind) (sums group).count
 
   -- those of the contest at a place
   module _ (place : ℕ) (contest : ReportContest) where
     abbrev pub selection_votes : Group → ℕ → List ℕ → List ℕ
     selection_votes group selection name =
-        votes_line contest.id (unit_name group) (word_at group.kind) name (total_of (records group) place selection)
+        votes_line contest.id (unit_name group) (word_at group.kind) name ((sums group).votes place selection)
 
     abbrev pub group_votes : Group → List ℕ
     group_votes group = by_place (selection_votes group) 0 contest.selections
 
     abbrev pub group_over : Group → List ℕ
-    group_over group = over_line contest.id (unit_name group) (word_at group.kind) (over_of (records group) place)
+    group_over group = over_line contest.id (unit_name group) (word_at group.kind) ((sums group).over place)
 
     abbrev pub group_under : Group → List ℕ
-    group_under group = under_line contest.id (unit_name group) (word_at group.kind) (under_of (records group) place)
+    group_under group = under_line contest.id (unit_name group) (word_at group.kind) ((sums group).under place)
 
     abbrev pub groups_text : List Group → List ℕ
     groups_text groups = flat_map group_votes groups ++ flat_map group_over groups ++ flat_map group_under groups
@@ -88,6 +88,10 @@ module _ (election : Election) (kept : List Event) where
   abbrev pub group_records : Group → List CvrRecord
   group_records group = records_at election kept group.kind group.unit
 
+  -- what they sum up to
+  abbrev pub group_sums : Group → Summed
+  group_sums group = summed_of (group_records group)
+
   -- the units of all precincts, with each kind that has lines
   abbrev pub sheet_groups : List Group
   sheet_groups = groups_of (kinds_in (sheets_in kept)) (precinct_units election)
@@ -97,7 +101,7 @@ module _ (election : Election) (kept : List Event) where
   contest_groups place = groups_of (kinds_in (sheets_in kept)) (contest_units election place)
 
   abbrev pub sheets_text : List ℕ
-  sheets_text = flat_map (group_sheets (units_of election) group_records) sheet_groups
+  sheets_text = flat_map (group_sheets (units_of election) group_sums) sheet_groups
 
   abbrev pub batches_text : List ℕ
   batches_text =
@@ -108,7 +112,7 @@ module _ (election : Election) (kept : List Event) where
   -- the lines of the contest at a place
   abbrev pub contest_text : ℕ → ReportContest → List ℕ
   contest_text place contest =
-      groups_text (units_of election) group_records place contest (contest_groups place)
+      groups_text (units_of election) group_sums place contest (contest_groups place)
       ++ flat_map (name_text contest.id (sum_for (names_of election kept (sheets_in kept) place)))
       (texts_of (names_of election kept (sheets_in kept) place))
 

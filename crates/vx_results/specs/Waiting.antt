@@ -1,11 +1,9 @@
 -- How many contests of added sheets wait, and so aren't exported.
-use Rattle.std.specs.Prelude.{ℕ, not, List, length, filter}
+use Rattle.std.specs.Prelude.{not, List, filter}
 use Rattle.std.specs.List.{flat_map}
 use Rattle.vx_election_model.specs.declared.election.Election.{Election}
 use Rattle.vx_rules.specs.declared.marks.ContestMarks.{ContestMarks}
 use Rattle.vx_events.specs.declared.event.Event.{Event}
-use Rattle.vx_events.specs.declared.event.Event.TheVariants.{Add, Claim, Release, Decide}
-use Rattle.vx_center.specs.declared.rows.ExportSheet.{ExportSheet}
 use Rattle.vx_center.specs.Sheets.{Added, sheets_in}
 use Rattle.vx_center.specs.Waiting.{exports}
 
@@ -16,14 +14,3 @@ waiting_on election kept added = filter (λ (marks : ContestMarks). not (exports
 -- those of all sheets that were added
 abbrev pub waiting_in : Election → List Event → List ContestMarks
 waiting_in election kept = flat_map (waiting_on election kept) (sheets_in kept)
-
--- how many contests the sheet has that an event adds
-abbrev pub contests_added : Event → ℕ
-contests_added (Add key sheet) = length sheet.contests
-contests_added (Claim station key) = 0
-contests_added (Release station key) = 0
-contests_added (Decide station key contest decision) = 0
-
--- how many of a sheet are exported
-abbrev pub contests_exported : ExportSheet → ℕ
-contests_exported row = length row.finals

@@ -1,31 +1,30 @@
 //! The lines of groups: how many sheets, and the votes, over votes and undervotes of a contest.
 
-ghost use Rattle.std.specs.Prelude.{◌≡◌, ◌≤◌, ◌++◌, [], OnOk, length, option_copied, slice_index_or, string_bytes};
+ghost use Rattle.std.specs.Prelude.{◌≡◌, ◌≤◌, ◌++◌, [], OnOk, option_copied, slice_index_or, string_bytes};
 ghost use Rattle.std.specs.List.{flat_map};
 ghost use Rattle.std.specs.Option.{unwrap_or};
 ghost use Rattle.vx_audit.specs.Sized.{HasFew};
 ghost use Rattle.vx_audit.specs.Walk.{by_place};
-ghost use Rattle.vx_tally.specs.Totals.{over_of, total_of, under_of};
 ghost use Rattle.vx_results.specs.Counted as spec;
 ghost use Rattle.vx_results.specs.Summary as lines;
 
 use crate::groups::Group;
 use crate::kinds::word_at;
-use crate::piles::Pile;
 use vx_base::OutOfMemory;
 use vx_json::Text;
-use vx_tally::ReportContest;
+use vx_tally::{ReportContest, Totals};
 
 /// The pile of a group.
-fn pile_of<'p>(piles: &'p [Pile], group: Group) -> Option<&'p Pile>
-    ensures { unwrap_or (option_copied result) [] ≡ spec.pile_of piles.now group }
+fn pile_of<'p>(piles: &'p [Totals], group: Group) -> Option<&'p Totals>
+    ensures { unwrap_or (option_copied result) spec.none_kept ≡ spec.group_pile piles.now group }
 {
     piles.get(8 * group.unit as usize + group.kind as usize)
 }
 
 /// How many sheets a group has.
-fn sheets_at(piles: &[Pile], group: Group) -> u64
-    ensures { result ≡ length (spec.pile_of piles.now group) }
+#[tactic(auto, unfolding(vx_tally::specs::Running::summed_in))]
+fn sheets_at(piles: &[Totals], group: Group) -> u64
+    ensures { result ≡ (spec.pile_of piles.now group).count }
 {
     match pile_of(piles, group) {
         None => 0,
@@ -34,9 +33,9 @@ fn sheets_at(piles: &[Pile], group: Group) -> u64
 }
 
 /// The votes of a group for a selection.
-#[tactic(auto, unfolding(vx_tally::specs::Totals::total_of))]
-fn total_at(piles: &[Pile], group: Group, contest: u32, selection: u32) -> u64
-    ensures { result ≡ total_of (spec.pile_of piles.now group) contest selection }
+#[tactic(auto, unfolding(vx_tally::specs::Running::summed_in))]
+fn total_at(piles: &[Totals], group: Group, contest: u32, selection: u32) -> u64
+    ensures { result ≡ (spec.pile_of piles.now group).votes contest selection }
 {
     match pile_of(piles, group) {
         None => 0,
@@ -45,9 +44,9 @@ fn total_at(piles: &[Pile], group: Group, contest: u32, selection: u32) -> u64
 }
 
 /// The over votes of a group.
-#[tactic(auto, unfolding(vx_tally::specs::Totals::over_of))]
-fn over_at(piles: &[Pile], group: Group, contest: u32) -> u64
-    ensures { result ≡ over_of (spec.pile_of piles.now group) contest }
+#[tactic(auto, unfolding(vx_tally::specs::Running::summed_in))]
+fn over_at(piles: &[Totals], group: Group, contest: u32) -> u64
+    ensures { result ≡ (spec.pile_of piles.now group).over contest }
 {
     match pile_of(piles, group) {
         None => 0,
@@ -56,9 +55,9 @@ fn over_at(piles: &[Pile], group: Group, contest: u32) -> u64
 }
 
 /// The undervotes of a group.
-#[tactic(auto, unfolding(vx_tally::specs::Totals::under_of))]
-fn under_at(piles: &[Pile], group: Group, contest: u32) -> u64
-    ensures { result ≡ under_of (spec.pile_of piles.now group) contest }
+#[tactic(auto, unfolding(vx_tally::specs::Running::summed_in))]
+fn under_at(piles: &[Totals], group: Group, contest: u32) -> u64
+    ensures { result ≡ (spec.pile_of piles.now group).under contest }
 {
     match pile_of(piles, group) {
         None => 0,
@@ -80,7 +79,7 @@ fn unit_at<'u>(units: &'u [Text], group: Group) -> &'u str
 fn push_sheets(
     text: &mut String,
     units: &[Text],
-    piles: &[Pile],
+    piles: &[Totals],
     group: Group,
 ) -> Result<(), OutOfMemory>
     ensures { OnOk result (string_bytes text.new ≡ string_bytes text.old
@@ -95,7 +94,7 @@ fn push_sheets(
 pub(crate) fn push_all_sheets(
     text: &mut String,
     units: &[Text],
-    piles: &[Pile],
+    piles: &[Totals],
     groups: &[Group],
 ) -> Result<(), OutOfMemory>
     ensures { OnOk result (string_bytes text.new ≡ string_bytes text.old
@@ -126,7 +125,7 @@ fn push_selection(
 fn push_votes(
     text: &mut String,
     units: &[Text],
-    piles: &[Pile],
+    piles: &[Totals],
     place: u32,
     contest: &ReportContest,
     group: Group,
@@ -149,7 +148,7 @@ fn push_votes(
 fn push_all_votes(
     text: &mut String,
     units: &[Text],
-    piles: &[Pile],
+    piles: &[Totals],
     place: u32,
     contest: &ReportContest,
     groups: &[Group],
@@ -168,7 +167,7 @@ fn push_all_votes(
 fn push_over(
     text: &mut String,
     units: &[Text],
-    piles: &[Pile],
+    piles: &[Totals],
     place: u32,
     contest: &ReportContest,
     group: Group,
@@ -189,7 +188,7 @@ fn push_over(
 fn push_all_over(
     text: &mut String,
     units: &[Text],
-    piles: &[Pile],
+    piles: &[Totals],
     place: u32,
     contest: &ReportContest,
     groups: &[Group],
@@ -207,7 +206,7 @@ fn push_all_over(
 fn push_under(
     text: &mut String,
     units: &[Text],
-    piles: &[Pile],
+    piles: &[Totals],
     place: u32,
     contest: &ReportContest,
     group: Group,
@@ -228,7 +227,7 @@ fn push_under(
 fn push_all_under(
     text: &mut String,
     units: &[Text],
-    piles: &[Pile],
+    piles: &[Totals],
     place: u32,
     contest: &ReportContest,
     groups: &[Group],
@@ -246,7 +245,7 @@ fn push_all_under(
 pub(crate) fn push_groups(
     text: &mut String,
     units: &[Text],
-    piles: &[Pile],
+    piles: &[Totals],
     place: u32,
     contest: &ReportContest,
     groups: &[Group],

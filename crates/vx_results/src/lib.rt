@@ -3,7 +3,8 @@
 //! What the report of kept events says is `report_of_events` in `specs/Report.antt`, a record for each sheet
 //! that was added; `journal_report` makes that value of the machine's rows, and no text of a report comes
 //! between. `results_text` gives the totals of it by `vx_audit`, and then how many contests wait:
-//! `specs/Results.antt`. What the rows of a history have is a law of `specs/Fitting.antt`.
+//! `specs/Results.antt`. It keeps no record: it walks over the sheets, each once, and keeps what their records
+//! sum up to, `specs/Telling.antt`. What the rows of a history have is a law of `specs/Fitting.antt`.
 //!
 //! `results` does the command of that name: what it does is `results_outcome` in `specs/Outcome.antt`, and that
 //! what it writes are the results of exactly the kept events is the law of `specs/Written.antt`. `summary` writes
@@ -18,13 +19,13 @@
 
 mod comparing;
 mod contests;
+mod counting;
 mod group_lines;
 mod groups;
 mod kept_results;
 mod kinds;
 mod laws;
 mod named;
-mod piles;
 mod reading;
 mod records;
 mod report;
@@ -36,7 +37,6 @@ mod summing;
 mod sums;
 mod telling;
 mod text_lines;
-mod waiting;
 mod writing;
 
 pub use kept_results::{results_are_of_what_was_kept, summary_is_of_what_was_kept};

@@ -1,11 +1,12 @@
 //! What is counted of the sheets of a journal, in the order of adding.
 
-ghost use Rattle.std.specs.Prelude.{◌≡◌, ◌+◌, ◌-◌, ◌*◌, ◌<◌, ◌≤◌, [], List, IfOk, OnOk, length, replicate, slice_index_or, take};
+ghost use Rattle.std.specs.Prelude.{◌≡◌, ◌+◌, ◌-◌, ◌*◌, ◌<◌, ◌≤◌, [], All, List, IfOk, OnOk, length, replicate, take};
 ghost use Rattle.vx_election_model.specs.Valid.{IsValid};
 ghost use Rattle.vx_styles.specs.Cards.{cards_of};
 ghost use Rattle.vx_events.specs.declared.event.Event.{Event};
 ghost use Rattle.vx_center.specs.Sheets.{sheets_in};
 ghost use Rattle.vx_cvr.specs.Report.{HasItsContests};
+ghost use Rattle.vx_tally.specs.Running.{SumsUp, summed_in};
 ghost use Rattle.vx_tally.specs.Totals.{IsCountable};
 ghost use Rattle.vx_results.specs.Counted as spec;
 ghost use Rattle.vx_results.specs.Kinds.{kind_of as kind_of_sheet};
@@ -13,7 +14,6 @@ ghost use Rattle.vx_results.specs.Report as report;
 
 use crate::kinds::kind_of;
 use crate::named::add_names;
-use crate::piles::Pile;
 use crate::records::{record_of, unit_of};
 use crate::sums::Sums;
 use std::alloc::Global;
@@ -22,12 +22,13 @@ use vx_center::{Center, ExportSheet};
 use vx_election_model::Election;
 use vx_rules::SheetMarks;
 use vx_styles::{Card, each_card_has_its_precinct};
+use vx_tally::Totals;
 
 /// What is counted of sheets.
 #[derive(Drop)]
 pub(crate) struct Figures {
-    /// The records of each kind in each unit, unit after unit.
-    pub(crate) piles: Vec<Pile>,
+    /// What the records of each kind in each unit sum up to, unit after unit.
+    pub(crate) piles: Vec<Totals>,
     /// How many sheets each batch has.
     pub(crate) sheets: Sums,
     /// How many contests of each batch wait.
@@ -38,15 +39,15 @@ pub(crate) struct Figures {
     pub(crate) waiting: u64,
 }
 
-/// So many empty piles.
-#[tactic(auto, using(crate::proofs::Figured::replicate_more))]
-fn piles_of(alloc: Global, count: usize) -> Result<Vec<Pile>, OutOfMemory>
-    ensures { IfOk result (λ piles. piles.items ≡ replicate count []) }
+/// The sums of no records, so many times.
+fn piles_of(alloc: Global, count: usize) -> Result<Vec<Totals>, OutOfMemory>
+    ensures count { IfOk result (λ piles. length piles.items ≡ count) }
+    ensures none { IfOk result (λ piles. All (SumsUp []) piles.items) }
 {
     let mut piles = Vec::new(alloc);
     for place in 0..count {
         let _ = place;
-        piles.push(Pile::new(alloc))?;
+        piles.push(Totals::new(alloc))?;
     }
     Ok(piles)
 }
@@ -80,10 +81,10 @@ pub(crate) fn no_figures(alloc: Global, election: &Election) -> Result<Figures, 
     })
 }
 
-/// Puts the record of a sheet of a kind into its pile.
+/// Adds the record of a sheet of a kind to the sums of that kind in its unit.
 fn add_record(
     alloc: Global,
-    piles: &mut Vec<Pile>,
+    piles: &mut Vec<Totals>,
     election: &Election,
     cards: &[Card],
     kind: u32,
@@ -93,10 +94,10 @@ fn add_record(
     requires cards { cards.now ≡ cards_of election.now }
     requires contests { HasItsContests election.now row.now }
     requires there { spec.pile_place kind (report.unit_of election.now row.now) < length piles.old.items }
-    requires few { length (slice_index_or piles.old.items (spec.pile_place kind (report.unit_of election.now row.now)) [])
-        < 1000000000 }
+    requires few { (summed_in (spec.pile_at piles.old.items
+        (spec.pile_place kind (report.unit_of election.now row.now)))).count < 1000000000 }
     requires countable { IsCountable (report.record_of election.now row.now) }
-    ensures { OnOk result (piles.new.items ≡ spec.with_record election.now kind row.now piles.old.items) }
+    ensures { OnOk result (spec.WithRecord election.now kind row.now piles.old.items piles.new.items) }
 {
     let place = 8 * unit_of(election, cards, row.card) as usize + kind as usize;
     let made = record_of(alloc, election, cards, row)?;
@@ -118,8 +119,8 @@ fn add_row(
     requires contests { HasItsContests election.now row.now }
     requires there { spec.pile_place (kind_of_sheet sheet.now) (report.unit_of election.now row.now)
         < length figures.old.piles.items }
-    requires few { length (slice_index_or figures.old.piles.items
-        (spec.pile_place (kind_of_sheet sheet.now) (report.unit_of election.now row.now)) []) < 1000000000 }
+    requires few { (summed_in (spec.pile_at figures.old.piles.items
+        (spec.pile_place (kind_of_sheet sheet.now) (report.unit_of election.now row.now)))).count < 1000000000 }
     requires countable { IsCountable (report.record_of election.now row.now) }
     requires finals { length row.now.finals ≤ length sheet.now.contests }
     requires contests_few { length sheet.now.contests ≤ 1000 }

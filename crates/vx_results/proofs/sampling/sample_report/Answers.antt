@@ -1,4 +1,4 @@
-use Rattle.std.proofs.Common.{ℕ, List, subst, rules}
+use Rattle.std.proofs.Common.{List, subst, rules}
 use Rattle.vx_audit.specs.declared.hand.HandLine.{HandLine}
 use Rattle.vx_command.specs.Acts.{Outcome, writing}
 use Rattle.vx_command.specs.Done.{IsDone}

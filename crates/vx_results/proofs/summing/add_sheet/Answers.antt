@@ -8,7 +8,7 @@ use Rattle.vx_center.specs.Histories.{IsHistory}
 use Rattle.vx_center.specs.Places.{no_sheet, sheet_at}
 use Rattle.vx_center.specs.Sheets.{Added, sheets_in}
 use Rattle.vx_cvr.specs.Report.{HasItsContests}
-use Rattle.vx_tally.specs.Totals.{IsCountable}
+use Rattle.vx_tally.specs.Totals.{IsCountable, Summed}
 use Rattle.vx_results.specs.Counted.{AreFigures, IsCounted}
 use Rattle.vx_results.specs.Kinds.{kind_of}
 use Rattle.vx_results.specs.Report.{record_of, unit_at, unit_of}
@@ -50,7 +50,7 @@ add_row-requires-clause-few c =
     (omega (arith, unit, there)) in
     omega (
       arith,
-      ap length pile,
+      ap (λ (summed : Summed). summed.count) pile,
       records_few election kept (take c.args.place (sheets_in kept)) (kind_of c.sheet_at.result.now) (unit_of election c.in_ok-row.row),
       length-take c.args.place (sheets_in kept),
       c.sheet_count-count.ensures.few,
