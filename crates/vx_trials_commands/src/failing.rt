@@ -87,6 +87,20 @@ fn assert_asked_no_more<R: Abort>(rt: &R, whole: &Answer, now: &Answer, calls: u
     );
 }
 
+/// The command ended with the fault of its inputs, so many acts stand, and nothing was asked behind that call.
+fn assert_read_failed<R: Abort>(
+    rt: &R,
+    trial: &Trial,
+    whole: &Answer,
+    now: &Answer,
+    call: u64,
+    acts: usize,
+) {
+    assert_eq!(rt; now.status.as_str(), "read fault", "{:?}", trial.words);
+    assert_stand(rt, trial, whole, now, acts);
+    assert_asked_no_more(rt, whole, now, call);
+}
+
 /// With this call of the inputs failing the command ends with their fault, so many acts stand, and nothing is
 /// asked behind that call.
 fn assert_read_fails<R: Threads + Sync + AllocGlobal + Abort>(
@@ -99,9 +113,7 @@ fn assert_read_fails<R: Threads + Sync + AllocGlobal + Abort>(
     acts: usize,
 ) -> Result<(), Fail> {
     let now = run_trial(rt, day, trial, failing)?;
-    assert_eq!(rt; now.status.as_str(), "read fault", "{:?}", trial.words);
-    assert_stand(rt, trial, whole, &now, acts);
-    assert_asked_no_more(rt, whole, &now, call);
+    assert_read_failed(rt, trial, whole, &now, call, acts);
     Ok(())
 }
 
