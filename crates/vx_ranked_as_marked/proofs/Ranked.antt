@@ -1,6 +1,7 @@
 -- An export could be run behind the runs, which shows what the journal keeps of the sheets that they counted.
-use Rattle.std.proofs.Common.{◌≡◌, ℕ, suc, Bool, true, false, cond, List, [], ◌∷◌, append-nil, Some, None, Ok, inl, inr, refl, sym, ap, subst, ◌∙◌, arith}
+use Rattle.std.proofs.Common.{◌≡◌, ℕ, suc, Bool, true, false, cond, List, [], ◌∷◌, ◌++◌, append-nil, map, Some, None, Ok, inl, inr, refl, sym, ap, subst, ◌∙◌, arith}
 use Rattle.std.specs.Prelude.{codes, filter, slice_get}
+use Rattle.std.specs.List.{flat_map}
 use Rattle.vx_io.specs.Outside.{Files}
 use Rattle.uuid.specs.Text.{by_index}
 use Rattle.vx_election_model.specs.Dates.{is_date}
@@ -11,8 +12,8 @@ use Rattle.vx_sheet.specs.Margin.{MarkedSheet}
 use Rattle.vx_rules.specs.declared.marks.SheetMarks.{SheetMarks}
 use Rattle.vx_center.specs.Histories.{IsHistory}
 use Rattle.vx_center.specs.Sheets.{has_key, sheets_in}
-use Rattle.vx_cvr.specs.Report.{report_of}
-use Rattle.vx_command.specs.Acts.{Outcome, Write, writing}
+use Rattle.vx_cvr.specs.Pieces.{report_pieces}
+use Rattle.vx_command.specs.Acts.{Outcome, Write, records_of}
 use Rattle.vx_command.specs.Done.{IsDone}
 use Rattle.vx_command.specs.Elections.{election_in}
 use Rattle.vx_command.specs.Laws.{StepLaws}
@@ -21,7 +22,7 @@ use Rattle.vx_journal.specs.Keeping.{has_none, journal_in, journal_read}
 use Rattle.vx_journal.specs.Laws.{ReadLaws}
 use Rattle.vx_journal.specs.Replay.{replay_of}
 use Rattle.vx_journal.specs.Steps.{once_read}
-use Rattle.vx_command_export.specs.Outcome.{export_outcome}
+use Rattle.vx_command_export.specs.Outcome.{export_outcome, writing_each}
 use Rattle.vx_words.specs.declared.command.Command.{Command}
 use Rattle.vx_words.specs.declared.command.Command.TheVariants.{Count, Export}
 use Rattle.vx_words.specs.Devices.{device_of}
@@ -65,6 +66,11 @@ counted-named election records (one ∷ runs) left key sheet are (inl (inr count
     named_count election one records counts.scanned.name counts.scanned.batch counts.scanned.workers counts.scanned.scans counts.scanned.is_count are.0
 counted-named election records (one ∷ runs) left key sheet are (inr later) = counted-named election one.left runs left key sheet are.1 later
 
+-- texts that are written keep nothing
+none_kept : (pieces : List (List ℕ)) → flat_map records_of (map Write pieces) ≡ []
+none_kept [] = refl
+none_kept (piece ∷ pieces) = none_kept pieces
+
 -- a moment and a device
 moment : List ℕ
 moment = codes "2024-11-06T08:00:00Z"
@@ -98,15 +104,16 @@ module _ (steps : StepLaws Election) (reads : ReadLaws) (election : Election) (r
   unfolding journal
   is_journal = ap (journal_read election (has_none left)) replays
 
-  wrote : (text : List ℕ) → IsDone (writing text) None None (Some left) (Some left) (Ok tt)
-  wrote text = record {
-    done = Write text ∷ [];
+  wrote : (pieces : List (List ℕ)) → IsDone (writing_each pieces) None None (Some left) (Some left) (Ok tt)
+  wrote pieces = record {
+    done = map Write pieces;
     left = [];
-    are_acts = refl;
+    are_acts = sym (append-nil (map Write pieces));
     text = [];
     records = [];
     took = refl;
-    kept = ap (λ (some : List (List ℕ)). Some some) (sym (append-nil left));
+    kept = ap (λ (some : List (List ℕ)). Some some)
+        (sym (ap (λ (more : List (List ℕ)). left ++ more) (append-nil (flat_map records_of (map Write pieces)) ∙ none_kept pieces) ∙ append-nil left));
     ends = inl (record { all = refl; no_more = (refl, refl); same_answer = refl });
   }
 
@@ -123,10 +130,10 @@ module _ (steps : StepLaws Election) (reads : ReadLaws) (election : Election) (r
 
   done : IsDone (export_outcome it.name moment device it.files left) None None (Some left) (Some left) (Ok tt)
   done =
-      let rest : Journal → Outcome = λ one. writing (report_of election one.center.events moment device) in
+      let rest : Journal → Outcome = λ one. writing_each (report_pieces election one.center.events moment device) in
       steps.taken 1 (election_in (it.files it.name)) election
-      (λ given. once_read given left (λ one. writing (report_of given one.center.events moment device))) None it.is_named (Some left) None (Some left) (Ok tt)
-      (reads.read election left journal rest None (Some left) is_journal None (Some left) (Ok tt) (wrote (report_of election journal.center.events moment device)))
+      (λ given. once_read given left (λ one. writing_each (report_pieces given one.center.events moment device))) None it.is_named (Some left) None (Some left) (Ok tt)
+      (reads.read election left journal rest None (Some left) is_journal None (Some left) (Ok tt) (wrote (report_pieces election journal.center.events moment device)))
 
   export : IsExport election runs left last moment device
   unfolding last

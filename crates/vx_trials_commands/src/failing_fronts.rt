@@ -6,12 +6,13 @@ use vx_io::Records;
 /// How many bytes a printed page has.
 const PAGE: usize = 468_613;
 
-/// What a command does to the outside: it appends a record, writes so many lines as one text, or
-/// writes a printed page.
+/// What a command does to the outside: it appends a record, writes so many lines as one text, writes
+/// what stands before a text, or writes a printed page.
 #[derive(Clone, Copy)]
 pub(crate) enum Act {
     Append,
     Lines(usize),
+    Before(&'static str),
     Page,
 }
 
@@ -29,11 +30,22 @@ fn behind_lines(text: &[u8], from: usize, lines: usize) -> usize {
     text.len()
 }
 
+/// The place of a text within another, from a place on; the end where it isn't there.
+fn place_of(text: &[u8], from: usize, next: &str) -> usize {
+    for place in from..text.len() {
+        if text[place..].starts_with(next.as_bytes()) {
+            return place;
+        }
+    }
+    text.len()
+}
+
 /// How many records and bytes stand behind an act, of a command that writes this text in all.
 fn behind(act: Act, text: &[u8], records: usize, bytes: usize) -> (usize, usize) {
     match act {
         Act::Append => (records.saturating_add(1), bytes),
         Act::Lines(lines) => (records, behind_lines(text, bytes, lines)),
+        Act::Before(next) => (records, place_of(text, bytes, next)),
         Act::Page => (records, bytes.saturating_add(PAGE)),
     }
 }

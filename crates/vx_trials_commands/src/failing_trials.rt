@@ -1,7 +1,7 @@
 //! The commands that are tried, what they do in order, and what they are run over.
 
 use crate::devices::{Answer, Failing, Held, attempt};
-use crate::failing_fronts::Act::{self, Append, Lines, Page};
+use crate::failing_fronts::Act::{self, Append, Before, Lines, Page};
 use crate::rows::ONE_SHEET;
 use std::test::Fail;
 use std::thread::Threads;
@@ -34,6 +34,11 @@ pub(crate) const EXPORT: &[&str] = &[
     "2024-11-06T08:00:00Z",
     "00000000-0000-4000-8000-000000000001",
 ];
+
+/// How the first sheet of a report begins, and what stands behind its last.
+const FIRST_SHEET: &str = "{\"@type\":\"CVR.CVR\"";
+
+const BEHIND_SHEETS: &str = "],\"Election\":";
 
 /// Commands that only read their inputs. The last two end where an input leaves its form.
 pub(crate) const READERS: [Trial; 5] = [
@@ -170,7 +175,7 @@ pub(crate) const JOURNALS: [Trial; 6] = [
         asks: &["e"],
         takes: &[0],
         reads_journal: true,
-        acts: &[Lines(1)],
+        acts: &[Before(FIRST_SHEET), Before(BEHIND_SHEETS), Lines(1)],
         ends: "ok",
     },
     Trial {
@@ -179,7 +184,7 @@ pub(crate) const JOURNALS: [Trial; 6] = [
         asks: &["e"],
         takes: &[0],
         reads_journal: true,
-        acts: &[Lines(1)],
+        acts: &[Before(BEHIND_SHEETS), Lines(1)],
         ends: "ok",
     },
 ];
