@@ -1,5 +1,5 @@
 -- The rows of contests, one more at a time.
-use Rattle.std.proofs.Common.{◌≡◌, ℕ, ◌+◌, List, [], ◌∷◌, ◌++◌, ap, ap₂, sym, ◌∙◌}
+use Rattle.std.proofs.Common.{◌≡◌, ℕ, ◌+◌, List, [], ◌∷◌, ◌++◌, length, map, ap, ap₂, sym, ◌∙◌}
 use Rattle.std.specs.Prelude.{slice_get, sum_by, Some}
 use Rattle.std.specs.List.{flat_map, range_with_len}
 use Rattle.vx_base.proofs.Ranges.{flat_map-laid}
@@ -7,7 +7,7 @@ use Rattle.vx_election_model.specs.declared.contest.Contest.{Contest}
 use Rattle.vx_tally.specs.declared.report.CvrRecord.{CvrRecord}
 use Rattle.vx_audit.specs.declared.hand.HandLine.{HandLine}
 use Rattle.vx_command_risk.specs.declared.rows.Row.{Row}
-use Rattle.vx_tally.specs.Totals.{total_of}
+use Rattle.vx_tally.specs.Totals.{Summed, summed_of}
 use Rattle.vx_command_risk.specs.declared.rows.Told.{Told}
 use Rattle.vx_command_risk.specs.declared.sides.Sides.{Sides}
 use Rattle.vx_command_risk.specs.declared.standing.Standing.{Standing}
@@ -27,16 +27,17 @@ module _ (records : List CvrRecord) (lines : List HandLine) (draws : List ℕ) (
       (step ∙ ap (λ (one : Row). so_far ++ one ∷ []) made ∙ ap (λ rows. so_far ++ rows) (sym (ap (row_at records lines draws limit place) is)))
 
 -- what is told of a contest, from its votes, its slots, how it stands, and its selections
-pub told_is : (records tally : List CvrRecord) (lines : List HandLine) (draws : List ℕ) (limit place : ℕ) (contest : Contest)
+pub told_is : (records : List CvrRecord) (sums : Summed) (lines : List HandLine) (draws : List ℕ) (limit place : ℕ) (contest : Contest)
     (votes here there slots these : List ℕ) (written : ℕ) (standing : Standing) (sides : Sides) (told : Told)
-    → tally ≡ records → votes ≡ choice_votes tally place contest → here ≡ votes → there ≡ votes → slots ≡ slots_of contest → these ≡ slots
-    → written ≡ sum_by (total_of tally place) these → standing ≡ standing_of contest.seats here written → sides ≡ sides_of place contest there
+    → sums ≡ summed_of records → votes ≡ map (sums.votes place) (range_with_len 0 (length contest.choices)) → here ≡ votes → there ≡ votes
+    → slots ≡ slots_of contest → these ≡ slots → written ≡ sum_by (sums.votes place) these → standing ≡ standing_of contest.seats here written → sides ≡ sides_of place contest there
     → told ≡ told_by records lines draws limit sides standing → told ≡ told_of records lines draws limit place contest
-told_is records tally lines draws limit place contest votes here there slots these written standing sides told tallied voted at-here at-there slotted at-these
+told_is records sums lines draws limit place contest votes here there slots these written standing sides told tallied voted at-here at-there slotted at-these
     summed stands sided is =
-    let votes-are : votes ≡ choice_votes records place contest = voted ∙ ap (λ (some : List CvrRecord). choice_votes some place contest) tallied in
+    let votes-are : votes ≡ choice_votes records place contest =
+    voted ∙ ap (λ (some : Summed). map (some.votes place) (range_with_len 0 (length contest.choices))) tallied in
     let written-are : written ≡ slot_votes records place contest =
-    summed ∙ ap₂ (λ (some : List CvrRecord) (of : List ℕ). sum_by (total_of some place) of) tallied (at-these ∙ slotted) in
+    summed ∙ ap₂ (λ (some : Summed) (of : List ℕ). sum_by (some.votes place) of) tallied (at-these ∙ slotted) in
     is
     ∙ ap₂ (λ (by : Sides) (so : Standing). told_by records lines draws limit by so)
     (sided ∙ ap (sides_of place contest) (at-there ∙ votes-are))

@@ -2,6 +2,7 @@
 
 ghost use Rattle.std.specs.Prelude.{◌≡◌, ◌==◌, ◌<◌, ◌≤◌, ◌^◌, All, IfOk, count_by, length};
 ghost use Rattle.vx_election_model.specs.Options.{options_of};
+ghost use Rattle.vx_tally.specs.Running.{SumsUp};
 ghost use Rattle.vx_command_risk.specs.Findings.{findings_of, is_missing, votes_of};
 ghost use Rattle.vx_command_risk.specs.Rows as spec;
 ghost use Rattle.vx_command_risk.specs.Sampled.{IsSample};
@@ -16,7 +17,7 @@ use vx_cvr::contest_name;
 use vx_election_model::Contest;
 use vx_json::Text;
 use vx_risk::{Draws, bound_of, enough_draws};
-use vx_tally::{CvrRecord, Tally};
+use vx_tally::{CvrRecord, Totals};
 
 /// The figures of a contest with a margin.
 #[derive(Clone, Copy)]
@@ -176,7 +177,7 @@ fn told_by(
 /// What is told of the contest at a place.
 fn told_of(
     alloc: Global,
-    tally: &Tally,
+    totals: &Totals,
     hand: &Hand,
     records: &[CvrRecord],
     sample: &Sample,
@@ -185,15 +186,15 @@ fn told_of(
     contest: &Contest,
 ) -> Result<Told, OutOfMemory>
     requires options { options_of contest.now < 2 ^ 32 }
-    requires summed { tally.now ≡ records.now }
+    requires summed { SumsUp records.now totals.now }
     requires sample { IsSample hand.now (length records.now) sample.now }
     requires records { length records.now < 2 ^ 32 }
     requires draws { length sample.now.draws < 2 ^ 32 }
     ensures { IfOk result (λ told. told ≡ spec.told_of records.now hand.now sample.now.draws limit place contest.now) }
 {
-    let votes = choice_votes(alloc, tally, place, contest)?;
+    let votes = choice_votes(alloc, totals, place, contest)?;
     let slots = slots_of(alloc, contest)?;
-    let written = slot_votes(tally, place, slots.as_slice())?;
+    let written = slot_votes(totals, place, slots.as_slice())?;
     let standing = standing_of(alloc, contest.seats, votes.as_slice(), written)?;
     let sides = sides_of(alloc, place, contest, votes.as_slice(), slots)?;
     let told = told_by(alloc, &sides, hand, records, sample, limit, standing)?;
@@ -203,7 +204,7 @@ fn told_of(
 /// The row of the contest at a place.
 fn row_of(
     alloc: Global,
-    tally: &Tally,
+    totals: &Totals,
     hand: &Hand,
     records: &[CvrRecord],
     sample: &Sample,
@@ -212,13 +213,13 @@ fn row_of(
     contest: &Contest,
 ) -> Result<Row, OutOfMemory>
     requires options { options_of contest.now < 2 ^ 32 }
-    requires summed { tally.now ≡ records.now }
+    requires summed { SumsUp records.now totals.now }
     requires sample { IsSample hand.now (length records.now) sample.now }
     requires records { length records.now < 2 ^ 32 }
     requires draws { length sample.now.draws < 2 ^ 32 }
     ensures { IfOk result (λ row. row ≡ spec.row_of records.now hand.now sample.now.draws limit place contest.now) }
 {
-    let told = told_of(alloc, tally, hand, records, sample, limit, place, contest)?;
+    let told = told_of(alloc, totals, hand, records, sample, limit, place, contest)?;
     let name = contest_name(alloc, contest.id.as_str())?;
     Ok(Row {
         name: Text::from_string(name),
@@ -230,7 +231,7 @@ fn row_of(
 #[tactic(auto, unfolding(crate::specs::Rows::rows_of))]
 pub(crate) fn rows_of(
     alloc: Global,
-    tally: &Tally,
+    totals: &Totals,
     hand: &Hand,
     records: &[CvrRecord],
     sample: &Sample,
@@ -239,7 +240,7 @@ pub(crate) fn rows_of(
 ) -> Result<Vec<Row>, OutOfMemory>
     requires contests { length contests.now < 2 ^ 32 }
     requires options { All (λ contest. options_of contest < 2 ^ 32) contests.now }
-    requires summed { tally.now ≡ records.now }
+    requires summed { SumsUp records.now totals.now }
     requires sample { IsSample hand.now (length records.now) sample.now }
     requires records { length records.now < 2 ^ 32 }
     requires draws { length sample.now.draws < 2 ^ 32 }
@@ -251,7 +252,7 @@ pub(crate) fn rows_of(
         let contest = &contests[place];
         let row = row_of(
             alloc,
-            tally,
+            totals,
             hand,
             records,
             sample,

@@ -1,9 +1,10 @@
 //! The selections of a contest by how they stand, and the votes of its choices and slots.
 
-ghost use Rattle.std.specs.Prelude.{◌≡◌, ◌<◌, ◌++◌, ◌^◌, IfOk, OnOk, length, sum_by};
+ghost use Rattle.std.specs.Prelude.{◌≡◌, ◌<◌, ◌++◌, ◌^◌, IfOk, OnOk, length, map, sum_by};
+ghost use Rattle.std.specs.List.{range_with_len};
 ghost use Rattle.vx_audit.specs.Sample.{where_held};
 ghost use Rattle.vx_election_model.specs.Options.{options_of};
-ghost use Rattle.vx_tally.specs.Totals.{total_of};
+ghost use Rattle.vx_tally.specs.Running.{summed_in};
 ghost use Rattle.vx_command_risk.specs.Sides as spec;
 
 use crate::standing::stands;
@@ -11,7 +12,7 @@ use std::alloc::Global;
 use vx_audit::Places;
 use vx_base::OutOfMemory;
 use vx_election_model::Contest;
-use vx_tally::Tally;
+use vx_tally::Totals;
 
 /// The selections of a contest: places among those of the contest.
 #[derive(Drop)]
@@ -43,28 +44,29 @@ pub(crate) fn slots_of(alloc: Global, contest: &Contest) -> Result<Places, OutOf
 /// The votes of the choices of the contest at a place, in order.
 pub(crate) fn choice_votes(
     alloc: Global,
-    tally: &Tally,
+    totals: &Totals,
     place: u32,
     contest: &Contest,
 ) -> Result<Vec<u64>, OutOfMemory>
     requires { options_of contest.now < 2 ^ 32 }
-    ensures { IfOk result (λ votes. votes.items ≡ spec.choice_votes tally.now place contest.now) }
+    ensures { IfOk result (λ votes. votes.items
+        ≡ map ((summed_in totals.now).votes place) (range_with_len 0 (length contest.now.choices))) }
 {
     let mut votes = Vec::new(alloc);
     for choice in 0..contest.choices.len() as u32 {
-        votes.push(tally.total(place, choice))?;
+        votes.push(totals.total(place, choice))?;
     }
     Ok(votes)
 }
 
 /// The votes of the slots of the contest at a place, all together. A sum of 2^64 is told as want of memory, too.
-pub(crate) fn slot_votes(tally: &Tally, place: u32, slots: &[u32]) -> Result<u64, OutOfMemory>
-    ensures { IfOk result (λ votes. votes ≡ sum_by (total_of tally.now place) slots.now) }
+pub(crate) fn slot_votes(totals: &Totals, place: u32, slots: &[u32]) -> Result<u64, OutOfMemory>
+    ensures { IfOk result (λ votes. votes ≡ sum_by ((summed_in totals.now).votes place) slots.now) }
 {
     let mut votes: u64 = 0;
     for slot in slots {
         votes = votes
-            .checked_add(tally.total(place, *slot))
+            .checked_add(totals.total(place, *slot))
             .ok_or(OutOfMemory)?;
     }
     Ok(votes)

@@ -17,12 +17,12 @@ use crate::finding::{Sample, found_in};
 use crate::rows::{Row, rows_of};
 use crate::telling::text_of_rows;
 use std::alloc::Global;
-use vx_audit::{Hand, draw_places, tally_of};
+use vx_audit::{Hand, draw_places, totals_of};
 use vx_base::{Bytes, OutOfMemory};
 use vx_command::{Halt, acts_in_order, write_text};
 use vx_election_model::Election;
 use vx_io::Sink;
-use vx_tally::{Report, drop_tally};
+use vx_tally::{Report, drop_totals};
 
 /// The draws of a seed from so many records, and of which of these a hand has lines.
 fn sample_of(
@@ -61,9 +61,9 @@ fn rows_by(
 {
     let records = report.records.as_slice();
     let contests = election.contests.as_slice();
-    let tally = tally_of(alloc, records)?;
-    let rows = rows_of(alloc, &tally, hand, records, sample, limit, contests);
-    drop_tally(tally);
+    let totals = totals_of(alloc, records)?;
+    let rows = rows_of(alloc, &totals, hand, records, sample, limit, contests);
+    drop_totals(totals);
     rows
 }
 
