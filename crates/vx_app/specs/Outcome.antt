@@ -13,10 +13,10 @@ use Rattle.vx_command_demo.specs.Outcome.{demo_outcome}
 use Rattle.vx_command_try.specs.Outcome.{try_outcome}
 use Rattle.vx_command_cards.specs.Outcome.{cards_outcome}
 use Rattle.vx_results.specs.Outcome.{results_outcome, summary_outcome}
-use Rattle.vx_results.specs.Sampling.{sample_outcome}
+use Rattle.vx_sampling.specs.SampleOutcome.{sample_outcome}
 use Rattle.vx_command_desk.specs.Outcome.{desk_outcome}
 use Rattle.vx_board.specs.Outcome.{board_outcome}
-use Rattle.vx_command_risk.specs.Outcome.{risk_outcome}
+use Rattle.vx_sampling.specs.RiskOutcome.{risk_outcome}
 use Rattle.vx_words.specs.declared.command.Command.{Command}
 use Rattle.vx_words.specs.declared.command.Command.TheVariants.{Print, Read, Check, Count, Decide, Queue, Export, Demo, Center, Try, Cards, Results, Sample, Desk, Summary, Board, Risk}
 

@@ -16,4 +16,3 @@ pub mod Told
 pub mod Recorded
 pub mod AddsUp
 mod Written
-pub mod Handed

@@ -16,4 +16,3 @@ pub mod Frame
 pub mod SummaryLaws
 pub mod Outcome
 pub mod Written
-pub mod Sampling

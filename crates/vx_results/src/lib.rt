@@ -11,13 +11,10 @@
 //! every figure of a results report as lines, `summary_text` in `specs/Summary.antt`: the figures are defined in
 //! `specs/Figures.antt` over the sheets in the order of adding, the kinds of ballots in `specs/Kinds.antt` and the
 //! names that were written in in `specs/Named.antt`. What is kept while the sheets are walked over, each once, is
-//! said by `specs/Counted.antt`, and what the counts come to by the laws of `specs/SummaryLaws.antt`. `sample` draws
-//! records of a journal by a seed and compares each with what hands read: `sample_outcome` in
-//! `specs/Sampling.antt`, which is `audit` over what the report of the journal's events says. What is drawn, read
-//! and compared stands in `vx_audit`. Neither appends anything.
+//! said by `specs/Counted.antt`, and what the counts come to by the laws of `specs/SummaryLaws.antt`. Neither appends
+//! anything.
 #![tactic(auto)]
 
-mod comparing;
 mod contests;
 mod counting;
 mod group_lines;
@@ -26,10 +23,8 @@ mod kept_results;
 mod kinds;
 mod laws;
 mod named;
-mod reading;
 mod records;
 mod report;
-mod sampling;
 mod standing;
 mod summarizing;
 mod summary_laws;
@@ -41,9 +36,7 @@ mod writing;
 
 pub use kept_results::{results_are_of_what_was_kept, summary_is_of_what_was_kept};
 pub use laws::rows_fit;
-pub use reading::take_hand;
 pub use report::journal_report;
-pub use sampling::{sample, seed_of};
 pub use summary_laws::{empty_summary, summary_adds_up};
 pub use telling::results_text;
 pub use writing::{results, summary};

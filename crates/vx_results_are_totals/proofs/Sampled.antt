@@ -23,7 +23,7 @@ use Rattle.vx_audit.specs.declared.status.AuditStatus.{AuditStatus}
 use Rattle.vx_audit.specs.declared.status.AuditStatus.TheVariants.{TooLong}
 use Rattle.vx_audit.specs.Outcome.{AuditOutcome, after, asked_outcome, audited, ended, once_handed, once_read, with_hand, with_report}
 use Rattle.vx_audit.specs.Words.{Audit}
-use Rattle.vx_results.specs.Sampling.{hand_outcome, handed_outcome, journal_outcome, read_hand, sample_outcome, sample_text}
+use Rattle.vx_sampling.specs.SampleOutcome.{hand_outcome, handed_outcome, journal_outcome, read_hand, sample_outcome, sample_text}
 use Rattle.vx_journal.specs.Keeping.{has_none, journal_read}
 use Rattle.vx_journal.specs.Replay.{replay_of}
 use Rattle.vx_journal.specs.Steps as journal

@@ -12,7 +12,7 @@ use Rattle.vx_audit.specs.Outcome.{AuditOutcome, asked_outcome}
 use Rattle.vx_audit.specs.Status as audit
 use Rattle.vx_audit.specs.Words.{Audit}
 use Rattle.vx_report_read.specs.Texts.{AreOfWords}
-use Rattle.vx_results.specs.Sampling.{sample_outcome}
+use Rattle.vx_sampling.specs.SampleOutcome.{sample_outcome}
 use Rattle.vx_journal.specs.Replay.{replay_of}
 use Rattle.vx_words.specs.Samples.{seed_bytes}
 

@@ -1,5 +1,0 @@
-use Rattle.std.proofs.Common.{refl}
-use Rattle.vx_command_risk.proofs.laws.met_is_the_bound.Goals as goal
-
-pub returns : goal.returns
-returns c records limit margin findings = refl

@@ -1,6 +1,0 @@
-use Rattle.std.proofs.Common.{◌≡◌, take}
-use Rattle.vx_command_risk.specs.Votes.{rows_votes}
-use Rattle.vx_command_risk.proofs.said.rows_votes.Given as goal
-
-abbrev pub invariant-loop-row : goal.invariant-loop-row
-invariant-loop-row l = l.sum ≡ rows_votes l.selection (take l.row-index l.rows)

@@ -1,0 +1,11 @@
+pub mod Counted
+pub mod Handed
+pub mod Extremes
+pub mod Few
+pub mod Kept
+pub mod Leads
+pub mod Most
+pub mod Put
+pub mod Ranges
+pub mod Rowed
+pub mod Summed

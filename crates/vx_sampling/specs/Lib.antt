@@ -1,0 +1,12 @@
+pub mod Standing
+pub mod Sides
+pub mod Votes
+pub mod Said
+pub mod Leads
+pub mod Findings
+pub mod Sampled
+pub mod Rows
+pub mod Text
+pub mod SampleOutcome
+pub mod RiskOutcome
+pub mod Laws
