@@ -8,6 +8,7 @@ pub mod InOrder
 pub mod Joined
 pub mod LinePlaces
 pub mod Indexed
+pub mod Found
 pub mod Drawn
 pub mod Blanks
 pub mod Looked

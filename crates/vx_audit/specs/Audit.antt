@@ -56,14 +56,19 @@ sums_line sampled compared different missing =
     codes "sample " ++ decimal sampled ++ codes " compared " ++ decimal compared ++ codes " differs " ++ decimal different
     ++ codes " missing " ++ decimal missing ++ 10 ∷ []
 
-module _ (report : Report) (lines : List HandLine) (sample : List ℕ) where
+-- of contests, their records, what hands read, and the places of the records of the sample
+module _ (contests : List ReportContest) (records : List CvrRecord) (lines : List HandLine) (sample : List ℕ) where
   -- all pairs
   abbrev pub all_pairs : List Pair
-  all_pairs = flat_map (λ at. pairs_at report.contests lines at (slice_get report.records at)) sample
+  all_pairs = flat_map (λ at. pairs_at contests lines at (slice_get records at)) sample
 
   -- the whole text
-  unfoldable pub audit_text : List ℕ
-  audit_text =
-      flat_map (λ at. record_lines report.contests lines at (slice_get report.records at)) sample
+  unfoldable pub compared_text : List ℕ
+  compared_text =
+      flat_map (λ at. record_lines contests lines at (slice_get records at)) sample
       ++ sums_line (length sample) (how_many is_compared all_pairs) (how_many is_different all_pairs)
       (how_many is_missing all_pairs)
+
+-- the same of a report
+abbrev pub audit_text : Report → List HandLine → List ℕ → List ℕ
+audit_text report lines sample = compared_text report.contests report.records lines sample

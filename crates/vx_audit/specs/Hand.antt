@@ -74,24 +74,6 @@ first_word (word ∷ words) = Some (word, words)
 abbrev pub first_read : {A : Type 0} → (List ℕ → Option A) → List (List ℕ) → Option (A × List (List ℕ))
 first_read read words = and_then (first_word words) (λ first. and_then (read first.0) (λ said. Some (said, first.1)))
 
--- what the words behind `hand` say of a report
-abbrev pub said_in_words : Report → List (List ℕ) → Option HandLine
-said_in_words report words =
-    and_then (first_read (record_with report.records) words) (λ ballot.
-    and_then (first_read (contest_with report.contests) ballot.1) (λ contest.
-    and_then (marks_in (own_of (slice_get report.contests contest.0)) contest.1) (λ marks.
-    Some (record { ballot = ballot.0; contest = contest.0; marks = marks }))))
-
--- what the words of a line say
-abbrev pub hand_in_words : Report → List (List ℕ) → Option HandLine
-hand_in_words report words =
-    and_then (first_word words) (λ first.
-    if bytes_eq first.0 (codes "hand") then said_in_words report first.1 else None)
-
--- what a line says, which is text
-unfoldable pub hand_in_line : Report → List ℕ → Option HandLine
-hand_in_line report line = if is_utf8 line then hand_in_words report (words_of line) else None
-
 -- a line of the ballot of that record, and of that contest
 abbrev pub is_for : ℕ → ℕ → HandLine → Bool
 is_for ballot contest line = ballot == line.ballot && contest == line.contest
@@ -104,26 +86,50 @@ key_of line = (line.ballot, line.contest)
 abbrev pub unless_repeated : List HandLine → HandLine → Option HandLine
 unless_repeated found line = if list_any (is_for line.ballot line.contest) found then None else Some line
 
-abbrev pub next_hand : Report → List HandLine → List ℕ → Option HandLine
-next_hand report found line = and_then (hand_in_line report line) (unless_repeated found)
-
 -- the lines go on, or one is refused by its number, counted from 1
 abbrev pub goes_on : {A : Type 0} → Option HandLine → ℕ → (HandLine → Result A HandFault) → Result A HandFault
 goes_on None number next = Err (BadLine number)
 goes_on (Some line) number next = next line
 
--- those lines with the next
-abbrev pub with_line : Report → List HandLine → List ℕ → Result (List HandLine) HandFault
-with_line report found line = goes_on (next_hand report found line) (length found + 1) (λ said. Ok (found ++ said ∷ []))
+-- of contests, and of ballots whose places are found by their ids
+module _ (contests : List ReportContest) (ballot_with : List ℕ → Option ℕ) where
+  -- what the words behind `hand` say
+  abbrev pub said_in_words : List (List ℕ) → Option HandLine
+  said_in_words words =
+      and_then (first_read ballot_with words) (λ ballot.
+      and_then (first_read (contest_with contests) ballot.1) (λ contest.
+      and_then (marks_in (own_of (slice_get contests contest.0)) contest.1) (λ marks.
+      Some (record { ballot = ballot.0; contest = contest.0; marks = marks }))))
 
--- lines, behind those before them
-abbrev pub hand_behind : Report → List HandLine → List (List ℕ) → Result (List HandLine) HandFault
-hand_behind report found [] = Ok found
-hand_behind report found (line ∷ lines) = with_line report found line >>= λ more. hand_behind report more lines
+  -- what the words of a line say
+  abbrev pub hand_in_words : List (List ℕ) → Option HandLine
+  hand_in_words words =
+      and_then (first_word words) (λ first.
+      if bytes_eq first.0 (codes "hand") then said_in_words first.1 else None)
 
--- what the hand's bytes say of a report, or their first bad line
-unfoldable pub hand_of : Report → List ℕ → Result (List HandLine) HandFault
-hand_of report bytes = hand_behind report [] (lines_of bytes)
+  -- what a line says, which is text
+  unfoldable pub hand_in_line : List ℕ → Option HandLine
+  hand_in_line line = if is_utf8 line then hand_in_words (words_of line) else None
+
+  abbrev pub next_hand : List HandLine → List ℕ → Option HandLine
+  next_hand found line = and_then (hand_in_line line) (unless_repeated found)
+
+  -- those lines with the next
+  abbrev pub with_line : List HandLine → List ℕ → Result (List HandLine) HandFault
+  with_line found line = goes_on (next_hand found line) (length found + 1) (λ said. Ok (found ++ said ∷ []))
+
+  -- lines, behind those before them
+  abbrev pub hand_behind : List HandLine → List (List ℕ) → Result (List HandLine) HandFault
+  hand_behind found [] = Ok found
+  hand_behind found (line ∷ lines) = with_line found line >>= λ more. hand_behind more lines
+
+  -- what the hand's bytes say, or their first bad line
+  unfoldable pub hand_by : List ℕ → Result (List HandLine) HandFault
+  hand_by bytes = hand_behind [] (lines_of bytes)
+
+-- the same of a report
+abbrev pub hand_of : Report → List ℕ → Result (List HandLine) HandFault
+hand_of report bytes = hand_by report.contests (record_with report.records) bytes
 
 -- want of memory
 abbrev pub is_no_memory : HandFault → Bool

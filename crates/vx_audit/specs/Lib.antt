@@ -14,3 +14,4 @@ pub mod Done
 pub mod Outcome
 pub mod Status
 pub mod Words
+pub mod Laws

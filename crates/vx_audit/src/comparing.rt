@@ -3,7 +3,7 @@
 ghost use Rattle.std.specs.Prelude.{◌≡◌, ◌<◌, ◌≤◌, ◌+◌, ◌++◌, [], All, Some, bytes_eq, if◌then◌else◌, IfOk, OnOk, length, option_copied, slice_get, string_bytes};
 ghost use Rattle.std.specs.List.{flat_map};
 ghost use Rattle.vx_audit.specs.Audit as lines;
-ghost use Rattle.vx_audit.specs.Found.{Finds, pair_lines};
+ghost use Rattle.vx_audit.specs.Found.{Finds, FoundNothing, pair_lines, text_found};
 ghost use Rattle.vx_audit.specs.Sized.{IsSized};
 ghost use Rattle.vx_audit.specs.Pairs.{pair_of, pairs_at_place, pairs_of};
 
@@ -14,9 +14,10 @@ use std::alloc::Global;
 use vx_base::OutOfMemory;
 use vx_tally::{CvrRecord, RecordContest, Report, ReportContest};
 
-/// The lines so far, and how many contests of records were compared, differ and are missing.
+/// What a comparison of records with what hands read has found: the lines so far, and how many contests of records
+/// were compared, differ and are missing.
 #[derive(Drop)]
-pub(crate) struct Findings {
+pub struct Findings {
     pub(crate) text: String,
     pub(crate) compared: u64,
     pub(crate) different: u64,
@@ -25,11 +26,8 @@ pub(crate) struct Findings {
 
 impl Findings {
     /// Nothing yet; takes no memory.
-    fn new(alloc: Global) -> Findings
-        ensures text { string_bytes result.text ≡ [] }
-        ensures compared { result.compared ≡ 0 }
-        ensures different { result.different ≡ 0 }
-        ensures missing { result.missing ≡ 0 }
+    pub fn new(alloc: Global) -> Findings
+        ensures { FoundNothing result }
     {
         Findings {
             text: String::new(alloc),
@@ -211,8 +209,39 @@ impl Findings {
         Ok(())
     }
 
-    /// The record at a place.
-    fn take_record(
+    /// A record of the sample, which stands at a place of the report whose contests are told.
+    pub fn take_record(
+        &mut self,
+        alloc: Global,
+        contests: &[ReportContest],
+        hand: &Hand,
+        at: u32,
+        one: &CvrRecord,
+    ) -> Result<(), OutOfMemory>
+        requires { length contests.now ≤ 1000000 }
+        ensures { OnOk result (Finds (lines.record_lines contests.now hand.now at (Some one.now))
+            (lines.pairs_at contests.now hand.now at (Some one.now)) self.old self.new) }
+    {
+        self.put_sampled(one.unique.as_str())?;
+        self.take_contests(alloc, contests, hand, at, one)?;
+        Ok(())
+    }
+
+    /// The text of a sample of so many records: its lines, and the last line.
+    pub fn into_text(self, sampled: usize) -> Result<String, OutOfMemory>
+        ensures { IfOk result (λ text. string_bytes text ≡ text_found self sampled) }
+    {
+        let mut text = self.text;
+        let (compared, different, missing) = (self.compared, self.different, self.missing);
+        write!(
+            &mut text,
+            "sample {sampled} compared {compared} differs {different} missing {missing}\n"
+        )?;
+        Ok(text)
+    }
+
+    /// The record at a place of a report.
+    fn take_at(
         &mut self,
         alloc: Global,
         report: &Report,
@@ -226,24 +255,11 @@ impl Findings {
             (lines.pairs_at report.now.contests hand.now at (slice_get report.now.records at)) self.old self.new) }
     {
         let one = &report.records.as_slice()[at as usize];
-        self.put_sampled(one.unique.as_str())?;
-        self.take_contests(alloc, report.contests.as_slice(), hand, at, one)?;
+        self.take_record(alloc, report.contests.as_slice(), hand, at, one)?;
         Ok(())
     }
 
-    /// The last line.
-    fn push_sums(&mut self, sampled: usize) -> Result<(), OutOfMemory>
-        ensures { OnOk result (string_bytes self.new.text ≡ string_bytes self.old.text
-            ++ lines.sums_line sampled self.old.compared self.old.different self.old.missing) }
-    {
-        let (compared, different, missing) = (self.compared, self.different, self.missing);
-        write!(
-            &mut self.text,
-            "sample {sampled} compared {compared} differs {different} missing {missing}\n"
-        )
-    }
-
-    /// The records at those places.
+    /// The records at those places of a report.
     fn take_records(
         &mut self,
         alloc: Global,
@@ -255,17 +271,17 @@ impl Findings {
         requires within { All (λ at. at < length report.now.records) sample.now }
         ensures { OnOk result (Finds
             (flat_map (λ at. lines.record_lines report.now.contests hand.now at (slice_get report.now.records at)) sample.now)
-            (lines.all_pairs report.now hand.now sample.now) self.old self.new) }
+            (lines.all_pairs report.now.contests report.now.records hand.now sample.now) self.old self.new) }
     {
         for at in sample {
-            self.take_record(alloc, report, hand, *at)?;
+            self.take_at(alloc, report, hand, *at)?;
         }
         Ok(())
     }
 }
 
 /// What `audit` writes of a report, what hands read, and the places of the records of the sample.
-#[tactic(auto, unfolding(crate::specs::Audit::audit_text))]
+#[tactic(auto, unfolding(crate::specs::Audit::compared_text))]
 pub fn audit_text(
     alloc: Global,
     report: &Report,
@@ -278,6 +294,5 @@ pub fn audit_text(
 {
     let mut findings = Findings::new(alloc);
     findings.take_records(alloc, report, hand, sample)?;
-    findings.push_sums(sample.len())?;
-    Ok(findings.text)
+    findings.into_text(sample.len())
 }

@@ -1,14 +1,14 @@
 //! The places of ids in long lists.
 
 ghost use Rattle.std.specs.Prelude.{◌≡◌, ◌≤◌, ℕ, List, None, IfOk, OnOk, length};
-ghost use Rattle.vx_audit.specs.Finding.{Finds, place_of, placed};
-ghost use Rattle.vx_audit.specs.Hand.{contest_with, record_with};
+ghost use Rattle.vx_audit.specs.Finding.{FindsBallots, FindsContests, ballot_in, contest_in, place_of, placed};
+ghost use Rattle.vx_audit.specs.Hand.{contest_with};
 ghost use Rattle.vx_audit.specs.Sized.{IsSized};
 
 use indexmap::IndexMap;
 use std::alloc::Global;
 use vx_base::OutOfMemory;
-use vx_tally::{CvrRecord, Report, ReportContest};
+use vx_tally::{Report, ReportContest};
 
 /// The place at which each id stands first.
 #[derive(Drop)]
@@ -47,18 +47,6 @@ impl Index {
     }
 }
 
-/// The places of records by their ids.
-fn index_records(alloc: Global, records: &[CvrRecord]) -> Result<Index, OutOfMemory>
-    requires { length records.now ≤ 1000000 }
-    ensures { IfOk result (λ index. (id : List ℕ) → place_of index id ≡ record_with records.now id) }
-{
-    let mut index = Index::new(alloc);
-    for (place, one) in records.iter().enumerate() {
-        index.put(alloc, one.unique.as_str(), place as u32)?;
-    }
-    Ok(index)
-}
-
 /// The places of contests by their ids.
 fn index_contests(alloc: Global, contests: &[ReportContest]) -> Result<Index, OutOfMemory>
     requires { length contests.now ≤ 1000000 }
@@ -71,20 +59,48 @@ fn index_contests(alloc: Global, contests: &[ReportContest]) -> Result<Index, Ou
     Ok(index)
 }
 
-/// The places of the records and of the contests of a report by their ids.
+/// The places of ballots by the ids of their records, and of contests by theirs.
 #[derive(Drop)]
-pub(crate) struct Directory {
+pub struct Directory {
     pub(crate) ballots: Index,
     pub(crate) contests: Index,
 }
 
+impl Directory {
+    /// Those contests, and no ballot yet.
+    pub fn new(alloc: Global, contests: &[ReportContest]) -> Result<Directory, OutOfMemory>
+        requires { length contests.now ≤ 1000000 }
+        ensures ballots { IfOk result (λ directory. (id : List ℕ) → ballot_in directory id ≡ None) }
+        ensures contests { IfOk result (FindsContests contests.now) }
+    {
+        Ok(Directory {
+            ballots: Index::new(alloc),
+            contests: index_contests(alloc, contests)?,
+        })
+    }
+
+    /// Adds the place of a ballot by its record's id. The first place of an id stands.
+    pub fn put_ballot(&mut self, alloc: Global, id: &str, place: u32) -> Result<(), OutOfMemory>
+        ensures ballots { OnOk result ((other : List ℕ) → ballot_in self.new other ≡ placed id.now place other (ballot_in self.old other)) }
+        ensures contests { (id : List ℕ) → contest_in self.new id ≡ contest_in self.old id }
+    {
+        self.ballots.put(alloc, id, place)
+    }
+}
+
+/// Lets a directory go. That this is safe is proved here; a crate that calls it needn't prove it again.
+pub fn drop_directory(_directory: Directory) {}
+
 /// The directory of a report.
 pub(crate) fn directory_of(alloc: Global, report: &Report) -> Result<Directory, OutOfMemory>
     requires { IsSized report.now }
-    ensures { IfOk result (Finds report.now) }
+    ensures ballots { IfOk result (FindsBallots report.now.records) }
+    ensures contests { IfOk result (FindsContests report.now.contests) }
 {
-    Ok(Directory {
-        ballots: index_records(alloc, report.records.as_slice())?,
-        contests: index_contests(alloc, report.contests.as_slice())?,
-    })
+    let records = report.records.as_slice();
+    let mut directory = Directory::new(alloc, report.contests.as_slice())?;
+    for (place, one) in records.iter().enumerate() {
+        directory.put_ballot(alloc, one.unique.as_str(), place as u32)?;
+    }
+    Ok(directory)
 }

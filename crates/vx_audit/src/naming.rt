@@ -2,9 +2,9 @@
 
 ghost use Rattle.std.specs.Prelude.{◌≡◌, ◌<◌, ◌≤◌, [], ◌==◌, Some, None, IfOk, IfSome, All, MatchOption, bytes_eq, length};
 ghost use Rattle.std.specs.List.{list_any, position_from};
-ghost use Rattle.vx_audit.specs.Finding.{Finds};
-ghost use Rattle.vx_audit.specs.Hand.{contest_with, first_read, hand_in_line, hand_in_words, marks_behind as marks_behind_in, marks_in, next_mark as next_mark_in, record_with, said_in_words};
-ghost use Rattle.vx_audit.specs.Sized.{IsSized};
+ghost use Rattle.vx_audit.specs.Finding.{FindsContests, ballot_in};
+ghost use Rattle.vx_audit.specs.Hand.{contest_with, first_read, hand_in_line, hand_in_words, marks_behind as marks_behind_in, marks_in, next_mark as next_mark_in, said_in_words};
+ghost use Rattle.vx_audit.specs.Sized.{HasFew};
 
 use crate::finding::Directory;
 use crate::hand::HandLine;
@@ -13,7 +13,7 @@ use crate::words::Words;
 use std::alloc::Global;
 use vx_base::OutOfMemory;
 use vx_json::Text;
-use vx_tally::Report;
+use vx_tally::ReportContest;
 
 /// Whether a place is among those.
 pub(crate) fn is_among(place: u32, places: &[u32]) -> bool
@@ -87,11 +87,10 @@ fn marks(
     Ok(found)
 }
 
-/// The record whose id stands in front.
-fn next_ballot(report: &Report, directory: &Directory, words: &mut Words<'_>) -> Option<u32>
-    requires { Finds report.now directory.now }
-    ensures { MatchOption result (first_read (record_with report.now.records) words.old ≡ None)
-        (λ place. first_read (record_with report.now.records) words.old ≡ Some (place, words.new)) }
+/// The ballot whose id stands in front.
+fn next_ballot(directory: &Directory, words: &mut Words<'_>) -> Option<u32>
+    ensures { MatchOption result (first_read (ballot_in directory.now) words.old ≡ None)
+        (λ place. first_read (ballot_in directory.now) words.old ≡ Some (place, words.new)) }
 {
     match words.next() {
         None => None,
@@ -100,11 +99,15 @@ fn next_ballot(report: &Report, directory: &Directory, words: &mut Words<'_>) ->
 }
 
 /// The contest whose id stands in front.
-fn next_contest(report: &Report, directory: &Directory, words: &mut Words<'_>) -> Option<u32>
-    requires { Finds report.now directory.now }
-    ensures value { MatchOption result (first_read (contest_with report.now.contests) words.old ≡ None)
-        (λ place. first_read (contest_with report.now.contests) words.old ≡ Some (place, words.new)) }
-    ensures within { IfSome result (λ place. place < length report.now.contests) }
+fn next_contest(
+    contests: &[ReportContest],
+    directory: &Directory,
+    words: &mut Words<'_>,
+) -> Option<u32>
+    requires { FindsContests contests.now directory.now }
+    ensures value { MatchOption result (first_read (contest_with contests.now) words.old ≡ None)
+        (λ place. first_read (contest_with contests.now) words.old ≡ Some (place, words.new)) }
+    ensures within { IfSome result (λ place. place < length contests.now) }
 {
     match words.next() {
         None => None,
@@ -115,21 +118,21 @@ fn next_contest(report: &Report, directory: &Directory, words: &mut Words<'_>) -
 /// What the words behind `hand` say.
 fn said(
     alloc: Global,
-    report: &Report,
+    contests: &[ReportContest],
     directory: &Directory,
     words: &mut Words<'_>,
 ) -> Result<Option<HandLine>, OutOfMemory>
-    requires sized { IsSized report.now }
-    requires finds { Finds report.now directory.now }
-    ensures { IfOk result (λ found. found ≡ said_in_words report.now words.old) }
+    requires sized { All HasFew contests.now }
+    requires finds { FindsContests contests.now directory.now }
+    ensures { IfOk result (λ found. found ≡ said_in_words contests.now (ballot_in directory.now) words.old) }
 {
-    let Some(ballot) = next_ballot(report, directory, words) else {
+    let Some(ballot) = next_ballot(directory, words) else {
         return Ok(None);
     };
-    let Some(contest) = next_contest(report, directory, words) else {
+    let Some(contest) = next_contest(contests, directory, words) else {
         return Ok(None);
     };
-    let own = &report.contests.as_slice()[contest as usize];
+    let own = &contests[contest as usize];
     match marks(alloc, own.selections.as_slice(), words)? {
         None => Ok(None),
         Some(marks) => Ok(Some(HandLine {
@@ -143,13 +146,13 @@ fn said(
 /// What the words of a line say.
 fn said_by_hand(
     alloc: Global,
-    report: &Report,
+    contests: &[ReportContest],
     directory: &Directory,
     words: &mut Words<'_>,
 ) -> Result<Option<HandLine>, OutOfMemory>
-    requires sized { IsSized report.now }
-    requires finds { Finds report.now directory.now }
-    ensures { IfOk result (λ found. found ≡ hand_in_words report.now words.old) }
+    requires sized { All HasFew contests.now }
+    requires finds { FindsContests contests.now directory.now }
+    ensures { IfOk result (λ found. found ≡ hand_in_words contests.now (ballot_in directory.now) words.old) }
 {
     let Some(word) = words.next() else {
         return Ok(None);
@@ -157,7 +160,7 @@ fn said_by_hand(
     if word != "hand" {
         return Ok(None);
     }
-    let found = said(alloc, report, directory, words)?;
+    let found = said(alloc, contests, directory, words)?;
     Ok(found)
 }
 
@@ -165,17 +168,17 @@ fn said_by_hand(
 #[tactic(auto, unfolding(crate::specs::Hand::hand_in_line))]
 pub(crate) fn line_said(
     alloc: Global,
-    report: &Report,
+    contests: &[ReportContest],
     directory: &Directory,
     line: &[u8],
 ) -> Result<Option<HandLine>, OutOfMemory>
-    requires sized { IsSized report.now }
-    requires finds { Finds report.now directory.now }
-    ensures { IfOk result (λ found. found ≡ hand_in_line report.now line.now) }
+    requires sized { All HasFew contests.now }
+    requires finds { FindsContests contests.now directory.now }
+    ensures { IfOk result (λ found. found ≡ hand_in_line contests.now (ballot_in directory.now) line.now) }
 {
     let Ok(text) = str::from_utf8(line) else {
         return Ok(None);
     };
-    let found = said_by_hand(alloc, report, directory, &mut Words::of(text))?;
+    let found = said_by_hand(alloc, contests, directory, &mut Words::of(text))?;
     Ok(found)
 }

@@ -8,4 +8,4 @@ use Rattle.vx_audit.proofs.comparing.Findings.take_records.Given as goal
 abbrev pub invariant-loop-at : goal.invariant-loop-at
 invariant-loop-at l =
     Finds (flat_map (λ at. record_lines l.report.contests l.hand at (slice_get l.report.records at)) (take l.at-index l.sample))
-    (all_pairs l.report l.hand (take l.at-index l.sample)) l.initial.self l.self
+    (all_pairs l.report.contests l.report.records l.hand (take l.at-index l.sample)) l.initial.self l.self
