@@ -1,5 +1,5 @@
 -- What holds of what hands have read.
-use Rattle.std.specs.Prelude.{◌≡◌, ℕ, ◌+◌, List, take, slice_get, Option, Some}
+use Rattle.std.specs.Prelude.{◌≡◌, ℕ, ◌+◌, List, map, take, slice_get, Option, Some}
 use Rattle.vx_tally.specs.declared.report.CvrRecord.{CvrRecord}
 use Rattle.vx_tally.specs.declared.report.ReportContest.{ReportContest}
 use Rattle.vx_audit.specs.Finding.{placed}
@@ -14,5 +14,6 @@ HandsAreReadAlike =
 -- a ballot is found among records as far as one by putting the id of that one behind those before it
 abbrev pub BallotsAreFoundInOrder : Type 0
 BallotsAreFoundInOrder =
-    (records : List CvrRecord) (place : ℕ) (one : CvrRecord) (id : List ℕ) → slice_get records place ≡ Some one
-    → record_with (take (place + 1) records) id ≡ placed one.unique place id (record_with (take place records) id)
+    (records : List CvrRecord) (place : ℕ) (unique id : List ℕ)
+    → slice_get (map (λ (one : CvrRecord). one.unique) records) place ≡ Some unique
+    → record_with (take (place + 1) records) id ≡ placed unique place id (record_with (take place records) id)
