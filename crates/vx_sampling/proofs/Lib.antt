@@ -1,5 +1,4 @@
 pub mod Counted
-pub mod Handed
 pub mod Extremes
 pub mod Few
 pub mod Kept

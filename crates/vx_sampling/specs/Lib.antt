@@ -7,6 +7,8 @@ pub mod Findings
 pub mod Sampled
 pub mod Rows
 pub mod Text
+pub mod Drawn
 pub mod SampleOutcome
 pub mod RiskOutcome
+pub mod Asked
 pub mod Laws

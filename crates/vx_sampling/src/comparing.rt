@@ -1,70 +1,80 @@
-ghost use Rattle.std.specs.Prelude.{◌≡◌, Bool, false, IfOk, Ok, length, string_bytes};
-ghost use Rattle.vx_base.specs.Refusals.{Gives};
-ghost use Rattle.vx_audit.specs.Audit as lines;
-ghost use Rattle.vx_audit.specs.Sample.{sample_of};
-ghost use Rattle.vx_audit.specs.Sized.{IsSized};
-ghost use Rattle.vx_command.specs.Acts.{writing};
-ghost use Rattle.vx_command.specs.Devices.{TouchesNothing, TouchesSink, writes_nothing};
-ghost use Rattle.vx_command.specs.Done.{IsWritten};
-ghost use Rattle.vx_command.specs.Steps.{is_no_memory};
-ghost use Rattle.vx_sampling.specs.SampleOutcome.{sample_text};
+//! The comparison of drawn records with what hands read: each record is made, compared, and let go.
+
+ghost use Rattle.std.specs.Prelude.{◌≡◌, ◌<◌, ◌≤◌, All, IfOk, OnOk, length, slice_get, string_bytes};
+ghost use Rattle.std.specs.List.{flat_map};
+ghost use Rattle.vx_audit.specs.Audit.{all_pairs, pairs_at, record_lines};
+ghost use Rattle.vx_audit.specs.Found.{Finds};
+ghost use Rattle.vx_sampling.specs.SampleOutcome as spec;
 
 use std::alloc::Global;
-use vx_audit::{Hand, audit_text, draw_sample};
-use vx_base::{Bytes, OutOfMemory};
-use vx_command::{Halt, acts_in_order, write_text};
-use vx_io::Sink;
-use vx_tally::Report;
+use vx_audit::{Findings, Hand, draw_sample};
+use vx_base::OutOfMemory;
+use vx_results::JournalRecords;
+use vx_tally::ReportContest;
 
-/// The comparison of the records that the words of a generator draw.
-fn compared(
+/// Compares the record at a place.
+fn compare_record(
     alloc: Global,
-    report: &Report,
+    contests: &[ReportContest],
+    records: &JournalRecords<'_, '_>,
+    hand: &Hand,
+    at: u32,
+    findings: &mut Findings,
+) -> Result<(), OutOfMemory>
+    requires few { length contests.now ≤ 1000000 }
+    requires within { at < length records.now }
+    ensures { OnOk result (Finds (record_lines contests.now hand.now at (slice_get records.now at))
+        (pairs_at contests.now hand.now at (slice_get records.now at)) findings.old findings.new) }
+{
+    let one = records.record(alloc, at as usize)?;
+    findings.take_record(alloc, contests, hand, at, &one)?;
+    Ok(())
+}
+
+/// Compares the records at those places, one after another.
+fn compare_records(
+    alloc: Global,
+    contests: &[ReportContest],
+    records: &JournalRecords<'_, '_>,
+    hand: &Hand,
+    sample: &[u32],
+    findings: &mut Findings,
+) -> Result<(), OutOfMemory>
+    requires few { length contests.now ≤ 1000000 }
+    requires within { All (λ at. at < length records.now) sample.now }
+    ensures { OnOk result (Finds
+        (flat_map (λ at. record_lines contests.now hand.now at (slice_get records.now at)) sample.now)
+        (all_pairs contests.now records.now hand.now sample.now) findings.old findings.new) }
+{
+    for at in sample {
+        compare_record(alloc, contests, records, hand, *at, findings)?;
+    }
+    Ok(())
+}
+
+/// The comparison of the records of a report that the words of a generator draw.
+#[tactic(auto, unfolding(vx_audit::specs::Audit::compared_text))]
+pub(crate) fn sample_text(
+    alloc: Global,
+    contests: &[ReportContest],
+    records: &JournalRecords<'_, '_>,
     hand: &Hand,
     seed: [u8; 32],
     size: u32,
 ) -> Result<String, OutOfMemory>
-    requires { IsSized report.now }
+    requires { length contests.now ≤ 1000000 }
     ensures { IfOk result (λ text. string_bytes text
-        ≡ lines.audit_text report.now hand.now (sample_of seed size (length report.now.records))) }
+        ≡ spec.sample_text seed size contests.now records.now hand.now) }
 {
-    let sample = draw_sample(alloc, seed, size, report.records.len())?;
-    let text = audit_text(alloc, report, hand, sample.as_slice())?;
-    Ok(text)
-}
-
-/// The same as bytes.
-fn text_of(
-    alloc: Global,
-    report: &Report,
-    hand: &Hand,
-    seed: [u8; 32],
-    size: u32,
-) -> Result<Bytes, Halt>
-    requires { IsSized report.now }
-    ensures exact { Gives is_no_memory result (Ok (sample_text seed size report.now hand.now)) }
-    ensures devices { TouchesNothing result }
-{
-    let text = compared(alloc, report, hand, seed, size)?;
-    Ok(Bytes::from_vec(text.into_bytes()))
-}
-
-/// Writes the comparison.
-pub(crate) fn write_sample<S: Sink>(
-    alloc: Global,
-    report: &Report,
-    hand: &Hand,
-    seed: [u8; 32],
-    size: u32,
-    out: &mut S,
-) -> Result<(), Halt>
-    requires { IsSized report.now }
-    ensures done { IsWritten (writing (sample_text seed size report.now hand.now))
-        (S.taken out.old) (S.taken out.new) result }
-    ensures sink { TouchesSink S.Sink out.old out.new result }
-    ensures late { (first : Bool) → writes_nothing first result ≡ false }
-{
-    acts_in_order();
-    let text = text_of(alloc, report, hand, seed, size)?;
-    write_text(out, text.as_slice())
+    let sample = draw_sample(alloc, seed, size, records.len())?;
+    let mut findings = Findings::new(alloc);
+    compare_records(
+        alloc,
+        contests,
+        records,
+        hand,
+        sample.as_slice(),
+        &mut findings,
+    )?;
+    findings.into_text(sample.len())
 }

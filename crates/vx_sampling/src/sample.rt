@@ -1,121 +1,16 @@
 ghost use Rattle.std.specs.Prelude.{◌≡◌, [], ◌∷◌, true, false, is_ok};
 ghost use Rattle.std.specs.Option.{ForSome};
-ghost use Rattle.vx_election_model.specs.Valid.{IsValid};
-ghost use Rattle.vx_audit.specs.Sized.{IsSized};
 ghost use Rattle.vx_command.specs.Asking.{Asks};
-ghost use Rattle.vx_command.specs.Devices.{LeavesDevices, TouchesInputsAndSink, writes_nothing};
-ghost use Rattle.vx_command.specs.Done.{IsDone, IsWritten};
-ghost use Rattle.vx_journal.specs.Steps.{once_read};
-ghost use Rattle.vx_results.specs.Report.{report_of_events};
+ghost use Rattle.vx_command.specs.Devices.{LeavesDevices, writes_nothing};
+ghost use Rattle.vx_command.specs.Done.{IsDone};
 ghost use Rattle.vx_words.specs.Samples.{IsSeed, seed_bytes};
-ghost use Rattle.vx_sampling.specs.SampleOutcome.{hand_outcome, journal_outcome, sample_outcome};
+ghost use Rattle.vx_sampling.specs.SampleOutcome.{sample_outcome};
 
-use crate::comparing::write_sample;
-use crate::reading::take_hand;
+use crate::asking::{Told, asked_by};
+use crate::walking::answer;
 use std::alloc::Global;
-use vx_audit::{Hand, drop_hand};
-use vx_center::Center;
-use vx_command::{Halt, acts_in_order, asks_in_order, steps_in_order, take_election};
-use vx_election_model::{Election, drop_election};
+use vx_command::Halt;
 use vx_io::{Inputs, Keeper, Sink};
-use vx_journal::{drop_journal, journals_in_order, read_journal};
-use vx_results::journal_report;
-use vx_tally::{Report, drop_report};
-use vx_words::sample_seed;
-
-/// Takes what hands read of a report under its name, which is word 4, and writes the comparison.
-fn sample_report<I: Inputs, S: Sink>(
-    alloc: Global,
-    report: &Report,
-    seed: [u8; 32],
-    size: u32,
-    hand: &str,
-    inputs: &mut I,
-    out: &mut S,
-) -> Result<(), Halt>
-    requires { IsSized report.now }
-    ensures done { ForSome (I.held inputs.old) (λ files.
-        IsWritten (hand_outcome seed size report.now (files hand.now)) (S.taken out.old) (S.taken out.new) result) }
-    ensures late { writes_nothing false result ≡ false }
-    ensures devices { TouchesInputsAndSink I.Inputs S.Sink inputs.old inputs.new out.old out.new result }
-    ensures asked { Asks I.Inputs (hand.now ∷ []) inputs.old inputs.new (is_ok result) }
-{
-    asks_in_order::<I>();
-    steps_in_order::<Hand>();
-    let lines = take_hand(alloc, report, hand, inputs)?;
-    let done = write_sample(alloc, report, &lines, seed, size, out);
-    drop_hand(lines);
-    done
-}
-
-/// Makes the report of a journal's events, takes what hands read of it, and writes the comparison.
-fn sample_events<I: Inputs, S: Sink>(
-    alloc: Global,
-    election: &Election,
-    center: &Center<'_>,
-    seed: [u8; 32],
-    size: u32,
-    hand: &str,
-    inputs: &mut I,
-    out: &mut S,
-) -> Result<(), Halt>
-    requires valid { IsValid election.now }
-    requires same { center.now.election ≡ election.now }
-    ensures done { ForSome (I.held inputs.old) (λ files.
-        IsWritten (hand_outcome seed size (report_of_events election.now center.now.events) (files hand.now))
-        (S.taken out.old) (S.taken out.new) result) }
-    ensures late { writes_nothing false result ≡ false }
-    ensures devices { TouchesInputsAndSink I.Inputs S.Sink inputs.old inputs.new out.old out.new result }
-    ensures asked { Asks I.Inputs (hand.now ∷ []) inputs.old inputs.new (is_ok result) }
-{
-    asks_in_order::<I>();
-    acts_in_order();
-    let report = journal_report(alloc, election, center)?;
-    let done = sample_report(alloc, &report, seed, size, hand, inputs, out);
-    drop_report(report);
-    done
-}
-
-/// Reads the journal and does the rest.
-fn sample_journal<I: Inputs, S: Sink, K: Keeper>(
-    alloc: Global,
-    election: &Election,
-    seed: [u8; 32],
-    size: u32,
-    hand: &str,
-    inputs: &mut I,
-    out: &mut S,
-    keeper: &mut K,
-) -> Result<(), Halt>
-    requires { IsValid election.now }
-    ensures done { ForSome (I.held inputs.old) (λ files. ForSome (K.held keeper.old) (λ records.
-        IsDone (once_read election.now records (journal_outcome seed size election.now (files hand.now)))
-        (S.taken out.old) (S.taken out.new) (K.held keeper.old) (K.held keeper.new) result)) }
-    ensures nothing_written { writes_nothing false result ≡ true → S.taken out.new ≡ S.taken out.old }
-    ensures held { K.held keeper.new ≡ K.held keeper.old }
-    ensures devices { LeavesDevices I.Inputs S.Sink K.Keeper inputs.old inputs.new out.old out.new
-        keeper.old keeper.new result }
-    ensures asked { Asks I.Inputs (hand.now ∷ []) inputs.old inputs.new (is_ok result) }
-{
-    asks_in_order::<I>();
-    journals_in_order();
-    let journal = read_journal(alloc, election, keeper)?;
-    let center = &journal.center;
-    let done = sample_events(alloc, election, center, seed, size, hand, inputs, out);
-    drop_journal(journal);
-    done
-}
-
-/// The bytes of a seed's word, 64 hexadecimal digits in lower case.
-pub(crate) fn seed_of(seed: &str) -> [u8; 32]
-    requires { IsSeed seed.now (seed_bytes seed.now) }
-    ensures { result ≡ seed_bytes seed.now }
-{
-    match sample_seed(seed) {
-        Some(bytes) => bytes,
-        None => unreachable!(),
-    }
-}
 
 /// Does the command `sample`: takes the election under its name, which is word 1, reads its journal, takes what
 /// hands read of its sheets under its name, which is word 4, and writes for each record that the first `size`
@@ -141,11 +36,6 @@ pub fn sample<I: Inputs, S: Sink, K: Keeper>(
         keeper.old keeper.new result }
     ensures asked { Asks I.Inputs (election.now ∷ hand.now ∷ []) inputs.old inputs.new (is_ok result) }
 {
-    asks_in_order::<I>();
-    steps_in_order::<Election>();
-    let bytes = seed_of(seed);
-    let given = take_election(alloc, inputs, election)?;
-    let done = sample_journal(alloc, &given, bytes, size, hand, inputs, out, keeper);
-    drop_election(given);
-    done
+    let asked = asked_by(seed, size, Told::Comparison);
+    answer(alloc, asked, election, hand, inputs, out, keeper)
 }
