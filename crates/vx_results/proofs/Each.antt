@@ -1,8 +1,9 @@
 -- What holds of each element of a list.
-use Rattle.std.proofs.Common.{ap, ◌≡◌, ℕ, suc, Bool, true, List, [], ◌∷◌, ◌++◌, length, map, fold, refl, arith}
+use Rattle.std.proofs.Common.{ap, subst, ◌≡◌, ℕ, suc, Bool, true, List, [], ◌∷◌, ◌++◌, length, map, fold, refl, arith}
 use Rattle.std.specs.Prelude.{Some, slice_get}
 use Rattle.std.specs.List.{AllByRecursion, All, flat_map, list_all}
 use Rattle.std.proofs.lemmas.List.Elements.{All-cons, All-nil}
+use Rattle.std.proofs.lemmas.Option.{get_or_from_slice_get, slice_get_within}
 use Rattle.vx_base.proofs.Booleans.{and-left, and-right}
 
 module _ {X : Type 0} where
@@ -18,6 +19,11 @@ module _ {X : Type 0} where
   pub all-each : (P : X → Type 0) (xs : List X) → AllByRecursion P xs → All P xs
   all-each P [] each = All-nil P
   all-each P (x ∷ xs) each = All-cons P x xs each.0 (all-each P xs each.1)
+
+  -- what holds of the element at a place
+  pub each-there : (P : X → Type 0) (xs : List X) (place : ℕ) (x : X) → AllByRecursion P xs → slice_get xs place ≡ Some x → P x
+  each-there P xs place x each there =
+      subst P (get_or_from_slice_get xs place x x there) (all-each P xs each place x (slice_get_within xs place x there))
 
   pub each-test : (p : X → Bool) (xs : List X) → list_all p xs ≡ true → AllByRecursion (λ (x : X). p x ≡ true) xs
   each-test p [] all = tt

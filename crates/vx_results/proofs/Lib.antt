@@ -14,5 +14,6 @@ pub mod Seen
 pub mod Walked
 pub mod Told
 pub mod Recorded
+pub mod Ordered
 pub mod AddsUp
 mod Written

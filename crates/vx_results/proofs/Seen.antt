@@ -55,6 +55,12 @@ pub records_few : (election : Election) (kept : List Event) (sheets : List Added
 records_few election kept sheets kind unit =
     omega (arith, length-mapped (sheet_record election kept) (filter (is_at election kind unit) sheets), chosen-few (is_at election kind unit) sheets)
 
+pub row_contests : (election : Election) (row : ExportSheet) → IsRow election row → HasItsContests election row
+row_contests election row is =
+    all-each (IsOfElection election) row.finals
+    (each-weaker (IsFinalAt election) (IsOfElection election) row.finals
+    (λ final at. slice_get_within election.contests final.contest (contest_at election final) at.there) is.finals)
+
 module _ (election : Election) (kept : List Event) (valid : IsValid election) (history : IsHistory election kept) (place : ℕ) where
   abbrev added : Added
   added = sheet_at kept place
@@ -69,10 +75,7 @@ module _ (election : Election) (kept : List Event) (valid : IsValid election) (h
   is-row less = added-row election kept valid history added (is-added less)
 
   pub its_contests : place < length (sheets_in kept) → HasItsContests election row
-  its_contests less =
-      all-each (IsOfElection election) row.finals
-      (each-weaker (IsFinalAt election) (IsOfElection election) row.finals
-      (λ final at. slice_get_within election.contests final.contest (contest_at election final) at.there) (is-row less).finals)
+  its_contests less = row_contests election row (is-row less)
 
   pub is_countable : place < length (sheets_in kept) → IsCountable (record_of election row)
   is_countable less = record-countable election valid row (is-row less)

@@ -17,7 +17,7 @@ use Rattle.vx_cvr.specs.Votes.{candidate_of, is_overvoted, is_repeated, votes_of
 use Rattle.vx_tally.specs.declared.report.RecordContest.{RecordContest}
 use Rattle.vx_tally.specs.declared.report.VoteRow.{VoteRow}
 use Rattle.vx_tally.specs.Totals.{IsCountable, IsSmall, size_of}
-use Rattle.vx_audit.specs.Sized.{HasFew, IsSized}
+use Rattle.vx_audit.specs.Sized.{HasFew}
 use Rattle.vx_results.specs.Fitting.{IsFinalAt, IsRow}
 use Rattle.vx_results.specs.Laws.{RowsFit}
 use Rattle.vx_results.specs.Report.{HasFewOptions, contest_at, contest_of, counted_in, record_of, report_of_events, vote_of}
@@ -121,20 +121,3 @@ module _ (election : Election) (valid : IsValid election) where
           sum-few (λ (counted : RecordContest). 1 + length counted.votes) (map (counted_in election) row.finals)
           (each-map (λ (counted : RecordContest). 1 + length counted.votes ≤ 1000) (counted_in election) row.finals
           (each-weaker (IsFinalAt election) (λ (final : Final). 1 + length (counted_in election final).votes ≤ 1000) row.finals final-size is.finals))
-
-  pub sized : (kept : List Event) → RowsFit → IsHistory election kept → IsSized (report_of_events election kept)
-  sized kept law history =
-      let rows : List ExportSheet = rows_of election kept in
-      let are = law election kept valid history in
-      record {
-        units = omega (arith, length-mapped (λ (named : Named). precinct_name named.id) election.precincts, valid.precincts.few);
-        contests = omega (arith, length-mapped contest_of election.contests, valid.contests.few);
-        selections = contests-few;
-        records = record {
-          few = omega (arith, length-mapped (record_of election) rows, are.few);
-          each =
-              all-each IsCountable (map (record_of election) rows)
-              (each-map IsCountable (record_of election) rows
-              (each-weaker (IsRow election) (λ (row : ExportSheet). IsCountable (record_of election row)) rows record-countable are.each));
-        };
-      }

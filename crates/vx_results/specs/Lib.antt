@@ -1,4 +1,5 @@
 pub mod Report
+pub mod JournalRecords
 pub mod Fitting
 pub mod Laws
 pub mod Waiting

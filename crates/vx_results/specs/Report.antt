@@ -84,3 +84,7 @@ report_of_rows election rows = record {
 -- what the report of kept events says
 abbrev pub report_of_events : Election → List Event → Report
 report_of_events election kept = report_of_rows election (rows_of election kept)
+
+-- the ids of records
+abbrev pub ids_of : List CvrRecord → List (List ℕ)
+ids_of records = map (λ (one : CvrRecord). one.unique) records

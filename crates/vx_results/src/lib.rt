@@ -1,10 +1,10 @@
 //! The results of a count: what its report says, as a value, and the totals of it.
 //!
 //! What the report of kept events says is `report_of_events` in `specs/Report.antt`, a record for each sheet
-//! that was added; `journal_report` makes that value of the machine's rows, and no text of a report comes
-//! between. `results_text` gives the totals of it by `vx_audit`, and then how many contests wait:
-//! `specs/Results.antt`. It keeps no record: it walks over the sheets, each once, and keeps what their records
-//! sum up to, `specs/Telling.antt`. What the rows of a history have is a law of `specs/Fitting.antt`.
+//! that was added; `JournalRecords` makes these records one at a time, and no text of a report comes between.
+//! `results_text` gives the totals of it by `vx_audit`, and then how many contests wait: `specs/Results.antt`. It
+//! keeps no record: it walks over the sheets, each once, and keeps what their records sum up to,
+//! `specs/Telling.antt`. What the rows of a history have is a law of `specs/Fitting.antt`.
 //!
 //! `results` does the command of that name: what it does is `results_outcome` in `specs/Outcome.antt`, and that
 //! what it writes are the results of exactly the kept events is the law of `specs/Written.antt`. `summary` writes
@@ -36,7 +36,7 @@ mod writing;
 
 pub use kept_results::{results_are_of_what_was_kept, summary_is_of_what_was_kept};
 pub use laws::rows_fit;
-pub use report::journal_report;
+pub use report::{JournalRecords, drop_journal_records, report_contests};
 pub use summary_laws::{empty_summary, summary_adds_up};
 pub use telling::results_text;
 pub use writing::{results, summary};

@@ -1,4 +1,4 @@
-//! The records of a report: one for each row, with the votes of its exported contests.
+//! The record of a row, with the votes of its exported contests.
 
 ghost use Rattle.std.specs.Prelude.{◌≡◌, All, IfOk, map};
 ghost use Rattle.vx_election_model.specs.Valid.{IsValid};
@@ -14,7 +14,7 @@ use vx_cvr::{card_at, overvotes, sheet_name, undervotes, voted_for, votes_of};
 use vx_election_model::{Contest, Election};
 use vx_json::Text;
 use vx_styles::{Card, each_card_has_its_precinct};
-use vx_tally::{CvrRecord, CvrRecords, RecordContest, RecordContests, VoteRow, VoteRows};
+use vx_tally::{CvrRecord, RecordContest, RecordContests, VoteRow, VoteRows};
 
 /// The votes of a selected option.
 fn vote_of(contest: &Contest, counted: &Final, option: u32) -> VoteRow
@@ -85,7 +85,7 @@ fn contests_on(
 }
 
 /// The id of a sheet's record.
-fn unique(alloc: Global, key: &Key) -> Result<Text, OutOfMemory>
+pub(crate) fn unique(alloc: Global, key: &Key) -> Result<Text, OutOfMemory>
     ensures { IfOk result (λ name. name ≡ names.sheet_name key.now) }
 {
     let name = sheet_name(alloc, key)?;
@@ -120,23 +120,4 @@ pub(crate) fn record_of(
         unit: unit_of(election, cards, row.card),
         contests: contests_on(alloc, election, row.finals.as_slice())?,
     })
-}
-
-/// The records of rows, in order.
-pub(crate) fn records_of(
-    alloc: Global,
-    election: &Election,
-    cards: &[Card],
-    rows: &[ExportSheet],
-) -> Result<CvrRecords, OutOfMemory>
-    requires valid { IsValid election.now }
-    requires cards { cards.now ≡ cards_of election.now }
-    requires contests { All (HasItsContests election.now) rows.now }
-    ensures { IfOk result (λ made. made ≡ map (spec.record_of election.now) rows.now) }
-{
-    let mut made = Vec::with_capacity(alloc, rows.len())?;
-    for row in rows {
-        made.push(record_of(alloc, election, cards, row)?)?;
-    }
-    Ok(CvrRecords::from_vec(made))
 }
