@@ -11,15 +11,13 @@ use Rattle.vx_rules.specs.declared.marks.SheetMarks.{SheetMarks}
 use Rattle.vx_rules.specs.Reasons.{is_blank_sheet}
 use Rattle.vx_events.specs.declared.decision.Decision.{Decision}
 use Rattle.vx_events.specs.declared.event.Event.{Event}
-use Rattle.vx_events.specs.declared.event.Event.TheVariants.{Add}
-use Rattle.vx_events.specs.declared.key.Key.{Key}
 use Rattle.vx_events.specs.Ascending.{ascends_from}
-use Rattle.vx_events.specs.Fits.{contests_of, is_key, is_sheet}
+use Rattle.vx_events.specs.Fits.{contests_of, is_sheet}
 use Rattle.vx_center.specs.declared.decided.Decided.{Decided}
 use Rattle.vx_center.specs.declared.rows.Final.{Final}
 use Rattle.vx_center.specs.Decisions.{decided_of, decisions_on}
 use Rattle.vx_center.specs.Exports.{final_in, final_if_exported}
-use Rattle.vx_center.specs.Histories.{IsHistory}
+use Rattle.vx_center.specs.Sheets.{Added}
 use Rattle.vx_center.specs.Waiting.{exports_by}
 use Rattle.vx_ranked.specs.Rankings.{are_ascending, final_on, finals_of}
 use Rattle.vx_ranked.proofs.Marked.{sheet-ascends}
@@ -89,9 +87,7 @@ module _ (election : Election) (blank : Bool) (decided : List Decided) where
       (at_most-from_yes least marks.contest (and-left (nat_le least marks.contest) (ascends_from (marks.contest + 1) (contests_of list)) ascends))
       (all_ascend list (marks.contest + 1) (and-right (nat_le least marks.contest) (ascends_from (marks.contest + 1) (contests_of list)) ascends))
 
-pub finals-ascend : (election : Election) (kept : List Event) (i : ℕ) (key : Key) (sheet : SheetMarks) → IsHistory election kept
-    → slice_get kept i ≡ Some (Add key sheet) → are_ascending (finals_of election kept (record { at = i; key = key; sheet = sheet })) ≡ true
-finals-ascend election kept i key sheet history there =
-    let fits = history.fits i (Add key sheet) there in
-    all_ascend election (is_blank_sheet sheet) (decided_of kept key) sheet.contests 0
-    (sheet-ascends election sheet (and-right (is_key key) (is_sheet election sheet) fits))
+pub finals-ascend : (election : Election) (kept : List Event) (added : Added) → is_sheet election added.sheet ≡ true
+    → are_ascending (finals_of election kept added) ≡ true
+finals-ascend election kept added fits =
+    all_ascend election (is_blank_sheet added.sheet) (decided_of kept added.key) added.sheet.contests 0 (sheet-ascends election added.sheet fits)

@@ -3,9 +3,9 @@ pub mod Bytes
 pub mod Few
 pub mod Gathered
 pub mod Grouped
-pub mod Looked
 pub mod Marked
 pub mod Ranked
+pub mod Turned
 pub mod Whole
 pub mod Acts
 pub mod Stops

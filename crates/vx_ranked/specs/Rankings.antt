@@ -85,6 +85,13 @@ rankings_of election kept contests = flat_map (rankings_on election kept contest
 abbrev pub waiting_of : Election → List Event → List ℕ → ℕ
 waiting_of election kept contests = count_by (waits_on election kept contests) (sheets_in kept)
 
+-- what some of the sheets that were added rank in a group
+abbrev pub ranked_by : Election → List Event → List Added → Group → SheetRankings
+ranked_by election kept sheets group = record {
+  rankings = flat_map (rankings_on election kept group.contests) sheets;
+  waiting = count_by (waits_on election kept group.contests) sheets;
+}
+
 -- no sheets
 abbrev pub none_ranked : SheetRankings
 none_ranked = record { rankings = []; waiting = 0 }

@@ -19,6 +19,7 @@
 
 mod alike;
 mod fault;
+mod gathering;
 mod groups;
 mod laws;
 mod lines;

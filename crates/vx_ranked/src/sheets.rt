@@ -1,16 +1,17 @@
-//! The rankings of the sheets of a count.
+//! The rankings of the sheets of a count in a group.
 
-ghost use Rattle.std.specs.Prelude.{◌≡◌, ◌+◌, ◌<◌, ◌≤◌, ◌^◌, ◌++◌, All, Contains, MatchOption, IfOk, OnOk, Some, true, false, if◌then◌else◌, flat_map, count_by, length, slice_get};
-ghost use Rattle.vx_center.specs.Exports.{AreExportRows};
-ghost use Rattle.vx_center.specs.Sheets.{added_by, same_key};
+ghost use Rattle.std.specs.Prelude.{◌≡◌, ◌+◌, ◌<◌, ◌^◌, ◌++◌, OnOk, true, false, if◌then◌else◌, length, take};
+ghost use Rattle.vx_center.specs.Exports.{row_at};
+ghost use Rattle.vx_center.specs.Places.{sheet_at};
+ghost use Rattle.vx_center.specs.Sheets.{sheets_in};
 ghost use Rattle.vx_ranked.specs.Rankings as words;
-ghost use Rattle.vx_ranked.specs.Rankings.{rankings_by, rankings_on, waits_on, finals_of};
+ghost use Rattle.vx_ranked.specs.Rankings.{ranked_by, rankings_by};
 
+use crate::groups::Group;
 use crate::ranking::{ranking_by, waits};
 use std::alloc::Global;
-use std::cmp::Ordering;
 use vx_base::OutOfMemory;
-use vx_center::{Center, Event, ExportSheet, Final, Key, sheets_have_own_keys};
+use vx_center::{Center, ExportSheet, Final, added_sheets_fit};
 use vx_rounds::Rankings;
 use vx_rules::SheetMarks;
 
@@ -23,96 +24,9 @@ pub struct SheetRankings {
     pub waiting: u64,
 }
 
-fn has_key(row: &ExportSheet, key: &Key) -> bool
-    ensures { result ≡ same_key row.now.key key.now }
-{
-    row.key.batch.as_str() == key.batch.as_str() && row.key.number == key.number
-}
-
-/// The order of keys: the batch's bytes, then the number.
-fn key_order(one: &Key, other: &Key) -> Ordering {
-    let (batch, other_batch) = (
-        one.batch.as_str().as_bytes(),
-        other.batch.as_str().as_bytes(),
-    );
-    batch.cmp(&other_batch).then(one.number.cmp(&other.number))
-}
-
-/// Where the row of a key stands among rows in the order of their keys. It is no promise.
-fn place_in_order(rows: &[ExportSheet], key: &Key) -> usize {
-    match rows.binary_search_by(|row| key_order(&row.key, key)) {
-        Ok(place) => place,
-        Err(place) => place,
-    }
-}
-
-/// The same, first looked for at a place.
-fn place_from(rows: &[ExportSheet], key: &Key, first: usize) -> usize {
-    match rows.get(first) {
-        Some(row) if has_key(row, key) => first,
-        _ => place_in_order(rows, key),
-    }
-}
-
-/// Where the row of the sheet that an event adds stands. Sheets are mostly added in the order of their keys, so it
-/// is first looked for behind the row of the sheet before. It is no promise.
-fn likely_place(rows: &[ExportSheet], event: &Event, before: usize) -> usize {
-    match event {
-        Event::Add { key, .. } => place_from(rows, key, before.saturating_add(1)),
-        Event::Claim { .. } | Event::Release { .. } | Event::Decide { .. } => before,
-    }
-}
-
-/// The first row of a key, by a look at each.
-fn first_row<'r>(rows: &'r [ExportSheet], key: &Key) -> Option<&'r ExportSheet>
-    ensures { MatchOption result
-        (All (λ (row : _). same_key row.key key.now ≡ false) rows.now)
-        (λ row. Contains rows.now row.now × (same_key row.now.key key.now ≡ true)) }
-{
-    for row in rows {
-        if has_key(row, key) {
-            return Some(row);
-        }
-    }
-    None
-}
-
-/// The row of a key, which is likely at that place. The place has it wherever the rows are in the order of their
-/// keys.
-fn row_of<'r>(rows: &'r [ExportSheet], key: &Key, likely: usize) -> Option<&'r ExportSheet>
-    ensures { MatchOption result
-        (All (λ (row : _). same_key row.key key.now ≡ false) rows.now)
-        (λ row. Contains rows.now row.now × (same_key row.now.key key.now ≡ true)) }
-{
-    match rows.get(likely) {
-        Some(row) if has_key(row, key) => Some(row),
-        _ => first_row(rows, key),
-    }
-}
-
-/// The exported contests of the sheet that the event at a place adds. Its row is likely at that place of the rows.
-fn finals_of<'r>(
-    center: &Center<'_>,
-    rows: &'r [ExportSheet],
-    likely: usize,
-    _index: usize,
-    key: &Key,
-    _sheet: &SheetMarks,
-) -> &'r [Final]
-    requires rows { AreExportRows center.now.election center.now.events rows.now }
-    requires there { slice_get center.now.events _index ≡ Some (Event.Add key.now _sheet.now) }
-    ensures exact { result.now ≡ finals_of center.now.election center.now.events
-        (record { at = _index; key = key.now; sheet = _sheet.now }) }
-    ensures ascending { words.are_ascending result.now ≡ true }
-{
-    sheets_have_own_keys();
-    let _kept = center.events();
-    row_of(rows, key, likely).unwrap().finals.as_slice()
-}
-
 impl SheetRankings {
     /// No sheets yet; takes no memory.
-    fn new(alloc: Global) -> SheetRankings
+    pub(crate) fn new(alloc: Global) -> SheetRankings
         ensures { result ≡ words.none_ranked }
     {
         SheetRankings {
@@ -146,56 +60,30 @@ impl SheetRankings {
         Ok(())
     }
 
-    /// Takes the sheet that the event at a place adds, if it does. Its row is likely at that place of the rows.
-    fn take_event(
+    /// Takes the sheet at a place in the order of adding, of which the row is exported, behind the sheets before it.
+    pub(crate) fn take_place(
         &mut self,
         alloc: Global,
+        group: &Group,
         center: &Center<'_>,
-        rows: &[ExportSheet],
-        likely: usize,
-        contests: &[u32],
-        index: usize,
-        event: &Event,
+        _place: usize,
+        sheet: &SheetMarks,
+        row: &ExportSheet,
     ) -> Result<(), OutOfMemory>
-        requires rows { AreExportRows center.now.election center.now.events rows.now }
-        requires there { slice_get center.now.events index ≡ Some event.now }
-        requires room { self.old.waiting ≤ index }
-        requires few { index + 1 < 2 ^ 64 }
-        ensures rankings { OnOk result (self.new.rankings ≡ self.old.rankings
-            ++ flat_map (rankings_on center.now.election center.now.events contests.now)
-            (added_by index event.now)) }
-        ensures waiting { OnOk result (self.new.waiting ≡ self.old.waiting
-            + count_by (waits_on center.now.election center.now.events contests.now)
-            (added_by index event.now)) }
-        ensures room { OnOk result (self.new.waiting ≤ index + 1) }
+        requires there { _place < length (sheets_in center.now.events) }
+        requires sheet { sheet.now ≡ (sheet_at center.now.events _place).sheet }
+        requires row { row.now ≡ row_at center.now.election center.now.events _place }
+        requires so_far { self.old
+            ≡ ranked_by center.now.election center.now.events (take _place (sheets_in center.now.events)) group.now }
+        ensures { OnOk result (self.new
+            ≡ ranked_by center.now.election center.now.events (take (_place + 1) (sheets_in center.now.events))
+            group.now) }
     {
-        match event {
-            Event::Add { key, sheet } => {
-                let finals = finals_of(center, rows, likely, index, key, sheet);
-                self.take_sheet(alloc, contests, sheet, finals)
-            }
-            Event::Claim { .. } | Event::Release { .. } | Event::Decide { .. } => Ok(()),
-        }
+        added_sheets_fit();
+        let (_kept, _count) = (center.events(), center.sheet_count());
+        let contests = group.contests.as_slice();
+        let finals = row.finals.as_slice();
+        self.take_sheet(alloc, contests, sheet, finals)?;
+        Ok(())
     }
-}
-
-/// What the sheets of a count rank in a group, by the events that were kept. A sheet of the group waits, and
-/// has no ranking, where one of the group's contests on it isn't exported.
-pub(crate) fn rank_group(
-    alloc: Global,
-    center: &Center<'_>,
-    rows: &[ExportSheet],
-    contests: &[u32],
-) -> Result<SheetRankings, OutOfMemory>
-    requires { AreExportRows center.now.election center.now.events rows.now }
-    ensures { IfOk result (λ ranked. ranked
-        ≡ words.contests_ranked center.now.election center.now.events contests.now) }
-{
-    let mut ranked = SheetRankings::new(alloc);
-    let mut likely = 0;
-    for (index, event) in center.events().as_slice().iter().enumerate() {
-        likely = likely_place(rows, event, likely);
-        ranked.take_event(alloc, center, rows, likely, contests, index, event)?;
-    }
-    Ok(ranked)
 }

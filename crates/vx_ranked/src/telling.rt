@@ -1,21 +1,23 @@
 //! The text of the counts of groups.
 
-ghost use Rattle.std.specs.Prelude.{◌≡◌, ◌++◌, ◌<◌, ◌^◌, All, IfOk, OnOk, length, string_bytes};
-ghost use Rattle.vx_center.specs.Exports.{AreExportRows};
+ghost use Rattle.std.specs.Prelude.{◌≡◌, ◌++◌, ◌<◌, ◌^◌, All, IfOk, OnOk, Some, length, map, slice_get, slice_set, string_bytes};
 ghost use Rattle.vx_election_model.specs.Valid.{IsValid};
 ghost use Rattle.vx_ranked.specs.Groups.{IsGroup};
+ghost use Rattle.vx_ranked.specs.Rankings.{group_ranked, none_ranked};
 ghost use Rattle.vx_ranked.specs.Texts.{choices_of, group_text, ranked_text, told_of};
 ghost use Rattle.vx_rounds.specs.Rankings.{AreShort};
 ghost use Rattle.vx_rounds.specs.Rounds.{rounds_of};
 
+use crate::gathering::rank_groups;
 use crate::groups::Group;
 use crate::lines::{push_counted, push_group};
-use crate::sheets::{SheetRankings, rank_group};
+use crate::sheets::SheetRankings;
 use std::alloc::Global;
 use std::marker::Brand;
+use std::mem::replace;
 use std::sync::ledger::{Blank, Ledger};
 use vx_base::OutOfMemory;
-use vx_center::{Center, ExportSheet, drop_rows};
+use vx_center::Center;
 use vx_election_model::{Choice, Contest, Election};
 use vx_rounds::{Ballots, Rankings, Rounds, Steps, count_rounds};
 
@@ -70,51 +72,60 @@ fn push_told(
     Ok(())
 }
 
-/// Adds the text of a group.
+/// Adds the text of a group, of which the sheets rank this.
 fn push_ranked(
     alloc: Global,
     text: &mut String,
     election: &Election,
     center: &Center<'_>,
-    rows: &[ExportSheet],
     group: &Group,
+    ranked: SheetRankings,
 ) -> Result<(), OutOfMemory>
     requires valid { IsValid election.now }
     requires same { center.now.election ≡ election.now }
-    requires rows { AreExportRows center.now.election center.now.events rows.now }
     requires group { IsGroup election.now group.now }
+    requires ranked { ranked ≡ group_ranked center.now.election center.now.events group.now }
     ensures { OnOk result (string_bytes text.new
         ≡ string_bytes text.old ++ told_of election.now center.now.events group.now) }
 {
     let contests = group.contests.as_slice();
     let choices = first_contest(election, contests).choices.as_slice();
     let _kept = center.events();
-    let ranked = rank_group(alloc, center, rows, contests)?;
     push_told(alloc, text, group.id.as_str(), choices, ranked)?;
     Ok(())
 }
 
-/// What is written of groups by the rows of the kept events.
+/// Takes out what the sheets rank in the group at a place.
+fn take_out(alloc: Global, ranked: &mut Vec<SheetRankings>, index: usize) -> SheetRankings
+    requires { index < length ranked.old.items }
+    ensures taken { slice_get ranked.old.items index ≡ Some result }
+    ensures left { ranked.new.items ≡ slice_set ranked.old.items index none_ranked }
+{
+    replace(&mut ranked[index], SheetRankings::new(alloc))
+}
+
+/// Adds the text of each group, and takes out what the sheets rank in it.
 #[tactic(auto, unfolding(crate::specs::Texts::ranked_text))]
-fn text_by(
+fn push_groups(
     alloc: Global,
+    text: &mut String,
     election: &Election,
     center: &Center<'_>,
-    rows: &[ExportSheet],
     groups: &[Group],
-) -> Result<String, OutOfMemory>
+    ranked: &mut Vec<SheetRankings>,
+) -> Result<(), OutOfMemory>
     requires valid { IsValid election.now }
     requires same { center.now.election ≡ election.now }
-    requires rows { AreExportRows center.now.election center.now.events rows.now }
     requires groups { All (IsGroup election.now) groups.now }
-    ensures { IfOk result (λ text. string_bytes text
-        ≡ ranked_text election.now center.now.events groups.now) }
+    requires ranked { ranked.old.items ≡ map (group_ranked center.now.election center.now.events) groups.now }
+    ensures { OnOk result (string_bytes text.new
+        ≡ string_bytes text.old ++ ranked_text election.now center.now.events groups.now) }
 {
-    let mut text = String::new(alloc);
-    for group in groups {
-        push_ranked(alloc, &mut text, election, center, rows, group)?;
+    for (index, group) in groups.iter().enumerate() {
+        let counted = take_out(alloc, ranked, index);
+        push_ranked(alloc, text, election, center, group, counted)?;
     }
-    Ok(text)
+    Ok(())
 }
 
 /// What is written of groups by the kept events: for each how many sheets have a ranking and how many
@@ -131,8 +142,8 @@ pub fn ranked_text(
     ensures { IfOk result (λ text. string_bytes text
         ≡ ranked_text election.now center.now.events groups.now) }
 {
-    let rows = center.export_rows(alloc)?;
-    let text = text_by(alloc, election, center, rows.as_slice(), groups);
-    drop_rows(rows);
-    text
+    let mut ranked = rank_groups(alloc, center, groups)?;
+    let mut text = String::new(alloc);
+    push_groups(alloc, &mut text, election, center, groups, &mut ranked)?;
+    Ok(text)
 }
