@@ -1,13 +1,11 @@
 -- What `board` does: it takes its election, reads its journal, and writes the page for those who hold the paper.
 use Rattle.std.specs.Prelude.{ℕ, List}
 use Rattle.vx_io.specs.Outside.{Files}
-use Rattle.vx_command.specs.Acts.{Outcome, writing}
-use Rattle.vx_command.specs.Elections.{once_election}
-use Rattle.vx_journal.specs.Steps.{once_read}
+use Rattle.vx_command.specs.Acts.{Outcome}
+use Rattle.vx_account.specs.Outcome.{account_outcome}
 use Rattle.vx_board.specs.Data.{board_text}
 
 -- `board` for the election under a name, by a seed's word and a size, over the records of its journal
 abbrev pub board_outcome : List ℕ → List ℕ → ℕ → Files → List (List ℕ) → Outcome
 board_outcome election seed size files records =
-    once_election (files election)
-    (λ given. once_read given records (λ journal. writing (board_text given journal.center.events seed size)))
+    account_outcome (λ given kept. board_text given kept seed size) election files records

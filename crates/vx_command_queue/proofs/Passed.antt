@@ -1,5 +1,5 @@
 -- What waits next while a walk passes the contests of the sheets.
-use Rattle.std.proofs.Common.{◌≡◌, ◌<◌, ◌≤◌, ◌+◌, ◌⊎◌, inl, inr, ℕ, Bool, true, false, not, List, [], length, Option, Some, None, refl, sym, ap, subst, ◌∙◌, arith, rules}
+use Rattle.std.proofs.Common.{◌≡◌, ◌<◌, ◌≤◌, ◌+◌, ◌⊎◌, inl, inr, ℕ, Bool, true, false, not, List, [], length, Option, Some, None, refl, sym, ap, subst, ◌∙◌, arith}
 use Rattle.std.specs.Prelude.{slice_get}
 use Rattle.std.proofs.lemmas.Option.{slice_get_past}
 use Rattle.std.proofs.lemmas.Bool.{cases_lt}
@@ -8,13 +8,12 @@ use Rattle.vx_rules.specs.declared.marks.ContestMarks.{ContestMarks}
 use Rattle.vx_rules.specs.declared.marks.SheetMarks.{SheetMarks}
 use Rattle.vx_events.specs.declared.event.Event.{Event}
 use Rattle.vx_events.specs.declared.key.Key.{Key}
-use Rattle.vx_center.specs.Sheets.{Added, sheets_in}
 use Rattle.vx_center.specs.Decisions.{decided_of}
 use Rattle.vx_center.specs.Waiting.{waits_at, waits_by, waits_on}
 use Rattle.vx_rules.specs.Reasons.{is_blank_sheet}
 use Rattle.vx_center.specs.Waiting.{exports_by}
 use Rattle.vx_command_queue.specs.Queue.{wait_lines}
-use Rattle.vx_command_queue.specs.Walk.{IsFrom, NoneWaits, IsFirst, IsNextFrom, IsSheetAt}
+use Rattle.vx_command_queue.specs.Walk.{IsFrom, IsFirst, IsNextFrom, IsSheetAt}
 
 -- whether a contest of the sheet waits
 pub sheet_waits : (election : Election) (kept : List Event) (place : ℕ) (key : Key) (sheet : SheetMarks) (at : ℕ) → IsSheetAt kept place key sheet → waits_at election kept place at ≡ waits_by election sheet (decided_of kept key) (slice_get sheet.contests at)

@@ -7,7 +7,7 @@ use Rattle.vx_board.proofs.boarding.page_of.Goals as goal
 pub returns : goal.returns
 unfolding page_text
 returns c =
-    let lines : List ℕ = data_text c.args.election.now (map ballot_of c.args.rows.now) c.args.seed.now c.args.size in
+    let lines : List ℕ = data_text c.args.election.now (map ballot_of c.args.rows.now) c.args.word.now c.args.size in
     c.in_ok-push_tail.ensures
     ∙ ap (λ (text : List ℕ). text ++ tail)
     (c.in_ok-push_data.ensures

@@ -1,7 +1,6 @@
-use Rattle.std.proofs.Common.{◌≡◌, ◌<◌, ◌+◌, ◌++◌, ◌∙◌, ℕ, Bool, false, List, string_bytes, refl, sym, ap, subst, arith, rules}
+use Rattle.std.proofs.Common.{◌≡◌, ◌++◌, ◌∙◌, ℕ, List, string_bytes, sym, ap, arith}
 use Rattle.vx_command_queue.specs.Queue.{with_commas, further}
-use Rattle.vx_rules.specs.Reasons.{reason_word}
-use Rattle.vx_command_queue.proofs.Reasoned.{Told, none_told, one_told, one_passed, words_of}
+use Rattle.vx_command_queue.proofs.Reasoned.{none_told, one_told, one_passed, words_of}
 use Rattle.vx_command_queue.proofs.lines.push_reasons.Goals as goal
 use Rattle.vx_command_queue.proofs.lines.push_reasons.Goals.{then-has+in_ok-push_word, else-has}
 

@@ -1,6 +1,5 @@
-use Rattle.std.proofs.Common.{◌≡◌, false, Some, string_bytes, rules}
+use Rattle.std.proofs.Common.{◌≡◌, false, Some, string_bytes}
 use Rattle.vx_center.specs.Waiting.{waits_at}
-use Rattle.vx_command_queue.specs.Queue.{wait_lines}
 use Rattle.vx_command_queue.proofs.Passed.{not_next, no_line}
 use Rattle.vx_command_queue.proofs.Lined.{no_lines, lines_are}
 use Rattle.vx_command_queue.proofs.walk.Queue.take_contest.Goals as goal

@@ -1,4 +1,0 @@
-use Rattle.vx_results.proofs.writing.results.Goals as goal
-
-pub returns-clause-done : goal.returns-clause-done
-returns-clause-done g c files told records kept = c.give_account.ensures.done files told records kept
