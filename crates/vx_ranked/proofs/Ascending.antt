@@ -7,7 +7,6 @@ use Rattle.vx_base.proofs.Numbers.{at_most-from_yes, at_most-yes, equal-no, equa
 use Rattle.vx_election_model.specs.declared.contest.Contest.{Contest}
 use Rattle.vx_election_model.specs.declared.election.Election.{Election}
 use Rattle.vx_rules.specs.declared.marks.ContestMarks.{ContestMarks}
-use Rattle.vx_rules.specs.declared.marks.SheetMarks.{SheetMarks}
 use Rattle.vx_rules.specs.Reasons.{is_blank_sheet}
 use Rattle.vx_events.specs.declared.decision.Decision.{Decision}
 use Rattle.vx_events.specs.declared.event.Event.{Event}

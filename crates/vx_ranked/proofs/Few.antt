@@ -1,26 +1,23 @@
 -- The rankings of a count's sheets are few and short.
-use Rattle.std.proofs.Common.{◌≡◌, ◌+◌, ◌*◌, ◌-◌, ◌^◌, ◌<◌, ◌≤◌, ◌&&◌, ◌||◌, ℕ, zero, suc, Bool, true, false, cond, not, List, [], ◌∷◌, ◌++◌, length, map, take, get_or, Option, Some, None, inl, inr, refl, sym, ap, subst, ◌∙◌, arith, length-append, length-take-le}
-use Rattle.std.specs.Prelude.{All, IsPermutation, fold, nat_lt, slice_get}
-use Rattle.std.specs.List.{flat_map, list_any}
-use Rattle.std.proofs.lemmas.Bool.{cases_lt}
+use Rattle.std.proofs.Common.{◌≡◌, ◌+◌, ◌-◌, ◌^◌, ◌<◌, ◌≤◌, ◌||◌, ℕ, Bool, true, false, cond, List, [], ◌∷◌, ◌++◌, length, map, take, get_or, Option, Some, None, refl, ap, arith, length-append, length-take-le}
+use Rattle.std.specs.Prelude.{All, fold, nat_lt}
 use Rattle.std.proofs.lemmas.List.{length-map}
 use Rattle.std.proofs.lemmas.List.Elements.{All-cons, All-nil}
 use Rattle.std.proofs.lemmas.Option.{slice_get-get_or}
 use Rattle.vx_base.proofs.Lists.{All-always, All-flat_map, length-flat_map_le}
 use Rattle.vx_base.proofs.Numbers.{below-from_no, below-from_yes}
 use Rattle.vx_election_model.specs.declared.election.Election.{Election}
-use Rattle.vx_rules.specs.declared.marks.SheetMarks.{SheetMarks}
 use Rattle.vx_events.specs.declared.event.Event.{Event}
 use Rattle.vx_events.specs.declared.event.Event.TheVariants.{Add, Claim, Release, Decide}
 use Rattle.vx_refusals.specs.declared.reply.Reply.{Reply}
 use Rattle.vx_refusals.specs.declared.reply.Reply.TheVariants.{Done, Full}
 use Rattle.vx_center.specs.declared.rows.Final.{Final}
 use Rattle.vx_center.specs.Histories.{IsHistory}
-use Rattle.vx_center.specs.Replies.{event_limit, reply_of, reply_with_room}
+use Rattle.vx_center.specs.Replies.{event_limit, reply_with_room}
 use Rattle.vx_center.specs.Sheets.{Added, added_from, sheets_in}
 use Rattle.vx_rounds.specs.Rankings.{AreShort}
 use Rattle.vx_ranked.specs.Members.{is_among}
-use Rattle.vx_ranked.specs.Rankings.{ends_list, final_on, finals_of, is_ranked, joined, named_by, ranking_of, rankings_by, rankings_of, rankings_on}
+use Rattle.vx_ranked.specs.Rankings.{ends_list, final_on, finals_of, is_ranked, joined, named_by, ranking_of, rankings_of, rankings_on}
 use Rattle.vx_ranked.proofs.Ranked.{listed, list-ends, list-goes}
 
 -- one candidate makes a list one longer at most

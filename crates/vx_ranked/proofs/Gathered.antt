@@ -58,7 +58,8 @@ module _ (election : Election) (kept : List Event) (place : ℕ) (contests : Lis
         ∙ ap₂ (λ (n : ℕ) (b : Bool). n + cond b 1 0) (ap (λ (one : SheetRankings). one.waiting) so_far)
         (ap (λ (some : List ℕ). is_waiting some sheet finals) of
         ∙ ap₂ (λ (one : SheetMarks) (some : List Final). is_waiting group.contests one some) read exported)
-        ∙ sym (sum_by_more (λ (one : Added). cond (waits_on election kept group.contests one) 1 0) (sheets_in kept) place no_sheet there)
+        ∙ sym (sum_by_more (λ (one : Added). cond (waits_on election kept group.contests one) 1 0) (sheets_in kept) place no_sheet
+        there)
 
     pub sheet-more : (new : SheetRankings) → new.rankings ≡ old.rankings ++ rankings_by contests sheet finals
         → new.waiting ≡ old.waiting + cond (is_waiting contests sheet finals) 1 0

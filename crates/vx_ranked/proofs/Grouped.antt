@@ -1,5 +1,5 @@
 -- What is read of groups: how many contests each has, and that the first has a candidate.
-use Rattle.std.proofs.Common.{◌≡◌, ◌+◌, ◌<◌, ◌≤◌, ◌&&◌, ◌||◌, ℕ, zero, suc, Bool, true, false, cond, List, [], ◌∷◌, ◌++◌, length, Option, Some, None, Result, Ok, Err, nat_lt, refl, sym, ap, subst, ◌∙◌, arith, length-append}
+use Rattle.std.proofs.Common.{◌≡◌, ◌+◌, ◌<◌, ◌≤◌, ◌&&◌, ◌||◌, ℕ, Bool, true, false, cond, List, [], ◌∷◌, ◌++◌, length, Option, Some, None, Result, Ok, Err, nat_lt, refl, sym, ap, subst, arith, length-append}
 use Rattle.std.specs.Prelude.{All, slice_get, codes, ok_or}
 use Rattle.std.specs.Option.{option_map_or}
 use Rattle.std.proofs.lemmas.List.Elements.{All-nil, All-push}
@@ -11,7 +11,6 @@ use Rattle.vx_json.specs.Paths.{member_path, element_path}
 use Rattle.vx_json.specs.Reading.{need_in, list_in, is_within}
 use Rattle.vx_election_model.specs.declared.contest.Contest.{Contest}
 use Rattle.vx_election_model.specs.declared.election.Election.{Election}
-use Rattle.vx_layout.specs.declared.plan.CardPlan.{CardPlan}
 use Rattle.vx_ranked.specs.declared.fault.RankedFault.{RankedFault}
 use Rattle.vx_ranked.specs.declared.fault.RankedFault.TheVariants.{OutOfRange, RepeatedId, UnknownId, Unlike}
 use Rattle.vx_ranked.specs.declared.groups.Group.{Group}

@@ -1,6 +1,6 @@
 -- Sheets of which nothing was decided are ranked as they were marked.
-use Rattle.std.proofs.Common.{◌≡◌, ◌+◌, ◌<◌, ◌≤◌, ◌==◌, ◌&&◌, ◌||◌, ℕ, zero, suc, Bool, true, false, cond, not, List, [], ◌∷◌, ◌++◌, length, map, Option, Some, None, inl, inr, refl, sym, ap, ap₂, subst, ◌∙◌, arith, nat_le, nat_lt}
-use Rattle.std.specs.Prelude.{All, find, fold, slice_get, is_none}
+use Rattle.std.proofs.Common.{◌≡◌, ◌+◌, ◌<◌, ◌==◌, ◌&&◌, ◌||◌, ℕ, zero, suc, Bool, true, false, cond, not, List, [], ◌∷◌, ◌++◌, length, map, Option, Some, None, refl, sym, ap, subst, ◌∙◌, arith, nat_le, nat_lt}
+use Rattle.std.specs.Prelude.{fold, slice_get, is_none}
 use Rattle.std.specs.List.{flat_map, list_all, list_any}
 use Rattle.vx_base.proofs.Booleans.{and-left, and-right, not-both, or-left, or-right}
 use Rattle.vx_base.proofs.Numbers.{at_most-from_yes, equal-from_yes, equal-no, equal-yes}
@@ -19,8 +19,7 @@ use Rattle.vx_center.specs.declared.rows.Final.{Final}
 use Rattle.vx_center.specs.Decisions.{decided_of, decisions_on, ruling_of}
 use Rattle.vx_center.specs.Exports.{final_in, final_if_exported, final_of}
 use Rattle.vx_center.specs.Finals.{is_overvoted, selected_by}
-use Rattle.vx_center.specs.Histories.{IsHistory}
-use Rattle.vx_center.specs.Sheets.{Added, added_from, sheets_in}
+use Rattle.vx_center.specs.Sheets.{Added, added_from}
 use Rattle.vx_center.specs.Waiting.{exports_by}
 use Rattle.vx_ranked.specs.Marked.{AreUndecided, UndecidedSheetsAreRankedAsMarked, final_as_marked, marked_ranking}
 use Rattle.vx_ranked.specs.Members.{is_among}

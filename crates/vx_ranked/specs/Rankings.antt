@@ -1,5 +1,5 @@
 -- What the sheets of a count rank. A contest is exported where the row of its sheet in the export has it.
-use Rattle.std.specs.Prelude.{ℕ, ◌&&◌, ◌||◌, ◌==◌, Bool, true, false, not, List, [], ◌∷◌, ◌++◌, length, map, filter, find, fold, count_by, nat_lt, is_none, if◌then◌else◌, Option, Some, None}
+use Rattle.std.specs.Prelude.{ℕ, ◌&&◌, ◌||◌, ◌==◌, Bool, false, not, List, [], ◌∷◌, ◌++◌, length, map, find, fold, count_by, nat_lt, is_none, if◌then◌else◌, Option, Some, None}
 use Rattle.std.specs.List.{flat_map, list_any, before_first}
 use Rattle.vx_election_model.specs.declared.election.Election.{Election}
 use Rattle.vx_rules.specs.declared.marks.ContestMarks.{ContestMarks}

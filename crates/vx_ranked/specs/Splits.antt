@@ -1,5 +1,5 @@
 -- Cards that have the contests of a group on more than one sheet.
-use Rattle.std.specs.Prelude.{ℕ, ◌-◌, ◌/◌, ◌&&◌, ◌==◌, Bool, false, not, List, [], ◌∷◌, find, if◌then◌else◌, Option, Some, None, Result, Ok, Err}
+use Rattle.std.specs.Prelude.{ℕ, ◌-◌, ◌/◌, ◌&&◌, ◌==◌, Bool, false, not, List, [], ◌∷◌, find, if◌then◌else◌, Result, Ok, Err}
 use Rattle.std.specs.List.{list_any}
 use Rattle.std.specs.Option.{option_map_or}
 use Rattle.vx_base.specs.Results.{◌>>=◌}

@@ -1,6 +1,7 @@
 //! The text of the counts of groups.
 
-ghost use Rattle.std.specs.Prelude.{◌≡◌, ◌++◌, ◌<◌, ◌^◌, All, IfOk, OnOk, Some, length, map, slice_get, slice_set, string_bytes};
+ghost use Rattle.std.specs.Prelude.{◌≡◌, ◌++◌, ◌<◌, ◌^◌, All, IfOk, OnOk, Some, length, map, string_bytes};
+ghost use Rattle.std.specs.Prelude.{slice_get, slice_set};
 ghost use Rattle.vx_election_model.specs.Valid.{IsValid};
 ghost use Rattle.vx_ranked.specs.Groups.{IsGroup};
 ghost use Rattle.vx_ranked.specs.Rankings.{group_ranked, none_ranked};

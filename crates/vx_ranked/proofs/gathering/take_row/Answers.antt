@@ -19,7 +19,7 @@ loop-index-preserved c =
     slice_get_read groups (length groups) place group refl c.loop-index-test.true c.index-groups-index.is in
     record {
       taken =
-          front-more before groups ranked place c.loop-index.invariant.left now c.loop-index.invariant.taken group c.take_place.new.self there
-          c.in_ok-take_place.ensures;
+          front-more before groups ranked place c.loop-index.invariant.left now c.loop-index.invariant.taken group
+          c.take_place.new.self there c.in_ok-take_place.ensures;
       left = left-behind before groups ranked place c.loop-index.invariant.left group there c.take_place.new.self;
     }

@@ -7,7 +7,8 @@ use Rattle.vx_ranked.proofs.gathering.take_row.Given as goal
 abbrev pub invariant-loop-index : goal.invariant-loop-index
 invariant-loop-index l = record {
   taken : take l.index l.ranked.items
-      ≡ map (ranked_by l.center.election l.center.events (take (l.place + 1) (sheets_in l.center.events))) (take l.index l.groups);
+      ≡ map (ranked_by l.center.election l.center.events (take (l.place + 1) (sheets_in l.center.events)))
+      (take l.index l.groups);
   left : drop l.index l.ranked.items
       ≡ map (ranked_by l.center.election l.center.events (take l.place (sheets_in l.center.events))) (drop l.index l.groups);
 }

@@ -31,9 +31,10 @@ loop-index-preserved c =
     record {
       text =
           next-listed told groups place group (string_bytes c.loop-index.text) (string_bytes c.push_ranked.new.text)
-          (string_bytes c.args.text.now ++ flat_map told groups) c.loop-index-test.true c.index-groups-index.is c.loop-index.invariant.text
-          c.in_ok-push_ranked.ensures;
+          (string_bytes c.args.text.now ++ flat_map told groups) c.loop-index-test.true c.index-groups-index.is
+          c.loop-index.invariant.text c.in_ok-push_ranked.ensures;
       left =
           ap (λ (some : List SheetRankings). drop (place + 1) some) c.take_out-counted.ensures.left
-          ∙ left-behind (group_ranked c.args.center.now.election kept) groups ranked place c.loop-index.invariant.left group there none_ranked;
+          ∙ left-behind (group_ranked c.args.center.now.election kept) groups ranked place c.loop-index.invariant.left group there
+          none_ranked;
     }

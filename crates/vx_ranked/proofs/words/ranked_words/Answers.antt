@@ -1,4 +1,4 @@
-use Rattle.std.proofs.Common.{◌≡◌, ℕ, List, [], ◌∷◌, length, Some, refl, sym, ap, ap₂, ◌∙◌, arith, rules}
+use Rattle.std.proofs.Common.{◌≡◌, ℕ, List, [], ◌∷◌, length, Some, ap, ap₂, ◌∙◌, arith, rules}
 use Rattle.std.specs.Prelude.{codes, slice_get}
 use Rattle.vx_ranked.proofs.words.ranked_words.Goals as goal
 

@@ -41,11 +41,13 @@ take_sheet-requires-clause-ascending c =
 pub take_sheet-requires-clause-whole : goal.take_sheet-requires-clause-whole
 take_sheet-requires-clause-whole c =
     whole-ready c.args.center.now.election c.args.center.now.events c.args._place c.as_slice-contests.result.now c.args.sheet.now
-    c.as_slice-finals.result.now c.requires.sheet (c.as_slice-finals.ensures ∙ ap (λ (row : ExportSheet). row.finals) c.requires.row)
+    c.as_slice-finals.result.now c.requires.sheet
+    (c.as_slice-finals.ensures ∙ ap (λ (row : ExportSheet). row.finals) c.requires.row)
 
 pub returns : goal.returns
 returns c =
     sheet-more c.args.center.now.election c.args.center.now.events c.args._place c.as_slice-contests.result.now c.args.sheet.now
-    c.as_slice-finals.result.now c.requires.sheet (c.as_slice-finals.ensures ∙ ap (λ (row : ExportSheet). row.finals) c.requires.row)
+    c.as_slice-finals.result.now c.requires.sheet
+    (c.as_slice-finals.ensures ∙ ap (λ (row : ExportSheet). row.finals) c.requires.row)
     c.args.group.now c.as_slice-contests.ensures c.requires.there c.args.self.now c.requires.so_far c.take_sheet.new.self
     c.in_ok-take_sheet.ensures.rankings c.in_ok-take_sheet.ensures.waiting
