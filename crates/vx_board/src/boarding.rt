@@ -34,6 +34,7 @@ fn bytes_of(seed: &str) -> [u8; 32]
 }
 
 /// What ballots are drawn by: a seed, as its word and as its bytes, and how many are drawn.
+#[derive(Drop)]
 struct Drawing<'w> {
     word: &'w str,
     seed: [u8; 32],
