@@ -1,4 +1,5 @@
 pub mod Counted
+pub mod Drawn
 pub mod Handed
 pub mod Extremes
 pub mod Few
