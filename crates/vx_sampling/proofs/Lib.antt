@@ -1,4 +1,5 @@
 pub mod Counted
+pub mod Drawn
 pub mod Extremes
 pub mod Few
 pub mod Kept

@@ -1,6 +1,6 @@
 //! What the draws say of a contest.
 
-ghost use Rattle.std.specs.Prelude.{◌≡◌, ◌==◌, ◌<◌, ◌≤◌, ◌||◌, ℕ, All, IfOk, false, length, option_copied, slice_get, slice_index_or};
+ghost use Rattle.std.specs.Prelude.{◌≡◌, ◌==◌, ◌<◌, ◌≤◌, ◌||◌, ℕ, All, IfOk, Some, false, length, map, option_copied, slice_get, slice_index_or};
 ghost use Rattle.std.specs.List.{list_any};
 ghost use Rattle.vx_sampling.specs.Findings as spec;
 ghost use Rattle.vx_sampling.specs.Sampled.{IsSample};
@@ -10,6 +10,7 @@ use crate::sides::Sides;
 use std::alloc::Global;
 use vx_audit::{Hand, HandLine, Places};
 use vx_base::OutOfMemory;
+use vx_results::JournalRecords;
 use vx_tally::CvrRecord;
 
 /// What a draw says of a contest.
@@ -21,13 +22,34 @@ pub(crate) enum Finding {
     Missing,
 }
 
-/// The draws, and of which records there are lines.
+/// The draws, their records, and of which records there are lines.
 #[derive(Drop)]
 pub(crate) struct Sample {
     /// The places of the records that are drawn.
     pub(crate) draws: Places,
-    /// For each record whether there is a line of its ballot.
+    /// The records that are drawn: one for each draw, in the draws' order.
+    pub(crate) drawn: Vec<CvrRecord>,
+    /// For each record of the journal whether there is a line of its ballot.
     pub(crate) found: Vec<bool>,
+}
+
+/// Lets a sample go.
+pub(crate) fn drop_sample(_sample: Sample) {}
+
+/// The records of draws, in their order.
+pub(crate) fn drawn_of(
+    alloc: Global,
+    records: &JournalRecords<'_, '_>,
+    draws: &[u32],
+) -> Result<Vec<CvrRecord>, OutOfMemory>
+    requires { All (λ draw. draw < length records.now) draws.now }
+    ensures { IfOk result (λ drawn. map Some drawn.items ≡ map (slice_get records.now) draws.now) }
+{
+    let mut drawn = Vec::with_capacity(alloc, draws.len())?;
+    for draw in draws {
+        drawn.push(records.record(alloc, *draw as usize)?)?;
+    }
+    Ok(drawn)
 }
 
 /// Puts the ballot of a line, if it is of one of the records.
@@ -118,43 +140,63 @@ fn found_for(
     }
 }
 
-/// What is found of the record at a place.
+/// What is found of a record, which stands at a place.
 fn found_at(
     alloc: Global,
     sides: &Sides,
     hand: &Hand,
-    records: &[CvrRecord],
-    sample: &Sample,
+    found: &[bool],
     ballot: u32,
+    one: &CvrRecord,
 ) -> Result<Finding, OutOfMemory>
-    requires sample { IsSample hand.now (length records.now) sample.now }
-    requires within { ballot < length records.now }
-    ensures exact { IfOk result (λ finding. finding
-        ≡ spec.found_at sides.now hand.now ballot (slice_get records.now ballot)) }
+    requires within { ballot < length found.now }
+    requires found { slice_index_or found.now ballot false ≡ list_any (spec.is_of ballot) hand.now }
+    ensures exact { IfOk result (λ finding. finding ≡ spec.found_at sides.now hand.now ballot (Some one.now)) }
     ensures few { IfOk result (λ finding. spec.votes_of finding ≤ 2) }
 {
-    let one = &records[ballot as usize];
-    let is_found = sample.found[ballot as usize];
+    let is_found = found[ballot as usize];
     let line = hand.line(ballot, sides.contest);
     found_for(alloc, sides, one, is_found, line)
 }
 
-/// What the draws say of a contest, in their order.
+/// What a draw says of a contest, by its place among the draws; they are of these records.
+fn drawn_at(
+    alloc: Global,
+    sides: &Sides,
+    hand: &Hand,
+    _records: &JournalRecords<'_, '_>,
+    sample: &Sample,
+    at: usize,
+) -> Result<Finding, OutOfMemory>
+    requires sample { IsSample hand.now _records.now sample.now }
+    requires within { at < length sample.now.draws }
+    ensures exact { IfOk result (λ finding.
+        slice_get (spec.findings_of sides.now hand.now _records.now sample.now.draws) at ≡ Some finding) }
+    ensures few { IfOk result (λ finding. spec.votes_of finding ≤ 2) }
+{
+    let (draws, drawn) = (sample.draws.as_slice(), sample.drawn.as_slice());
+    let found = sample.found.as_slice();
+    let finding = found_at(alloc, sides, hand, found, draws[at], &drawn[at])?;
+    Ok(finding)
+}
+
+/// What the draws say of a contest, in their order; they are of these records.
+#[tactic(auto, using(crate::proofs::Drawn::one_more, crate::proofs::Drawn::all_found))]
 pub(crate) fn findings_of(
     alloc: Global,
     sides: &Sides,
     hand: &Hand,
-    records: &[CvrRecord],
+    records: &JournalRecords<'_, '_>,
     sample: &Sample,
 ) -> Result<Vec<Finding>, OutOfMemory>
-    requires { IsSample hand.now (length records.now) sample.now }
+    requires { IsSample hand.now records.now sample.now }
     ensures exact { IfOk result (λ findings. findings.items
         ≡ spec.findings_of sides.now hand.now records.now sample.now.draws) }
     ensures few { IfOk result (λ findings. All (λ finding. spec.votes_of finding ≤ 2) findings.items) }
 {
     let mut findings = Vec::new(alloc);
-    for ballot in sample.draws.as_slice() {
-        findings.push(found_at(alloc, sides, hand, records, sample, *ballot)?)?;
+    for at in 0..sample.draws.len() {
+        findings.push(drawn_at(alloc, sides, hand, records, sample, at)?)?;
     }
     Ok(findings)
 }

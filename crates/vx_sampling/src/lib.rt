@@ -1,5 +1,9 @@
 //! The commands `sample` and `risk`: records of a journal that a seed draws, beside what hands read of their ballots.
 //!
+//! Both take an election, read its journal, take what hands read of its sheets, and write a text: `drawn_outcome` in
+//! `specs/Drawn.antt`. Which text is `text_asked` in `specs/Asked.antt`. They make the records of the journal one at a
+//! time, so none is in memory but those that are looked at: beside the journal they take its records' ids.
+//!
 //! `sample` compares each drawn record with what hands read, `sample_outcome` in `specs/SampleOutcome.antt`, which is
 //! `audit` over what the report of the journal's events says. What is drawn, read and compared stands in `vx_audit`.
 //!
@@ -12,21 +16,22 @@
 //! Neither appends anything.
 #![tactic(auto)]
 
+mod asking;
+mod commands;
 mod comparing;
 mod finding;
 mod laws;
 mod reading;
-mod risk;
 mod rows;
 mod said;
-mod sample;
 mod sides;
 mod standing;
 mod telling;
+mod walking;
 mod weighing;
+mod writing;
 
+pub use commands::{risk, sample};
 pub use laws::{
     each_draw_counts, larger_samples_begin_alike, margin_is_the_least_lead, met_is_the_bound,
 };
-pub use risk::risk;
-pub use sample::sample;

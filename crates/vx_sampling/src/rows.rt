@@ -16,8 +16,9 @@ use vx_base::OutOfMemory;
 use vx_cvr::contest_name;
 use vx_election_model::Contest;
 use vx_json::Text;
+use vx_results::JournalRecords;
 use vx_risk::{Draws, bound_of, enough_draws};
-use vx_tally::{CvrRecord, Totals};
+use vx_tally::Totals;
 
 /// The figures of a contest with a margin.
 #[derive(Clone, Copy)]
@@ -135,14 +136,12 @@ fn risk_of(
     alloc: Global,
     sides: &Sides,
     hand: &Hand,
-    records: &[CvrRecord],
+    records: &JournalRecords<'_, '_>,
     sample: &Sample,
     limit: u32,
     margin: u64,
 ) -> Result<Told, OutOfMemory>
-    requires sample { IsSample hand.now (length records.now) sample.now }
-    requires records { length records.now < 2 ^ 32 }
-    requires draws { length sample.now.draws < 2 ^ 32 }
+    requires { IsSample hand.now records.now sample.now }
     ensures { IfOk result (λ told. told ≡ Told.Risk (spec.figures_of (length records.now) limit margin
         (findings_of sides.now hand.now records.now sample.now.draws))) }
 {
@@ -157,14 +156,12 @@ fn told_by(
     alloc: Global,
     sides: &Sides,
     hand: &Hand,
-    records: &[CvrRecord],
+    records: &JournalRecords<'_, '_>,
     sample: &Sample,
     limit: u32,
     standing: Standing,
 ) -> Result<Told, OutOfMemory>
-    requires sample { IsSample hand.now (length records.now) sample.now }
-    requires records { length records.now < 2 ^ 32 }
-    requires draws { length sample.now.draws < 2 ^ 32 }
+    requires { IsSample hand.now records.now sample.now }
     ensures { IfOk result (λ told. told ≡ spec.told_by records.now hand.now sample.now.draws limit sides.now standing) }
 {
     match standing {
@@ -179,7 +176,7 @@ fn told_of(
     alloc: Global,
     totals: &Totals,
     hand: &Hand,
-    records: &[CvrRecord],
+    records: &JournalRecords<'_, '_>,
     sample: &Sample,
     limit: u32,
     place: u32,
@@ -187,9 +184,7 @@ fn told_of(
 ) -> Result<Told, OutOfMemory>
     requires options { options_of contest.now < 2 ^ 32 }
     requires summed { SumsUp records.now totals.now }
-    requires sample { IsSample hand.now (length records.now) sample.now }
-    requires records { length records.now < 2 ^ 32 }
-    requires draws { length sample.now.draws < 2 ^ 32 }
+    requires sample { IsSample hand.now records.now sample.now }
     ensures { IfOk result (λ told. told ≡ spec.told_of records.now hand.now sample.now.draws limit place contest.now) }
 {
     let votes = choice_votes(alloc, totals, place, contest)?;
@@ -206,7 +201,7 @@ fn row_of(
     alloc: Global,
     totals: &Totals,
     hand: &Hand,
-    records: &[CvrRecord],
+    records: &JournalRecords<'_, '_>,
     sample: &Sample,
     limit: u32,
     place: u32,
@@ -214,9 +209,7 @@ fn row_of(
 ) -> Result<Row, OutOfMemory>
     requires options { options_of contest.now < 2 ^ 32 }
     requires summed { SumsUp records.now totals.now }
-    requires sample { IsSample hand.now (length records.now) sample.now }
-    requires records { length records.now < 2 ^ 32 }
-    requires draws { length sample.now.draws < 2 ^ 32 }
+    requires sample { IsSample hand.now records.now sample.now }
     ensures { IfOk result (λ row. row ≡ spec.row_of records.now hand.now sample.now.draws limit place contest.now) }
 {
     let told = told_of(alloc, totals, hand, records, sample, limit, place, contest)?;
@@ -233,7 +226,7 @@ pub(crate) fn rows_of(
     alloc: Global,
     totals: &Totals,
     hand: &Hand,
-    records: &[CvrRecord],
+    records: &JournalRecords<'_, '_>,
     sample: &Sample,
     limit: u32,
     contests: &[Contest],
@@ -241,9 +234,7 @@ pub(crate) fn rows_of(
     requires contests { length contests.now < 2 ^ 32 }
     requires options { All (λ contest. options_of contest < 2 ^ 32) contests.now }
     requires summed { SumsUp records.now totals.now }
-    requires sample { IsSample hand.now (length records.now) sample.now }
-    requires records { length records.now < 2 ^ 32 }
-    requires draws { length sample.now.draws < 2 ^ 32 }
+    requires sample { IsSample hand.now records.now sample.now }
     ensures { IfOk result (λ rows. rows.items
         ≡ spec.rows_of records.now hand.now sample.now.draws limit contests.now) }
 {

@@ -1,131 +1,85 @@
-//! The text of a report, what hands read of it, and the draws of a seed.
+//! The text of what a sample says of the outcomes of contests.
 
-ghost use Rattle.std.specs.Prelude.{◌≡◌, ◌≤◌, ◌<◌, ◌^◌, Bool, false, IfOk, Ok, length, string_bytes};
-ghost use Rattle.vx_base.specs.Refusals.{Gives};
+ghost use Rattle.std.specs.Prelude.{◌≡◌, ◌≤◌, IfOk, length, string_bytes};
 ghost use Rattle.vx_election_model.specs.Valid.{IsValid};
 ghost use Rattle.vx_audit.specs.Sample.{draws_of};
-ghost use Rattle.vx_audit.specs.Sized.{IsSized};
-ghost use Rattle.vx_command.specs.Acts.{writing};
-ghost use Rattle.vx_command.specs.Devices.{TouchesNothing, TouchesSink, writes_nothing};
-ghost use Rattle.vx_command.specs.Done.{IsWritten};
-ghost use Rattle.vx_command.specs.Steps.{is_no_memory};
-ghost use Rattle.vx_sampling.specs.RiskOutcome.{risk_text};
 ghost use Rattle.vx_sampling.specs.Rows as spec;
 ghost use Rattle.vx_sampling.specs.Sampled.{IsSample};
+ghost use Rattle.vx_sampling.specs.Text as lines;
 
-use crate::finding::{Sample, found_in};
+use crate::finding::{Sample, drawn_of, drop_sample, found_in};
 use crate::rows::{Row, rows_of};
 use crate::telling::text_of_rows;
 use std::alloc::Global;
-use vx_audit::{Hand, draw_places, totals_of};
-use vx_base::{Bytes, OutOfMemory};
-use vx_command::{Halt, acts_in_order, write_text};
+use vx_audit::{Hand, draw_places};
+use vx_base::OutOfMemory;
 use vx_election_model::Election;
-use vx_io::Sink;
-use vx_tally::{Report, drop_totals};
+use vx_results::JournalRecords;
+use vx_tally::drop_totals;
 
-/// The draws of a seed from so many records, and of which of these a hand has lines.
+/// The draws of a seed from the records, what is drawn, and of which records a hand has lines.
 fn sample_of(
     alloc: Global,
+    records: &JournalRecords<'_, '_>,
+    hand: &Hand,
     seed: [u8; 32],
     size: u32,
-    hand: &Hand,
-    count: usize,
 ) -> Result<Sample, OutOfMemory>
-    requires { count ≤ 1000000 }
-    ensures draws { IfOk result (λ sample. sample.draws ≡ draws_of seed size count) }
-    ensures few { IfOk result (λ sample. length sample.draws < 2 ^ 32) }
-    ensures sample { IfOk result (IsSample hand.now count) }
+    ensures draws { IfOk result (λ sample. sample.draws ≡ draws_of seed size (length records.now)) }
+    ensures sample { IfOk result (IsSample hand.now records.now) }
 {
+    let count = records.len();
     let draws = draw_places(alloc, seed, size, count)?;
+    let drawn = drawn_of(alloc, records, draws.as_slice())?;
     let found = found_in(alloc, hand.lines(), count)?;
-    Ok(Sample { draws, found })
+    Ok(Sample {
+        draws,
+        drawn,
+        found,
+    })
 }
 
-/// The rows of the contests of an election, by a report of it and a sample of its records.
+/// The rows of the contests of an election, by the records of its journal and a sample of them.
 #[tactic(auto, using(crate::proofs::Few::all_few))]
 fn rows_by(
     alloc: Global,
     election: &Election,
-    report: &Report,
+    records: &JournalRecords<'_, '_>,
     hand: &Hand,
     sample: &Sample,
     limit: u32,
 ) -> Result<Vec<Row>, OutOfMemory>
     requires valid { IsValid election.now }
-    requires sized { IsSized report.now }
-    requires sample { IsSample hand.now (length report.now.records) sample.now }
-    requires draws { length sample.now.draws < 2 ^ 32 }
+    requires sample { IsSample hand.now records.now sample.now }
     ensures { IfOk result (λ rows. rows.items
-        ≡ spec.rows_of report.now.records hand.now sample.now.draws limit election.now.contests) }
+        ≡ spec.rows_of records.now hand.now sample.now.draws limit election.now.contests) }
 {
-    let records = report.records.as_slice();
     let contests = election.contests.as_slice();
-    let totals = totals_of(alloc, records)?;
+    let totals = records.totals(alloc)?;
     let rows = rows_of(alloc, &totals, hand, records, sample, limit, contests);
     drop_totals(totals);
     rows
 }
 
-/// The text of `risk`.
-fn text_by(
+/// What `risk` writes of a journal's records, what hands read of them, and the first `size` draws of a seed; the limit
+/// is in thousandths. Of the records no more than those that are drawn are in memory.
+pub(crate) fn risk_text(
     alloc: Global,
     election: &Election,
-    report: &Report,
+    records: &JournalRecords<'_, '_>,
     hand: &Hand,
     seed: [u8; 32],
     size: u32,
     limit: u32,
 ) -> Result<String, OutOfMemory>
-    requires valid { IsValid election.now }
-    requires sized { IsSized report.now }
-    ensures { IfOk result (λ text. string_bytes text ≡ risk_text seed size limit election.now report.now hand.now) }
+    requires { IsValid election.now }
+    ensures { IfOk result (λ text. string_bytes text ≡ lines.text_of_rows size (length records.now)
+        (spec.rows_of records.now hand.now (draws_of seed size (length records.now)) limit election.now.contests)) }
 {
-    let count = report.records.len();
-    let sample = sample_of(alloc, seed, size, hand, count)?;
-    let rows = rows_by(alloc, election, report, hand, &sample, limit)?;
-    let text = text_of_rows(alloc, size, count, rows.as_slice())?;
+    let sample = sample_of(alloc, records, hand, seed, size)?;
+    let made = rows_by(alloc, election, records, hand, &sample, limit);
+    drop_sample(sample);
+    let rows = made?;
+    let text = text_of_rows(alloc, size, records.len(), rows.as_slice())?;
     Ok(text)
-}
-
-/// The same as bytes.
-fn bytes_by(
-    alloc: Global,
-    election: &Election,
-    report: &Report,
-    hand: &Hand,
-    seed: [u8; 32],
-    size: u32,
-    limit: u32,
-) -> Result<Bytes, Halt>
-    requires valid { IsValid election.now }
-    requires sized { IsSized report.now }
-    ensures exact { Gives is_no_memory result (Ok (risk_text seed size limit election.now report.now hand.now)) }
-    ensures devices { TouchesNothing result }
-{
-    let text = text_by(alloc, election, report, hand, seed, size, limit)?;
-    Ok(Bytes::from_vec(text.into_bytes()))
-}
-
-/// Writes the text.
-pub(crate) fn write_risk<S: Sink>(
-    alloc: Global,
-    election: &Election,
-    report: &Report,
-    hand: &Hand,
-    seed: [u8; 32],
-    size: u32,
-    limit: u32,
-    out: &mut S,
-) -> Result<(), Halt>
-    requires valid { IsValid election.now }
-    requires sized { IsSized report.now }
-    ensures done { IsWritten (writing (risk_text seed size limit election.now report.now hand.now))
-        (S.taken out.old) (S.taken out.new) result }
-    ensures sink { TouchesSink S.Sink out.old out.new result }
-    ensures late { (first : Bool) → writes_nothing first result ≡ false }
-{
-    acts_in_order();
-    let text = bytes_by(alloc, election, report, hand, seed, size, limit)?;
-    write_text(out, text.as_slice())
 }

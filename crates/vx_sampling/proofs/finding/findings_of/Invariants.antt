@@ -1,10 +1,10 @@
-use Rattle.std.proofs.Common.{◌≡◌, ◌≤◌, map, take}
-use Rattle.std.specs.Prelude.{All, slice_get}
-use Rattle.vx_sampling.specs.Findings.{found_at, votes_of}
+use Rattle.std.proofs.Common.{◌≡◌, ◌≤◌, take}
+use Rattle.std.specs.Prelude.{All}
+use Rattle.vx_sampling.specs.Findings.{findings_of, votes_of}
 use Rattle.vx_sampling.proofs.finding.findings_of.Given as goal
 
-abbrev pub invariant-loop-ballot : goal.invariant-loop-ballot
-invariant-loop-ballot l = record {
-  exact : l.findings.items ≡ map (λ ballot. found_at l.sides l.hand ballot (slice_get l.records ballot)) (take l.ballot-index l.ballot-items);
+abbrev pub invariant-loop-at : goal.invariant-loop-at
+invariant-loop-at l = record {
+  exact : l.findings.items ≡ take l.at (findings_of l.sides l.hand l.records l.sample.draws);
   few : All (λ finding. votes_of finding ≤ 2) l.findings.items;
 }

@@ -1,5 +1,5 @@
 use Rattle.std.proofs.Common.{◌∙◌, ℕ, Ok, Vec, Global, sym, ap}
-use Rattle.vx_sampling.proofs.comparing.text_of.Goals as goal
+use Rattle.vx_sampling.proofs.writing.bytes_of.Goals as goal
 
 pub returns-clause-exact : goal.returns-clause-exact
 returns-clause-exact c =
