@@ -36,11 +36,11 @@ use vx_command_export::{export, exports_write_what_was_kept};
 use vx_command_print::{Ballot, print};
 use vx_command_queue::{queue, queues_write_what_waits};
 use vx_command_read::{fitting_scans_are_told, read};
-use vx_sampling::{risk, sample};
 use vx_command_try::try_sheets;
 use vx_io::{Inputs, Keeper, Sink, Words};
 use vx_journal::{fronts_are_journals, journals_stay};
 use vx_results::{results, summary};
+use vx_sampling::{risk, sample};
 use vx_words::{Command, UsageFault, parse, words_spell_one_command};
 use vx_workers::{Gate, OpenGate};
 

@@ -3,6 +3,7 @@
 ghost use Rattle.std.specs.Prelude.{◌≡◌, ◌<◌, ◌≤◌, All, IfOk, OnOk, length, slice_get, string_bytes};
 ghost use Rattle.std.specs.List.{flat_map};
 ghost use Rattle.vx_audit.specs.Audit.{all_pairs, pairs_at, record_lines};
+ghost use Rattle.vx_audit.specs.Audit as lines;
 ghost use Rattle.vx_audit.specs.Found.{Finds};
 ghost use Rattle.vx_sampling.specs.SampleOutcome as spec;
 
@@ -52,8 +53,26 @@ fn compare_records(
     Ok(())
 }
 
-/// The comparison of the records of a report that the words of a generator draw.
+/// The comparison of the records at those places.
 #[tactic(auto, unfolding(vx_audit::specs::Audit::compared_text))]
+fn compared_text(
+    alloc: Global,
+    contests: &[ReportContest],
+    records: &JournalRecords<'_, '_>,
+    hand: &Hand,
+    sample: &[u32],
+) -> Result<String, OutOfMemory>
+    requires few { length contests.now ≤ 1000000 }
+    requires within { All (λ at. at < length records.now) sample.now }
+    ensures { IfOk result (λ text. string_bytes text
+        ≡ lines.compared_text contests.now records.now hand.now sample.now) }
+{
+    let mut findings = Findings::new(alloc);
+    compare_records(alloc, contests, records, hand, sample, &mut findings)?;
+    findings.into_text(sample.len())
+}
+
+/// The comparison of the records that the words of a generator draw.
 pub(crate) fn sample_text(
     alloc: Global,
     contests: &[ReportContest],
@@ -67,14 +86,6 @@ pub(crate) fn sample_text(
         ≡ spec.sample_text seed size contests.now records.now hand.now) }
 {
     let sample = draw_sample(alloc, seed, size, records.len())?;
-    let mut findings = Findings::new(alloc);
-    compare_records(
-        alloc,
-        contests,
-        records,
-        hand,
-        sample.as_slice(),
-        &mut findings,
-    )?;
-    findings.into_text(sample.len())
+    let text = compared_text(alloc, contests, records, hand, sample.as_slice())?;
+    Ok(text)
 }

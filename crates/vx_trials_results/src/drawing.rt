@@ -8,8 +8,8 @@ use std::alloc::{AllocError, Global};
 use vx_audit::run_audit;
 use vx_base::{Bytes, ListOf};
 use vx_board::board;
-use vx_sampling::{risk, sample};
 use vx_io::{MemInputs, NamedBytes, Words};
+use vx_sampling::{risk, sample};
 
 /// The seed of zeros, by its word.
 fn zeros() -> &'static str
