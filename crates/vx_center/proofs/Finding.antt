@@ -14,10 +14,10 @@ use Rattle.vx_rules.specs.declared.marks.SheetMarks.{SheetMarks}
 use Rattle.vx_events.specs.declared.event.Event.{Event}
 use Rattle.vx_events.specs.declared.event.Event.TheVariants.{Add}
 use Rattle.vx_events.specs.declared.key.Key.{Key}
-use Rattle.vx_events.specs.Fits.{is_key, is_sheet}
+use Rattle.vx_events.specs.Fits.{is_batch, is_key, is_sheet}
 use Rattle.vx_center.specs.declared.center.Found.{Found}
 use Rattle.vx_center.specs.declared.name.SheetName.{SheetName}
-use Rattle.vx_center.specs.Sheets.{Added, same_key, has_key, sheets_in, place_in, sheet_in}
+use Rattle.vx_center.specs.Sheets.{Added, IsSheetOf, same_key, has_key, sheets_in, place_in, sheet_in}
 use Rattle.vx_center.specs.Holders.{holder_of}
 use Rattle.vx_center.specs.Decisions.{decided_of}
 use Rattle.vx_center.specs.Histories.{IsHistory}
@@ -43,6 +43,10 @@ comes-from f (x ∷ xs) (suc i) y h =
 -- a key that fits has at most 32 bytes of a batch
 pub short-key : (key : Key) → is_key key ≡ true → length key.batch ≤ 32
 short-key key h = at_most-from_yes (length key.batch) 32 (and-right _ _ (and-left _ _ (and-left _ _ h)))
+
+-- and a number up to 999,999
+low-key : (key : Key) → is_key key ≡ true → key.number ≤ 999999
+low-key key h = at_most-from_yes key.number 999999 (and-right _ _ (and-right (is_batch key.batch) _ h))
 
 -- the event of an added sheet fits
 pub added-fits : (election : Election) (kept : List Event) (i : ℕ) (added : Added) → IsHistory election kept → slice_get (sheets_in kept) i ≡ Some added
@@ -90,16 +94,21 @@ module _ (election : Election) (kept : List Event) (entries : List (SheetName ×
       ∙ position_from-map (same_name (name_of_key key)) (λ (added : Added). name_of_key added.key) 0 (sheets_in kept)
       ∙ position_from-same (λ (added : Added). same_name (name_of_key key) (name_of_key added.key)) (has_key key) 0 (sheets_in kept) (λ i added there. names-keys key added.key)
 
-  -- no sheet has a longer batch
-  pub long-key : (key : Key) → 32 < length key.batch → place_in kept key ≡ None
-  long-key key long = by (look-up kept key)
+  -- what doesn't hold of a key that fits holds of no sheet's
+  unfit-key : (key : Key) → (is_key key ≡ true → ⊥) → place_in kept key ≡ None
+  unfit-key key unfit = by (look-up kept key)
     where
       by : NotAdded kept key ⊎ IsAdded kept key → place_in kept key ≡ None
       by (inl missing) = missing.place
       by (inr one) =
-          let short = short-key one.added.key (added-fits election kept one.index one.added is.history one.there).0 in
-          let same = ap (λ (k : Key). length k.batch) one.keyed in
-          absurd (omega (arith, long, short, same))
+          absurd (unfit (ap is_key one.keyed ∙ (added-fits election kept one.index one.added is.history one.there).0))
+
+  -- no sheet has a longer batch or a greater number
+  pub long-key : (key : Key) → 32 < length key.batch → place_in kept key ≡ None
+  long-key key long = unfit-key key (λ fits. omega (arith, long, short-key key fits))
+
+  pub high-key : (key : Key) → 999999 < key.number → place_in kept key ≡ None
+  high-key key high = unfit-key key (λ fits. omega (arith, high, low-key key fits))
 
   -- a sheet is found at its place
   pub found-at : (place : ℕ) (name : SheetName) (entry : Entry) (key : Key) (sheet : SheetMarks)
@@ -151,7 +160,11 @@ placed kept key is = ap is_some is.place
 
 -- what wasn't added isn't known
 pub unknown : (election : Election) (kept : List Event) (entries : List (SheetName × Entry)) (key : Key) → IsKept election kept entries → place_in kept key ≡ None → IsUnknown kept key
-unknown election kept entries key is none = record { missing = by (look-up kept key); free = (is.quiet key none).free }
+unknown election kept entries key is none = record {
+  missing = by (look-up kept key);
+  free = (is.quiet key none).free;
+  undecided = (is.quiet key none).undecided;
+}
   where
     by : NotAdded kept key ⊎ IsAdded kept key → sheet_in kept key ≡ None
     by (inl missing) = missing.sheet
@@ -171,19 +184,39 @@ place-within election kept entries key place is found = by (look-up kept key)
         let index : one.index ≡ place = same_Some _ _ (sym one.place ∙ found) in
         omega (arith, index, slice_get_within (sheets_in kept) one.index one.added one.there, ap length is.entries ∙ length-map (sheets_in kept) (named_entry kept))
 
--- what is answered of the sheet at the place of a key
-pub found-answers : (election : Election) (kept : List Event) (key : Key) (place : ℕ) → place_in kept key ≡ Some place → (found : Option Found)
-    → MatchOption found (slice_get (sheets_in kept) place ≡ None) (λ one. IsAt election kept place one.key.now one.sheet.now one.entry.now)
-    → MatchOption found (IsUnknown kept key) (λ one. IsFound election kept key one.sheet.now one.entry.now)
-found-answers election kept key place at None h = by (look-up kept key)
+-- at the place of a key there is a sheet
+pub place_there : (kept : List Event) (key : Key) (place : ℕ) → place_in kept key ≡ Some place → slice_get (sheets_in kept) place ≡ None → ⊥
+place_there kept key place at none = by (look-up kept key)
   where
-    by : NotAdded kept key ⊎ IsAdded kept key → IsUnknown kept key
-    by (inl missing) = let none = missing.place in absurd cc
+    by : NotAdded kept key ⊎ IsAdded kept key → ⊥
+    by (inl missing) = let nothing = missing.place in absurd cc
     by (inr one) =
         let index : one.index ≡ place = same_Some _ _ (sym one.place ∙ at) in
         let there = subst (λ n. slice_get (sheets_in kept) n ≡ Some one.added) index one.there in
         absurd cc
+
+-- what is answered of the sheet at the place of a key
+pub found-answers : (election : Election) (kept : List Event) (key : Key) (place : ℕ) → place_in kept key ≡ Some place → (found : Option Found)
+    → MatchOption found (slice_get (sheets_in kept) place ≡ None) (λ one. IsAt election kept place one.key.now one.sheet.now one.entry.now)
+    → MatchOption found (IsUnknown kept key) (λ one. IsFound election kept key one.sheet.now one.entry.now)
+found-answers election kept key place at None none = absurd (place_there kept key place at none)
 found-answers election kept key place at (Some one) h = found-by election kept key one.key.now place one.sheet.now one.entry.now at h
+
+-- what is answered of the sheet with a key, by its place
+pub sheet_of_place : (election : Election) (kept : List Event) (key own : Key) (place : ℕ) (sheet : SheetMarks) (entry : Entry)
+    → place_in kept key ≡ Some place → IsAt election kept place own sheet entry → IsSheetOf election kept key own sheet
+sheet_of_place election kept key own place sheet entry found is = by (look-up kept key)
+  where
+    by : NotAdded kept key ⊎ IsAdded kept key → IsSheetOf election kept key own sheet
+    by (inl missing) = let nothing = missing.place in absurd cc
+    by (inr one) =
+        let index : one.index ≡ place = same_Some _ _ (sym one.place ∙ found) in
+        let added : one.added ≡ is.added = same_Some _ _ (sym (subst (λ n. slice_get (sheets_in kept) n ≡ Some one.added) index one.there) ∙ is.there) in
+        record {
+          same = one.keyed ∙ ap (λ (a : Added). a.key) added ∙ is.keyed;
+          there = one.sheet ∙ ap (λ (a : Added). Some a.sheet) added ∙ ap Some is.read;
+          fits = is.fits;
+        }
 
 -- a place is below the number of events
 pub place-below : (kept : List Event) (key : Key) (place : ℕ) → place_in kept key ≡ Some place → place < length kept

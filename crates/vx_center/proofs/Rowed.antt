@@ -8,7 +8,7 @@ use Rattle.vx_rules.specs.declared.marks.SheetMarks.{SheetMarks}
 use Rattle.vx_events.specs.declared.event.Event.{Event}
 use Rattle.vx_events.specs.declared.key.Key.{Key}
 use Rattle.vx_center.specs.Sheets.{Added, sheets_in}
-use Rattle.vx_center.specs.Exports.{row_by, row_of, key_order, keyed_at}
+use Rattle.vx_center.specs.Exports.{row_by, row_of, key_order}
 use Rattle.vx_center.specs.Places.{no_sheet, sheet_at}
 use Rattle.vx_center.specs.States.{Entry, IsAt}
 
@@ -21,10 +21,10 @@ row_found election kept place key sheet entry at =
 
 -- its key
 pub key_found : (election : Election) (kept : List Event) (place : ℕ) (key : Key) (sheet : SheetMarks) (entry : Entry)
-    → IsAt election kept place key sheet entry → (place, key) ≡ keyed_at kept place
+    → IsAt election kept place key sheet entry → key ≡ (sheet_at kept place).key
 key_found election kept place key sheet entry at =
     let same : sheet_at kept place ≡ at.added = get_or_from_slice_get (sheets_in kept) place at.added no_sheet at.there in
-    ap (λ (k : Key). (place, k)) (sym at.keyed) ∙ ap (λ (added : Added). (place, added.key)) (sym same)
+    sym at.keyed ∙ ap (λ (added : Added). added.key) (sym same)
 
 pub key_order-total : IsTotalOrder key_order
 key_order-total = then_total (on_total (λ (key : Key). key.batch) nat_list_cmp_total) (on_total (λ (key : Key). key.number) nat_cmp_total)

@@ -1,17 +1,23 @@
 -- The sheets that were added.
-use Rattle.std.specs.Prelude.{ℕ, ◌+◌, ◌&&◌, ◌==◌, Bool, List, [], ◌∷◌, ◌++◌, bytes_eq, find, Option, Some, None}
+use Rattle.std.specs.Prelude.{◌≡◌, ℕ, ◌+◌, ◌&&◌, ◌==◌, Bool, true, List, [], ◌∷◌, ◌++◌, bytes_eq, find, Option, Some, None}
 use Rattle.std.specs.List.{position_from}
+use Rattle.vx_election_model.specs.declared.election.Election.{Election}
 use Rattle.vx_rules.specs.declared.marks.ContestMarks.{ContestMarks}
 use Rattle.vx_rules.specs.declared.marks.SheetMarks.{SheetMarks}
 use Rattle.vx_events.specs.declared.event.Event.{Event}
 use Rattle.vx_events.specs.declared.event.Event.TheVariants.{Add, Claim, Release, Decide}
 use Rattle.vx_events.specs.declared.key.Key.{Key}
+use Rattle.vx_events.specs.Fits.{is_sheet}
 
 -- a sheet that was added, with the place of its event among the kept ones
 pub record Added : Type 0 where
   pub at : ℕ
   pub key : Key
   pub sheet : SheetMarks
+
+-- the key of the sheet of a batch with a number
+abbrev pub key_of : List ℕ → ℕ → Key
+key_of batch number = record { batch = batch; number = number }
 
 -- two keys are the same: one batch, one number
 abbrev pub same_key : Key → Key → Bool
@@ -49,6 +55,12 @@ sheet_of (Some added) = Some added.sheet
 -- the sheet of the Add with a key, if there is one
 abbrev pub sheet_in : List Event → Key → Option SheetMarks
 sheet_in kept key = sheet_of (find (has_key key) (sheets_in kept))
+
+-- a sheet that was added with a key: its own key is that one, and it is one of the election's
+pub record IsSheetOf (election : Election) (kept : List Event) (key own : Key) (sheet : SheetMarks) : Type 0 where
+  pub same : key ≡ own
+  pub there : sheet_in kept key ≡ Some sheet
+  pub fits : is_sheet election sheet ≡ true
 
 -- what a contest was read as on a sheet, if the sheet has it
 abbrev pub marks_on : SheetMarks → ℕ → Option ContestMarks

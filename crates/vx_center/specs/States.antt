@@ -60,10 +60,11 @@ pub record IsFound (election : Election) (kept : List Event) (key : Key) (sheet 
   pub held : holder_of kept key ≡ entry.holder
   pub ruled : decided_of kept key ≡ entry.decided
 
--- a sheet that wasn't added isn't found, and nobody holds it
+-- a sheet that wasn't added isn't found, nobody holds it, and nothing was decided of it
 pub record IsUnknown (kept : List Event) (key : Key) : Type 0 where
   pub missing : sheet_in kept key ≡ None
   pub free : holder_of kept key ≡ None
+  pub undecided : decided_of kept key ≡ []
 
 -- the sheet at a place in the order of adding, as it is found
 pub record IsAt (election : Election) (kept : List Event) (place : ℕ) (key : Key) (sheet : SheetMarks) (entry : Entry)

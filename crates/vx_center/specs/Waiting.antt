@@ -11,6 +11,7 @@ use Rattle.vx_rules.specs.declared.marks.ContestMarks.{ContestMarks}
 use Rattle.vx_rules.specs.declared.marks.SheetMarks.{SheetMarks}
 use Rattle.vx_rules.specs.Reasons.{is_marginal, is_blank_sheet, reasons_of}
 use Rattle.vx_events.specs.declared.event.Event.{Event}
+use Rattle.vx_events.specs.declared.key.Key.{Key}
 use Rattle.vx_events.specs.declared.decision.Decision.{Decision}
 use Rattle.vx_center.specs.Sheets.{Added, sheets_in}
 use Rattle.vx_center.specs.declared.decided.Decided.{Decided}
@@ -46,6 +47,10 @@ abbrev pub exports_by : Election → Bool → List Decided → ContestMarks → 
 exports_by election sheet_blank decided marks =
     exports_with election sheet_blank (decisions_on marks.contest decided) marks.states
     (slice_get election.contests marks.contest)
+
+-- whether a contest of the sheet with a key waits, which is blank or not and was read so: it isn't exported yet
+abbrev pub contest_waits : Election → List Event → Key → Bool → ContestMarks → Bool
+contest_waits election kept key sheet_blank marks = not (exports_by election sheet_blank (decided_of kept key) marks)
 
 -- whether a contest of an added sheet is exported
 abbrev pub exports : Election → List Event → Added → ContestMarks → Bool

@@ -1,25 +1,28 @@
-ghost use Rattle.std.specs.Prelude.{◌≡◌, ◌++◌, ◌∷◌, [], ℕ, false, IfNone, IfOk, ◌<◌, ◌≤◌, IsSome, MatchOption, OnErr, OnOk, length, slice_get};
+ghost use Rattle.std.specs.Prelude.{◌≡◌, ◌++◌, ◌∷◌, [], ℕ, false, true, IfNone, IfOk, ◌<◌, ◌≤◌, IsSome, MatchOption, OnErr, OnOk, length, slice_get};
 ghost use Rattle.vx_election_model.specs.Valid.{IsValid};
-ghost use Rattle.vx_events.specs.Fits.{fits as fits_of, Fits};
+ghost use Rattle.vx_events.specs.Fits.{fits as fits_of, Fits, is_read};
 ghost use Rattle.vx_rules.specs.declared.marks.SheetMarks.{SheetMarks};
 ghost use Rattle.vx_center.specs.Histories.{IsHistory};
 ghost use Rattle.vx_center.specs.Holders.{holder_of};
 ghost use Rattle.vx_center.specs.Places as places;
 ghost use Rattle.vx_center.specs.Replies.{next_of, reply_of};
-ghost use Rattle.vx_center.specs.Sheets.{place_in, sheets_in};
+ghost use Rattle.vx_center.specs.Decisions.{decided_of};
+ghost use Rattle.vx_center.specs.Sheets.{IsSheetOf, key_of, place_in, sheet_in, sheets_in};
 ghost use Rattle.vx_center.specs.States.{HandsTo, IsAt, IsFound, IsUnknown, is_add};
+ghost use Rattle.vx_center.specs.Waiting.{contest_waits};
 
 use crate::decided::Decided;
 use crate::entry::SheetEntry;
 use crate::name::SheetName;
 use crate::replying::{claim_reply, decide_reply, if_held};
+use crate::waiting::is_exported;
 use indexmap::IndexMap;
 use std::alloc::Global;
 use std::marker::Model;
 use vx_base::{ListOf, OutOfMemory};
 use vx_election_model::Election;
 use vx_events::{Event, Key, Reply, fits};
-use vx_rules::SheetMarks;
+use vx_rules::{ContestMarks, SheetMarks};
 
 /// Kept events, in order.
 pub type Events = ListOf<Event>;
@@ -51,8 +54,8 @@ pub(crate) struct Found<'a> {
     pub(crate) entry: &'a SheetEntry,
 }
 
-/// The key and the sheet of an Add.
-fn added(event: &Event) -> Option<(&Key, &SheetMarks)>
+/// The key and the sheet of an Add; nothing of another event.
+pub fn added(event: &Event) -> Option<(&Key, &SheetMarks)>
     ensures { MatchOption result (is_add event.now ≡ false) (λ parts. event.now ≡ Event.Add parts.0.now parts.1.now) }
 {
     match event {
@@ -242,16 +245,27 @@ impl<'e> Center<'e> {
         Ok(())
     }
 
+    /// The place of the sheet of a batch with a number, in the order of adding.
+    fn place_of(&self, batch: &str, number: u64) -> Option<usize>
+        ensures place { result ≡ place_in self.now.events (key_of batch.now number) }
+        ensures unknown { IfNone result (IsUnknown self.now.events (key_of batch.now number)) }
+    {
+        let sheets = &self.sheets;
+        if batch.len() > 32 {
+            return None;
+        }
+        if number > 999_999 {
+            return None;
+        }
+        sheets.get_index_of(&SheetName::new(batch, number as u32))
+    }
+
     /// The place of the sheet with a key, in the order of adding.
     fn place(&self, key: &Key) -> Option<usize>
         ensures place { result ≡ place_in self.now.events key.now }
         ensures unknown { IfNone result (IsUnknown self.now.events key.now) }
     {
-        let sheets = &self.sheets;
-        if key.batch.as_str().len() > 32 {
-            return None;
-        }
-        sheets.get_index_of(&SheetName::of_key(key))
+        self.place_of(key.batch.as_str(), u64::from(key.number))
     }
 
     /// The place of a sheet that was added.
@@ -269,6 +283,36 @@ impl<'e> Center<'e> {
             (λ found. IsFound self.now.election self.now.events key.now found.sheet.now found.entry.now) }
     {
         self.found(self.place(key)?)
+    }
+
+    /// The key of the sheet of a batch with a number, and what the sheet was read as, if it was added.
+    pub fn sheet(&self, batch: &str, number: u64) -> Option<(&Key, &SheetMarks)>
+        ensures { MatchOption result
+            (sheet_in self.now.events (key_of batch.now number) ≡ None)
+            (λ parts. IsSheetOf self.now.election self.now.events (key_of batch.now number)
+            parts.0.now parts.1.now) }
+    {
+        let found = self.found(self.place_of(batch, number)?)?;
+        Some((found.key, found.sheet))
+    }
+
+    /// What was decided of the sheet with a key, in order; nothing where it wasn't added.
+    fn decided(&self, key: &Key) -> &[Decided]
+        ensures { result.now ≡ decided_of self.now.events key.now }
+    {
+        match self.find(key) {
+            None => &[],
+            Some(found) => found.entry.decided(),
+        }
+    }
+
+    /// Whether a contest of the sheet with a key waits for a decision. The sheet is blank or not, and the contest
+    /// was read so. Takes no memory, and no longer where more events were kept.
+    pub fn waits(&self, key: &Key, sheet_blank: bool, marks: &ContestMarks) -> bool
+        requires { is_read self.now.election marks.now ≡ true }
+        ensures { result ≡ contest_waits self.now.election self.now.events key.now sheet_blank marks.now }
+    {
+        !is_exported(self.election, sheet_blank, self.decided(key), marks)
     }
 
     /// The sheet at a place in the order of adding.
@@ -296,6 +340,15 @@ impl<'e> Center<'e> {
         ensures { result.now ≡ (places.sheet_at self.now.events place).sheet }
     {
         self.found(place).unwrap().sheet
+    }
+
+    /// The key of the sheet at a place in the order of adding.
+    #[tactic(auto, using(crate::proofs::Rowed::key_found))]
+    pub fn key_at(&self, place: usize) -> &Key
+        requires { place < length (sheets_in self.now.events) }
+        ensures { result.now ≡ (places.sheet_at self.now.events place).key }
+    {
+        self.found(place).unwrap().key
     }
 
     /// The election, lent.

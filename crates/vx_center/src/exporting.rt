@@ -211,12 +211,11 @@ impl<'e> Center<'e> {
     }
 
     /// A place with the key of the sheet there.
-    #[tactic(auto, using(crate::proofs::Rowed::key_found))]
     fn keyed_place(&self, place: usize) -> KeyedPlace<'_>
         requires { place < length (sheets_in self.now.events) }
         ensures { (result.place, result.key.now) ≡ keyed_at self.now.events place }
     {
-        let key = self.found(place).unwrap().key;
+        let key = self.key_at(place);
         KeyedPlace { place, key }
     }
 

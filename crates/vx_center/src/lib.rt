@@ -21,7 +21,7 @@ mod replying;
 mod rows;
 mod waiting;
 
-pub use center::{Center, Events, drop_center};
+pub use center::{Center, Events, added, drop_center};
 pub use decided::Decided;
 pub use laws::{
     added_sheets_are_alone, added_sheets_fit, decisions_are_the_holders,

@@ -1,4 +1,5 @@
 ghost use Rattle.std.specs.Prelude.{◌≡◌, ◌≤◌, length};
+ghost use Rattle.vx_center.specs.Sheets.{key_of};
 ghost use Rattle.vx_center.specs.States.{name_of_key};
 
 use vx_events::Key;
@@ -14,18 +15,26 @@ pub(crate) struct SheetName {
 }
 
 impl SheetName {
+    /// The name of the sheet of a batch, which has at most 32 bytes, with a number.
+    pub(crate) fn new(batch: &str, number: u32) -> SheetName
+        requires { length batch.now ≤ 32 }
+        ensures { result ≡ name_of_key (key_of batch.now number) }
+    {
+        let bytes = batch.as_bytes();
+        let mut padded = [0; 32];
+        padded[..bytes.len()].copy_from_slice(bytes);
+        SheetName {
+            batch: padded,
+            size: bytes.len(),
+            number,
+        }
+    }
+
     /// The name of a key whose batch has at most 32 bytes.
     pub(crate) fn of_key(key: &Key) -> SheetName
         requires { length key.now.batch ≤ 32 }
         ensures { result ≡ name_of_key key.now }
     {
-        let bytes = key.batch.as_str().as_bytes();
-        let mut batch = [0; 32];
-        batch[..bytes.len()].copy_from_slice(bytes);
-        SheetName {
-            batch,
-            size: bytes.len(),
-            number: key.number,
-        }
+        SheetName::new(key.batch.as_str(), key.number)
     }
 }

@@ -4,9 +4,9 @@ use Rattle.vx_plane.specs.Plane.{Page}
 use Rattle.vx_election_model.specs.declared.election.Election.{Election}
 use Rattle.vx_events.specs.declared.event.Event.{Event}
 use Rattle.vx_rules.specs.declared.marks.SheetMarks.{SheetMarks}
-use Rattle.vx_center.specs.Sheets.{sheet_in}
+use Rattle.vx_center.specs.Sheets.{key_of, sheet_in}
 use Rattle.vx_desk.specs.Lines.{line_of, sheet_text}
-use Rattle.vx_desk.specs.Waits.{any_waits, key_of, sheet_waits}
+use Rattle.vx_desk.specs.Waits.{any_waits, sheet_waits}
 
 -- by whether the sheet was added
 no-line : (election : Election) (events : List Event) (batch scan : List ℕ) (number : ℕ) (first second : Page) (found : Option SheetMarks)

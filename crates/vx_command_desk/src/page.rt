@@ -30,8 +30,7 @@ fn closing(alloc: Global, setting: &Setting<'_>, sheets: u64) -> Result<Bytes, O
     ensures { IfOk result (λ text. text ≡ closing_of setting.now sheets) }
 {
     let mut end = Bytes::new(alloc);
-    let (election, center) = (setting.election, setting.center);
-    push_last(alloc, &mut end, election, center, setting.batch, sheets)?;
+    push_last(alloc, &mut end, setting.center, setting.batch, sheets)?;
     push_tail(&mut end)?;
     Ok(end)
 }

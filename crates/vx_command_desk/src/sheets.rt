@@ -79,7 +79,7 @@ fn make_text(
     requires { IsSet setting.now }
     ensures { IfOk result (λ text. text ≡ texts_of setting.now number first.now second.now) }
 {
-    if waits(setting.election, setting.center, setting.batch, number) {
+    if waits(setting.center, setting.batch, number) {
         read_sheet(alloc, setting, number, first, second)
     } else {
         Ok(Bytes::new(alloc))

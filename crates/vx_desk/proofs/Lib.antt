@@ -1,7 +1,5 @@
 mod Steps
 mod Texts
-mod Decided
-mod Found
 mod Turned
 mod Framed
 mod Packing

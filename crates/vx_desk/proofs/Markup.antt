@@ -10,12 +10,12 @@ use Rattle.vx_election_model.specs.declared.election.Election.{Election}
 use Rattle.vx_rules.specs.declared.marks.SheetMarks.{SheetMarks}
 use Rattle.vx_events.specs.declared.event.Event.{Event}
 use Rattle.vx_events.specs.declared.key.Key.{Key}
-use Rattle.vx_center.specs.Sheets.{sheet_in}
+use Rattle.vx_center.specs.Sheets.{key_of, sheet_in}
 use Rattle.vx_markup.specs.Escaped.{data_line}
 use Rattle.vx_markup.specs.Laws.{HasNoMarkup, LinesHaveNoMarkup}
 use Rattle.vx_desk.specs.Laws.{DataIsNoMarkup}
 use Rattle.vx_desk.specs.Lines.{first_data, first_text, last_data, last_text, line_of, sheet_data, sheet_text}
-use Rattle.vx_desk.specs.Waits.{any_waits, key_of}
+use Rattle.vx_desk.specs.Waits.{any_waits}
 
 module _ (line : LinesHaveNoMarkup) where
   first : (election : Election) (batch : List ℕ) → HasNoMarkup (first_text election batch)

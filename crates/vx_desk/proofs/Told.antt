@@ -14,11 +14,12 @@ use Rattle.vx_events.specs.declared.key.Key.{Key}
 use Rattle.vx_events.specs.Ascending.{is_ascending}
 use Rattle.vx_events.specs.Fits.{contests_of, is_batch, is_read}
 use Rattle.vx_center.specs.Histories.{IsHistory}
-use Rattle.vx_center.specs.Sheets.{Added, has_key, same_key, sheet_in, sheet_of, sheets_in}
+use Rattle.vx_center.specs.Sheets.{Added, has_key, key_of, same_key, sheet_in, sheet_of, sheets_in}
+use Rattle.vx_center.specs.Waiting.{contest_waits}
 use Rattle.vx_center.specs.Laws.{AddedSheetsFit, SameKeysAreEqual, SheetsHaveOwnKeys, SheetsHaveOwnPlaces}
 use Rattle.vx_markup.specs.Escaped.{data_line}
 use Rattle.vx_desk.specs.Lines.{line_of, missing_of, sheet_data, sheet_text}
-use Rattle.vx_desk.specs.Waits.{any_waits, contest_waits, key_of, sheet_waits, waiting_of, waits_in}
+use Rattle.vx_desk.specs.Waits.{any_waits, sheet_waits, waiting_of, waits_in}
 use Rattle.vx_desk.specs.Told.{IsPassed, IsTold, WaitingIsToldOnce, times}
 use Rattle.vx_desk.proofs.Once.{count_alone, count_none, fewer_ascend, find_alone, times_chosen}
 

@@ -1,6 +1,5 @@
 pub mod Page
 pub mod Waits
-pub mod Walk
 pub mod Kept
 pub mod Shown
 pub mod Regions

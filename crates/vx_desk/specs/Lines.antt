@@ -8,7 +8,7 @@ use Rattle.vx_rules.specs.declared.marks.SheetMarks.{SheetMarks}
 use Rattle.vx_rules.specs.Reasons.{is_blank_sheet}
 use Rattle.vx_events.specs.declared.event.Event.{Event}
 use Rattle.vx_events.specs.declared.key.Key.{Key}
-use Rattle.vx_center.specs.Sheets.{Added, sheet_in}
+use Rattle.vx_center.specs.Sheets.{Added, key_of, sheet_in}
 use Rattle.vx_center.specs.Holders.{holder_of}
 use Rattle.vx_scan_model.specs.declared.fault.PageFault.{PageFault}
 use Rattle.vx_scan_model.specs.declared.reading.PageReading.{PageReading}
@@ -18,7 +18,7 @@ use Rattle.vx_desk.specs.Contests.{contest_data}
 use Rattle.vx_markup.specs.Escaped.{data_line}
 use Rattle.vx_desk.specs.Kept.{are_kept}
 use Rattle.vx_desk.specs.Shown.{Shown, image_with, shown_by}
-use Rattle.vx_desk.specs.Waits.{any_waits, key_of, waiting_contests, waiting_in, waiting_sheets}
+use Rattle.vx_desk.specs.Waits.{any_waits, waiting_contests, waiting_in, waiting_sheets}
 
 -- the first line: the batch and the election's title
 abbrev pub first_data : Election → List ℕ → Data

@@ -1,5 +1,5 @@
 -- Which sheets of a batch have a contest that waits for a decision, by the rule of the center.
-use Rattle.std.specs.Prelude.{ℕ, ◌&&◌, Bool, false, not, List, length, filter, bytes_eq, Option, None, Some}
+use Rattle.std.specs.Prelude.{ℕ, ◌&&◌, Bool, false, List, length, filter, bytes_eq, Option, None, Some}
 use Rattle.std.specs.List.{flat_map, list_any}
 use Rattle.vx_election_model.specs.declared.election.Election.{Election}
 use Rattle.vx_rules.specs.declared.marks.ContestMarks.{ContestMarks}
@@ -7,18 +7,8 @@ use Rattle.vx_rules.specs.declared.marks.SheetMarks.{SheetMarks}
 use Rattle.vx_rules.specs.Reasons.{is_blank_sheet}
 use Rattle.vx_events.specs.declared.event.Event.{Event}
 use Rattle.vx_events.specs.declared.key.Key.{Key}
-use Rattle.vx_center.specs.Sheets.{Added, sheet_in, sheets_in}
-use Rattle.vx_center.specs.Decisions.{decided_of}
-use Rattle.vx_center.specs.Waiting.{exports_by}
-
--- the key of the sheet of a batch with a number
-abbrev pub key_of : List ℕ → ℕ → Key
-key_of batch number = record { batch = batch; number = number }
-
--- whether a contest of a sheet, blank or not, waits: it isn't exported yet
-abbrev pub contest_waits : Election → List Event → Key → Bool → ContestMarks → Bool
-contest_waits election kept key sheet_blank marks =
-    not (exports_by election sheet_blank (decided_of kept key) marks)
+use Rattle.vx_center.specs.Sheets.{Added, key_of, sheet_in, sheets_in}
+use Rattle.vx_center.specs.Waiting.{contest_waits}
 
 -- the contests of a sheet that wait, in the sheet's order
 abbrev pub waiting_contests : Election → List Event → Key → SheetMarks → List ContestMarks

@@ -9,13 +9,12 @@ ghost use Rattle.std.specs.List.{list_all};
 ghost use Rattle.vx_desk.specs.Contests as spec;
 ghost use Rattle.vx_markup.specs.Escaped.{escaped};
 ghost use Rattle.vx_desk.specs.Lines as lines;
-ghost use Rattle.vx_desk.specs.Waits.{contest_waits};
+ghost use Rattle.vx_center.specs.Waiting.{contest_waits};
 
 use crate::image::{Image, image_with};
 use crate::options::{options_of, reasons_of};
 use crate::picture::picture;
 use crate::region::region_round;
-use crate::waiting::contest_waits;
 use serde_json::{Value, json};
 use std::alloc::Global;
 use vx_base::{Bytes, OutOfMemory};
@@ -120,6 +119,7 @@ fn push_items(
     first: &Image<'_>,
     second: &Image<'_>,
 ) -> Result<(), OutOfMemory>
+    requires same { center.now.election ≡ election.now }
     requires options { All HasFewOptions election.now.contests }
     requires read { list_all (is_read election.now) contests.now ≡ true }
     ensures { OnOk result (text.new ≡ text.old ++ escaped (items_text false (items_of
@@ -128,7 +128,7 @@ fn push_items(
 {
     let mut is_later = false;
     for marks in contests {
-        if contest_waits(election, center, key, sheet_blank, marks) {
+        if center.waits(key, sheet_blank, marks) {
             push_contest(
                 alloc,
                 text,
@@ -156,6 +156,7 @@ pub(crate) fn push_contests(
     first: &Image<'_>,
     second: &Image<'_>,
 ) -> Result<(), OutOfMemory>
+    requires same { center.now.election ≡ election.now }
     requires options { All HasFewOptions election.now.contests }
     requires fits { is_sheet election.now sheet.now ≡ true }
     ensures { OnOk result (text.new ≡ text.old ++ escaped (compact_text (lines.contests_of

@@ -17,7 +17,6 @@ ghost use Rattle.vx_desk.specs.Kept as kept;
 ghost use Rattle.vx_desk.specs.Lines as lines;
 
 use crate::contests::push_contests;
-use crate::find::find_sheet;
 use crate::image::Image;
 use crate::kept::is_that;
 use crate::left::left_over;
@@ -109,6 +108,7 @@ fn push_kept(
     first: &Image<'_>,
     second: &Image<'_>,
 ) -> Result<(), OutOfMemory>
+    requires same { center.now.election ≡ election.now }
     requires options { All HasFewOptions election.now.contests }
     requires fits { is_sheet election.now sheet.now ≡ true }
     ensures { OnOk result (text.new ≡ text.old ++ data_line (lines.kept_data election.now
@@ -171,6 +171,7 @@ fn push_read(
 ) -> Result<(), OutOfMemory>
     requires valid { IsValid election.now }
     requires plans { ArePlansOf election.now plans.now }
+    requires same { center.now.election ≡ election.now }
     requires fits { is_sheet election.now sheet.now ≡ true }
     requires first { IsReadOf election.now images.first.now images.first_read.now }
     requires second { IsReadOf election.now images.second.now images.second_read.now }
@@ -227,6 +228,7 @@ fn push_images(
 ) -> Result<(), OutOfMemory>
     requires valid { IsValid election.now }
     requires plans { ArePlansOf election.now plans.now }
+    requires same { center.now.election ≡ election.now }
     requires fits { is_sheet election.now sheet.now ≡ true }
     requires first { IsReadOf election.now images.first.now images.first_read.now }
     requires second { IsReadOf election.now images.second.now images.second_read.now }
@@ -262,7 +264,7 @@ fn push_found(
     ensures { OnOk result (text.new ≡ text.old ++ lines.line_of election.now center.now.events key.now
         images.entry.scan.now images.entry.first.now images.entry.second.now (Some sheet.now)) }
 {
-    if any_waits(election, center, key, sheet) {
+    if any_waits(center, key, sheet) {
         push_images(alloc, text, election, plans, center, key, sheet, images)
     } else {
         Ok(())
@@ -301,7 +303,7 @@ pub fn push_sheet(
         second,
         second_read,
     };
-    match find_sheet(center, batch, number) {
+    match center.sheet(batch, number) {
         None => Ok(()),
         Some((key, sheet)) => {
             push_found(alloc, text, election, plans, center, key, sheet, images)
@@ -315,15 +317,13 @@ pub fn push_sheet(
 pub fn push_last(
     alloc: Global,
     text: &mut Bytes,
-    election: &Election,
     center: &Center<'_>,
     batch: &str,
     sheets: u64,
 ) -> Result<(), OutOfMemory>
-    requires { center.now.election ≡ election.now }
     ensures { OnOk result (text.new
-        ≡ text.old ++ lines.last_text election.now center.now.events batch.now sheets) }
+        ≡ text.old ++ lines.last_text center.now.election center.now.events batch.now sheets) }
 {
-    let value = left_over(alloc, election, center, batch, sheets)?;
+    let value = left_over(alloc, center, batch, sheets)?;
     push_line(alloc, text, &value)
 }

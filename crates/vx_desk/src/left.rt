@@ -4,17 +4,16 @@ ghost use Rattle.std.specs.Prelude.{◌≡◌, ◌++◌, IfOk, OnOk, length, map
 ghost use Rattle.std.specs.List.{list_all};
 ghost use Rattle.serde_json.specs.View.{view};
 ghost use Rattle.vx_events.specs.Fits.{Fits, is_read, is_sheet};
+ghost use Rattle.vx_center.specs.Waiting.{contest_waits};
 ghost use Rattle.vx_desk.specs.Left as spec;
 ghost use Rattle.vx_desk.specs.Lines as lines;
 ghost use Rattle.vx_desk.specs.Waits as waits;
 
-use crate::find::added;
-use crate::waiting::{any_waits, contest_waits};
+use crate::waiting::any_waits;
 use serde_json::{Value, json};
 use std::alloc::Global;
 use vx_base::OutOfMemory;
-use vx_center::Center;
-use vx_election_model::Election;
+use vx_center::{Center, added};
 use vx_events::{Event, Key};
 use vx_rules::{ContestMarks, SheetMarks, is_blank};
 
@@ -27,20 +26,14 @@ struct Left {
 
 /// How many of these contests of a sheet wait.
 #[tactic(auto, using(crate::proofs::Steps::count_more, crate::proofs::Steps::count_same, crate::proofs::Steps::count_none))]
-fn count_of(
-    election: &Election,
-    center: &Center<'_>,
-    key: &Key,
-    sheet_blank: bool,
-    contests: &[ContestMarks],
-) -> u64
-    requires { list_all (is_read election.now) contests.now ≡ true }
+fn count_of(center: &Center<'_>, key: &Key, sheet_blank: bool, contests: &[ContestMarks]) -> u64
+    requires { list_all (is_read center.now.election) contests.now ≡ true }
     ensures { result ≡ length (filter
-        (waits.contest_waits election.now center.now.events key.now sheet_blank) contests.now) }
+        (contest_waits center.now.election center.now.events key.now sheet_blank) contests.now) }
 {
     let mut count = 0;
     for marks in contests {
-        if contest_waits(election, center, key, sheet_blank, marks) {
+        if center.waits(key, sheet_blank, marks) {
             count += 1;
         }
     }
@@ -48,17 +41,11 @@ fn count_of(
 }
 
 /// How many contests of a sheet wait.
-fn waiting_of(election: &Election, center: &Center<'_>, key: &Key, sheet: &SheetMarks) -> u64
-    requires { is_sheet election.now sheet.now ≡ true }
-    ensures { result ≡ length (waits.waiting_contests election.now center.now.events key.now sheet.now) }
+fn waiting_of(center: &Center<'_>, key: &Key, sheet: &SheetMarks) -> u64
+    requires { is_sheet center.now.election sheet.now ≡ true }
+    ensures { result ≡ length (waits.waiting_contests center.now.election center.now.events key.now sheet.now) }
 {
-    count_of(
-        election,
-        center,
-        key,
-        is_blank(sheet),
-        sheet.contests.as_slice(),
-    )
+    count_of(center, key, is_blank(sheet), sheet.contests.as_slice())
 }
 
 /// Adds a sheet's number, if it is behind the first so many.
@@ -83,19 +70,18 @@ impl Left {
     fn take_sheet(
         &mut self,
         alloc: Global,
-        election: &Election,
         center: &Center<'_>,
         key: &Key,
         sheet: &SheetMarks,
         sheets: u64,
     ) -> Result<(), OutOfMemory>
-        requires { is_sheet election.now sheet.now ≡ true }
+        requires { is_sheet center.now.election sheet.now ≡ true }
         ensures { OnOk result (spec.Grew (spec.missing_if sheets key.now)
-            (length (waits.waiting_contests election.now center.now.events key.now sheet.now))
+            (length (waits.waiting_contests center.now.election center.now.events key.now sheet.now))
             (map view self.old.missing.items) self.old.waiting
             (map view self.new.missing.items) self.new.waiting) }
     {
-        let count = waiting_of(election, center, key, sheet);
+        let count = waiting_of(center, key, sheet);
         let Some(waiting) = self.waiting.checked_add(count) else {
             return Err(OutOfMemory);
         };
@@ -108,24 +94,23 @@ impl Left {
     fn take_event(
         &mut self,
         alloc: Global,
-        election: &Election,
         center: &Center<'_>,
         event: &Event,
         batch: &str,
         sheets: u64,
     ) -> Result<(), OutOfMemory>
-        requires { Fits election.now event.now }
+        requires { Fits center.now.election event.now }
         ensures { OnOk result (spec.Grew
-            (spec.missing_by election.now center.now.events batch.now sheets event.now)
-            (spec.waiting_by election.now center.now.events batch.now event.now)
+            (spec.missing_by center.now.election center.now.events batch.now sheets event.now)
+            (spec.waiting_by center.now.election center.now.events batch.now event.now)
             (map view self.old.missing.items) self.old.waiting
             (map view self.new.missing.items) self.new.waiting) }
     {
         match added(event) {
             None => Ok(()),
             Some((key, sheet)) => {
-                if key.batch.as_str() == batch && any_waits(election, center, key, sheet) {
-                    self.take_sheet(alloc, election, center, key, sheet, sheets)?;
+                if key.batch.as_str() == batch && any_waits(center, key, sheet) {
+                    self.take_sheet(alloc, center, key, sheet, sheets)?;
                 }
                 Ok(())
             }
@@ -137,23 +122,22 @@ impl Left {
 #[tactic(auto, using(crate::proofs::LeftOver::so_far_more, crate::proofs::LeftOver::so_far_first, crate::proofs::LeftOver::so_far_last))]
 fn left_of(
     alloc: Global,
-    election: &Election,
     center: &Center<'_>,
     batch: &str,
     sheets: u64,
 ) -> Result<Left, OutOfMemory>
-    requires { center.now.election ≡ election.now }
     ensures { IfOk result (λ left.
         (map view left.missing.items
-        ≡ spec.missing_from election.now center.now.events batch.now sheets 0 center.now.events)
-        × (left.waiting ≡ spec.waiting_from election.now center.now.events batch.now 0 center.now.events)) }
+        ≡ spec.missing_from center.now.election center.now.events batch.now sheets 0 center.now.events)
+        × (left.waiting
+        ≡ spec.waiting_from center.now.election center.now.events batch.now 0 center.now.events)) }
 {
     let mut left = Left {
         missing: Vec::new(alloc),
         waiting: 0,
     };
     for event in center.events().as_slice() {
-        left.take_event(alloc, election, center, event, batch, sheets)?;
+        left.take_event(alloc, center, event, batch, sheets)?;
     }
     Ok(left)
 }
@@ -169,14 +153,13 @@ fn value_of(alloc: Global, left: Left) -> Result<Value, OutOfMemory>
 /// What is left over of a batch, behind the first so many sheets.
 pub(crate) fn left_over(
     alloc: Global,
-    election: &Election,
     center: &Center<'_>,
     batch: &str,
     sheets: u64,
 ) -> Result<Value, OutOfMemory>
-    requires { center.now.election ≡ election.now }
-    ensures { IfOk result (λ value. view value ≡ lines.last_data election.now center.now.events batch.now sheets) }
+    ensures { IfOk result (λ value.
+        view value ≡ lines.last_data center.now.election center.now.events batch.now sheets) }
 {
-    let left = left_of(alloc, election, center, batch, sheets)?;
+    let left = left_of(alloc, center, batch, sheets)?;
     value_of(alloc, left)
 }

@@ -11,7 +11,6 @@
 
 mod contests;
 mod data;
-mod find;
 mod image;
 mod kept;
 mod laws;

@@ -1,7 +1,9 @@
 //! What the report of a count says of its sheets: their records, one at a time.
 
-ghost use Rattle.std.specs.Prelude.{◌≡◌, ◌+◌, ◌<◌, ◌≤◌, All, IfOk, OnOk, Some, length, map, slice_get, take};
+ghost use Rattle.std.specs.Prelude.{◌≡◌, ◌+◌, ◌<◌, ◌≤◌, All, IfOk, OnOk, Some, length, map, slice_get, slice_index_or, take};
 ghost use Rattle.vx_election_model.specs.Valid.{IsValid};
+ghost use Rattle.vx_center.specs.Places.{sheet_at};
+ghost use Rattle.vx_center.specs.Sheets.{sheets_in};
 ghost use Rattle.vx_cvr.specs.Pieces.{AreReportPlaces};
 ghost use Rattle.vx_cvr.specs.Rows.{rows_of};
 ghost use Rattle.vx_tally.specs.Members.{list_limit};
@@ -20,6 +22,7 @@ use vx_base::OutOfMemory;
 use vx_center::{Center, ExportSheet};
 use vx_cvr::report_places;
 use vx_election_model::Election;
+use vx_events::Key;
 use vx_json::Text;
 use vx_styles::{CardList, cards};
 use vx_tally::{CvrRecord, ReportContests, Totals};
@@ -64,6 +67,15 @@ fn row_in(
     rows_fit();
     let row = center.row_at(alloc, places[at])?;
     Ok(row)
+}
+
+/// The key of a report's sheet, by its place in the report; `places` are those of all sheets in the order of adding.
+fn key_in<'c>(center: &'c Center<'_>, places: &[usize], at: usize) -> &'c Key
+    requires there { All (λ place. place < length (sheets_in center.now.events)) places.now }
+    requires within { at < length places.now }
+    ensures { result.now ≡ (sheet_at center.now.events (slice_index_or places.now at 0)).key }
+{
+    center.key_at(places[at])
 }
 
 impl<'a, 'e> JournalRecords<'a, 'e> {
@@ -117,8 +129,8 @@ impl<'a, 'e> JournalRecords<'a, 'e> {
         requires { at < length self.now }
         ensures { IfOk result (λ id. slice_get (spec.ids_of self.now) at ≡ Some id) }
     {
-        let row = row_in(alloc, self.center, self.places.as_slice(), at)?;
-        let id = unique(alloc, &row.key)?;
+        let key = key_in(self.center, self.places.as_slice(), at);
+        let id = unique(alloc, key)?;
         Ok(id)
     }
 

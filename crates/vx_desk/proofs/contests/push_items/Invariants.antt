@@ -4,7 +4,7 @@ use Rattle.serde_json.specs.View.{items_of}
 use Rattle.serde_json.specs.Written.{items_text}
 use Rattle.vx_markup.specs.Escaped.{escaped}
 use Rattle.vx_desk.specs.Lines as lines
-use Rattle.vx_desk.specs.Waits.{contest_waits}
+use Rattle.vx_center.specs.Waiting.{contest_waits}
 use Rattle.vx_desk.proofs.contests.push_items.Given as goal
 
 -- what was written of those so far, and what is still to be written of those left, are all

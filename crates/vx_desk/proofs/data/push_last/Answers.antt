@@ -8,4 +8,4 @@ use Rattle.vx_desk.proofs.data.push_last.Goals as goal
 pub push_line-requires : goal.push_line-requires
 push_line-requires c =
     ap has_float c.in_ok-value.ensures
-    ∙ left_data (missing_of c.args.election.now c.args.center.now.events c.args.batch.now c.args.sheets) (waiting_in c.args.election.now c.args.center.now.events c.args.batch.now)
+    ∙ left_data (missing_of c.args.center.now.election c.args.center.now.events c.args.batch.now c.args.sheets) (waiting_in c.args.center.now.election c.args.center.now.events c.args.batch.now)
