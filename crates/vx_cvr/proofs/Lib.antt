@@ -1,7 +1,9 @@
+pub mod Added
+pub mod Escaped
+pub mod Worded
 pub mod Made
 pub mod Floatless
 pub mod Order
 pub mod Rows
 mod Keyed
-pub mod Texts
 pub mod Joined

@@ -8,6 +8,7 @@
 #![tactic(auto)]
 
 mod contests;
+mod escape;
 mod laws;
 mod members;
 mod names;

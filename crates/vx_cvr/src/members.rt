@@ -5,7 +5,7 @@ ghost use Rattle.std.specs.Prelude.{◌≡◌, ◌∷◌, [], IfOk, OnOk};
 ghost use Rattle.std.specs.List.{fold};
 ghost use Rattle.serde_json.specs.Data.{no_members, object, put as with_member};
 ghost use Rattle.serde_json.specs.View.{members_view, view};
-ghost use Rattle.vx_cvr.specs.Json.{list, text, whole};
+ghost use Rattle.vx_cvr.specs.Json.{list, text};
 
 use serde_json::{Map, Value, json, put};
 use std::alloc::Global;
@@ -46,21 +46,6 @@ pub(crate) fn object_of_texts(alloc: Global, given: &[(&str, &str)]) -> Result<V
         with_member named.0.now (text named.1.now) others) no_members given.now)) }
 {
     Ok(Value::Object(texts(alloc, given)?))
-}
-
-/// Puts whole numbers among members, each with its name before it.
-pub(crate) fn put_numbers(
-    members: &mut Members,
-    alloc: Global,
-    given: &[(&str, u64)],
-) -> Result<(), OutOfMemory>
-    ensures { OnOk result (members_view members.new.entries ≡ fold (λ others named.
-        with_member named.0.now (whole named.1) others) (members_view members.old.entries) given.now) }
-{
-    for named in given {
-        put(members, alloc, named.0, Value::from(named.1))?;
-    }
-    Ok(())
 }
 
 /// A list of one value.

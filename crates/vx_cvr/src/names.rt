@@ -46,10 +46,3 @@ pub fn sheet_name(alloc: Global, key: &Key) -> Result<String, OutOfMemory>
     let batch = key.batch.as_str();
     format!(in alloc; "{batch}-{}", key.number)
 }
-
-pub fn snapshot_name(alloc: Global, key: &Key) -> Result<String, OutOfMemory>
-    ensures { IfOk result (λ name. string_bytes name ≡ spec.snapshot_name key.now) }
-{
-    let batch = key.batch.as_str();
-    format!(in alloc; "snapshot-{batch}-{}", key.number)
-}

@@ -1,10 +1,35 @@
-use Rattle.std.proofs.Common.{◌≡◌, ◌∷◌, ◌++◌, [], rules}
-use Rattle.vx_cvr.specs.Report as spec
-use Rattle.vx_cvr.proofs.Made.{one_made}
+use Rattle.std.proofs.Common.{rules, ◌≡◌, ◌++◌, decimal}
+use Rattle.json.specs.Print.{escape}
+use Rattle.serde_json.proofs.OnLiterals.{serde_json_on_literals}
+use Rattle.vx_center.specs.declared.rows.Final.{Final}
+use Rattle.vx_election_model.specs.declared.contest.Contest.{Contest}
+use Rattle.vx_cvr.specs.Json.{text}
+use Rattle.vx_cvr.specs.Texts.{items}
+use Rattle.vx_cvr.specs.Votes.{overvotes, status_words, undervotes, write_ins}
+use Rattle.vx_cvr.proofs.Added.{add, add_closed, at_ok}
 use Rattle.vx_cvr.proofs.sheets.push_counted.Goals as goal
 
-pub loop-one-preserved : goal.loop-one-preserved
-loop-one-preserved c =
-    let pushed : c.push.new.self.items ≡ c.loop-one.values.items ++ c.in_ok-counted_in.field-0 ∷ [] = search rules in
-    rw pushed
-    (one_made (spec.counted_in c.args.election.now) c.args.finals.now c.loop-one.values.items c.loop-one.one-index c.one-item.result c.in_ok-counted_in.field-0 _ c.loop-one-test.true c.one-item.is c.in_ok-counted_in.ensures c.loop-one.invariant)
+pub returns : goal.returns
+unfolding serde_json_on_literals
+returns c =
+    let contest : Contest = c.args.contest.now in
+    let final : Final = c.args.counted.now in
+    let named : c.push_text.new.text ≡ c.push_bytes-2.new.text ++ escape contest.id = search rules in
+    let over : c.push_number.new.text ≡ c.push_bytes-3.new.text ++ decimal (overvotes contest final) = search rules in
+    let words : c.push_bytes-5.new.text ≡ c.push_bytes-4.new.text ++ items text (status_words contest final) = search rules in
+    let under : c.push_number-2.new.text ≡ c.push_bytes-6.new.text ++ decimal (undervotes contest final) = search rules in
+    let slots : c.push_number-3.new.text ≡ c.push_bytes-7.new.text ++ decimal (write_ins contest final) = search rules in
+    at_ok c.push_bytes-8.result _ _ c.push_bytes-8.ensures
+    (λ last.
+    add c.args.text.now _ _ c.push_bytes.new.text _ c.in_ok-push_bytes.ensures
+    (add c.push_bytes.new.text _ _ c.push_selections.new.text _ c.in_ok-push_selections.ensures
+    (add c.push_selections.new.text _ _ c.push_bytes-2.new.text _ c.in_ok-push_bytes-2.ensures
+    (add_closed c.push_bytes-2.new.text _ 34 _ c.push_text.new.text _ named
+    (add c.push_text.new.text _ _ c.push_bytes-3.new.text _ c.in_ok-push_bytes-3.ensures
+    (add c.push_bytes-3.new.text _ _ c.push_number.new.text _ over
+    (add c.push_number.new.text _ _ c.push_bytes-4.new.text _ c.in_ok-push_bytes-4.ensures
+    (add c.push_bytes-4.new.text _ _ c.push_bytes-5.new.text _ words
+    (add c.push_bytes-5.new.text _ _ c.push_bytes-6.new.text _ c.in_ok-push_bytes-6.ensures
+    (add c.push_bytes-6.new.text _ _ c.push_number-2.new.text _ under
+    (add c.push_number-2.new.text _ _ c.push_bytes-7.new.text _ c.in_ok-push_bytes-7.ensures
+    (add c.push_bytes-7.new.text _ _ c.push_number-3.new.text _ slots last))))))))))))

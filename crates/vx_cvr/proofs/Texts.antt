@@ -1,1 +1,0 @@
--- Texts of values that are written one after the other.
