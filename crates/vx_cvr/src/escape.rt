@@ -99,10 +99,14 @@ pub fn push_text(text: &mut Bytes, given: &str) -> Result<(), OutOfMemory>
     }
 }
 
-/// Adds a number.
+/// Adds a number. Most numbers of a report have one digit.
+#[tactic(auto, using(std::proofs::lemmas::Fmt::decimal_digit))]
 pub fn push_number(text: &mut Bytes, number: u64) -> Result<(), OutOfMemory>
     ensures { OnOk result (text.new ≡ text.old ++ decimal number) }
 {
+    if number < 10 {
+        return text.push(b'0' + number as u8);
+    }
     let mut buffer = Buffer::new();
     text.extend_from_slice(buffer.format(number).as_bytes())
 }
