@@ -1,9 +1,9 @@
 -- Laws of packed rows that are made tile by tile.
-use Rattle.std.proofs.Common.{◌≡◌, ◌+◌, ◌-◌, ◌*◌, ◌/◌, ◌<◌, ◌≤◌, ℕ, zero, suc, min, Bool, false, List, [], ◌∷◌, ◌++◌, map, length, take, drop, get_or, nat_lt, refl, ap, sym, ◌∙◌, arith, inl, inr, append_assoc, append-nil, ap₂, pos, length-take, length-drop}
+use Rattle.std.proofs.Common.{◌≡◌, ◌+◌, ◌-◌, ◌*◌, ◌/◌, ◌<◌, ◌≤◌, ℕ, zero, suc, min, Bool, false, List, [], ◌∷◌, ◌++◌, map, length, take, drop, get_or, nat_lt, replicate, ◌^◌, refl, ap, sym, ◌∙◌, arith, inl, inr, append_assoc, append-nil, ap₂, pos, length-take, length-drop, length-append}
 use Rattle.std.specs.List.{range_with_len, flat_map}
 use Rattle.std.proofs.lemmas.Bool.{cases_lt, lt-ltb, ltb-true}
-use Rattle.std.proofs.lemmas.List.{get_or_past, get_or-take, get_or-drop, get_or-map, take-map, drop-map, flat_map_more, take_more}
-use Rattle.std.proofs.lemmas.List.FromFn.{map-range_with_len_more, length-map-range_with_len, get_or-map-range_with_len}
+use Rattle.std.proofs.lemmas.List.{get_or_past, get_or_append_left, get_or-append_right, get_or-replicate, length-replicate, map-append, get_or-take, get_or-drop, get_or-map, take-map, drop-map, flat_map_more, take_more}
+use Rattle.std.proofs.lemmas.List.FromFn.{take-map-range_with_len, map-range_with_len_more, length-map-range_with_len, get_or-map-range_with_len}
 use Rattle.vx_base.proofs.Booleans.{same-bool}
 use Rattle.vx_plane.proofs.Pages.{map-same, row_at, length-rows_of}
 use Rattle.vx_bits.specs.Packed.{packed_byte, packed_row, stride_of}
@@ -34,46 +34,53 @@ packed_byte-same one other k m same =
 pub part_at : {X : Type 0} (n start : ℕ) (row : List X) (i : ℕ) (d : X) → i < n → get_or (take n (drop start row)) i d ≡ get_or row (start + i) d
 part_at n start row i d h = get_or-take n (drop start row) i d h ∙ get_or-drop start row i d
 
--- the same where the part ends with the row
-pub part_or_past : {X : Type 0} (n start : ℕ) (row : List X) (i : ℕ) (d : X) → (n ≤ i → length row ≤ start + i)
-    → get_or (take n (drop start row)) i d ≡ get_or row (start + i) d
-part_or_past n start row i d past = elim (cases_lt i n) [
-  | inl h ↦ part_at n start row i d h
-  | inr h ↦
-      get_or_past (take n (drop start row)) i d (omega (arith, length-take n (drop start row)))
-      ∙ sym (get_or_past row (start + i) d (past h))
-]
-
--- what is below in a part is the part of what is below
-below-part : (half n start : ℕ) (pixels : List ℕ) → below half (take n (drop start pixels)) ≡ take n (drop start (below half pixels))
-below-part half n start pixels =
-    sym (take-map (λ value. nat_lt value half) n (drop start pixels))
-    ∙ ap (take n) (sym (drop-map (λ value. nat_lt value half) start pixels))
-
 pub length-below : (half : ℕ) (pixels : List ℕ) → length (below half pixels) ≡ length pixels
 length-below half [] = refl
 length-below half (value ∷ rest) = ap (λ n. suc n) (length-below half rest)
 
--- the byte of eight pixels of a tile's row, or of the last ones
-pub packed_byte-part : (half k end : ℕ) (pixels : List ℕ) → end ≡ min (8 * k + 8) (length pixels)
-    → packed_byte (below half (take (end - 8 * k) (drop (8 * k) pixels))) 0 ≡ packed_byte (below half pixels) k
-packed_byte-part half k end pixels ends =
-    ap (λ row. packed_byte row 0) (below-part half (end - 8 * k) (8 * k) pixels)
-    ∙ packed_byte-same (take (end - 8 * k) (drop (8 * k) (below half pixels))) (below half pixels) 0 k
-    (λ i h.
-    ap (λ n. get_or (take (end - 8 * k) (drop (8 * k) (below half pixels))) n false) (omega arith)
-    ∙ part_or_past (end - 8 * k) (8 * k) (below half pixels) i false (λ past. omega (arith, length-below half pixels)))
+-- what is behind a row of pixels is light
+light_behind : (pixels : List ℕ) (half m : ℕ) → half < 2 ^ 8 → length pixels ≤ m
+    → get_or (below half (pixels ++ drop (length pixels) (replicate 64 255))) m false ≡ false
+light_behind pixels half m byte behind =
+    let all : List ℕ = replicate 64 255 in
+    let rest : List ℕ = drop (length pixels) all in
+    let light : nat_lt 255 half ≡ false = same-bool (nat_lt 255 half) false (λ e. absurd (omega (arith, ltb-true 255 half e))) (λ e. absurd cc) in
+    elim (cases_lt m (length (pixels ++ rest))) [
+      | inl h ↦
+          get_or-map (λ value. nat_lt value half) (pixels ++ rest) m 0 false h
+          ∙ (ap (λ value. nat_lt value half)
+          (get_or-append_right pixels rest (length pixels) m 0 refl behind
+          ∙ (get_or-drop (length pixels) all (m - length pixels) 0
+          ∙ get_or-replicate 64 (length pixels + (m - length pixels)) 255 0
+          (omega (arith, length-append pixels rest, length-drop (length pixels) all, length-replicate {A = ℕ} 64 255))))
+          ∙ light)
+      | inr h ↦ get_or_past (below half (pixels ++ rest)) m false (omega (arith, length-below half (pixels ++ rest)))
+    ]
 
--- one byte more
-pub bytes_more : (front before after : List ℕ) (row : List Bool) (k byte : ℕ) → before ≡ front ++ map (packed_byte row) (range_with_len 0 k)
-    → after ≡ before ++ byte ∷ [] → byte ≡ packed_byte row k → after ≡ front ++ map (packed_byte row) (range_with_len 0 (k + 1))
-bytes_more front before after row k byte is_before is_after is =
-    is_after
-    ∙ (ap (λ s. s ++ byte ∷ []) is_before
-    ∙ (append_assoc front (map (packed_byte row) (range_with_len 0 k)) (byte ∷ [])
-    ∙ ap (λ s. front ++ s)
-    (ap (λ b. map (packed_byte row) (range_with_len 0 k) ++ b ∷ []) is
-    ∙ sym (map-range_with_len_more (packed_byte row) 0 k k (omega arith)))))
+-- a pixel of a row that is filled up with light ones
+filled_pixel : (pixels : List ℕ) (half m : ℕ) → half < 2 ^ 8
+    → get_or (below half (pixels ++ drop (length pixels) (replicate 64 255))) m false ≡ get_or (below half pixels) m false
+filled_pixel pixels half m byte = elim (cases_lt m (length pixels)) [
+  | inl h ↦
+      ap (λ row. get_or row m false) (map-append (λ value. nat_lt value half) pixels (drop (length pixels) (replicate 64 255)))
+      ∙ get_or_append_left (below half pixels) (below half (drop (length pixels) (replicate 64 255))) false m (omega (arith, length-below half pixels))
+  | inr h ↦
+      light_behind pixels half m byte h ∙ sym (get_or_past (below half pixels) m false (omega (arith, length-below half pixels)))
+]
+
+-- the bytes of a tile's row that is filled up with light pixels
+pub filled_row : (pixels : List ℕ) (half : ℕ) → half < 2 ^ 8 → length pixels ≤ 64
+    → take (stride_of (length pixels)) (packed_row (below half (pixels ++ drop (length pixels) (replicate 64 255)))) ≡ packed_row (below half pixels)
+unfolding packed_row
+filled_row pixels half byte most =
+    let rest : List ℕ = drop (length pixels) (replicate 64 255) in
+    let row : List Bool = below half (pixels ++ rest) in
+    let within : stride_of (length pixels) ≤ stride_of (length row) = omega (arith, length-below half (pixels ++ rest), length-append pixels rest) in
+    let long : stride_of (length pixels) ≡ stride_of (length (below half pixels)) = ap stride_of (sym (length-below half pixels)) in
+    take-map-range_with_len (packed_byte row) 0 (stride_of (length row)) (stride_of (length pixels)) within
+    ∙ (map-same (packed_byte row) (packed_byte (below half pixels)) (stride_of (length pixels))
+    (λ k h. packed_byte-same row (below half pixels) k k (λ i l. filled_pixel pixels half (8 * k + i) byte))
+    ∙ ap (λ n. map (packed_byte (below half pixels)) (range_with_len 0 n)) long)
 
 -- numbers of a range and those behind it
 pub map-range-add : (f : ℕ → ℕ) (m n : ℕ) → map f (range_with_len 0 (m + n)) ≡ map f (range_with_len 0 m) ++ map (λ k. f (m + k)) (range_with_len 0 n)
