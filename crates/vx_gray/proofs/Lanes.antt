@@ -1,5 +1,5 @@
 -- A mask of sixty-four pixels, last first, is their packed row, byte by byte from its top.
-use Rattle.std.proofs.Common.{◌≡◌, ℕ, zero, suc, ◌+◌, ◌-◌, ◌*◌, ◌/◌, ◌%◌, ◌^◌, ◌<◌, ◌≤◌, ◌++◌, Bool, true, false, cond, List, map, length, take, get_or, nat_lt, refl, ap, ap₂, sym, ◌∙◌, arith, inl, inr, length-take, w64}
+use Rattle.std.proofs.Common.{◌≡◌, ℕ, zero, suc, ◌+◌, ◌*◌, ◌/◌, ◌%◌, ◌^◌, ◌<◌, ◌≤◌, ◌++◌, Bool, true, false, cond, List, map, length, take, get_or, nat_lt, refl, ap, ap₂, sym, ◌∙◌, arith, inl, inr, length-take, w64}
 use Rattle.std.specs.Int.{to_be_bytes, from_be_bytes}
 use Rattle.std.specs.List.{range_with_len}
 use Rattle.std.proofs.lemmas.Bool.{cases_lt}
@@ -9,8 +9,7 @@ use Rattle.std.proofs.lemmas.Nat.{be_bytes_8}
 use Rattle.vx_plane.specs.Count.{one_if}
 use Rattle.vx_bits.specs.Packed.{packed_byte, packed_row}
 use Rattle.vx_gray.specs.Packing.{below}
-use lib.Lanes.{top, mask_l, zip2, pick_l}
-use lib.ListN.{replicate}
+use lib.Lanes.{top}
 
 -- what a mask tells of a lane in which a test was made
 abbrev pub lane : Bool → ℕ
@@ -62,17 +61,16 @@ byte_more bit n = omega arith
 
 byte_at_most : (row : List Bool) (k : ℕ) → packed_byte row k ≤ 255
 byte_at_most row k =
-    omega
-    (
-    arith,
-    one_at_most (get_or row (8 * k) false),
-    one_at_most (get_or row (8 * k + 1) false),
-    one_at_most (get_or row (8 * k + 2) false),
-    one_at_most (get_or row (8 * k + 3) false),
-    one_at_most (get_or row (8 * k + 4) false),
-    one_at_most (get_or row (8 * k + 5) false),
-    one_at_most (get_or row (8 * k + 6) false),
-    one_at_most (get_or row (8 * k + 7) false),
+    omega (
+      arith,
+      one_at_most (get_or row (8 * k) false),
+      one_at_most (get_or row (8 * k + 1) false),
+      one_at_most (get_or row (8 * k + 2) false),
+      one_at_most (get_or row (8 * k + 3) false),
+      one_at_most (get_or row (8 * k + 4) false),
+      one_at_most (get_or row (8 * k + 5) false),
+      one_at_most (get_or row (8 * k + 6) false),
+      one_at_most (get_or row (8 * k + 7) false),
     )
 
 -- the bytes of a row of sixty-four pixels
@@ -105,8 +103,18 @@ number_is row =
     let most : (k : ℕ) → packed_byte row k ≤ 255 = byte_at_most row in
     let none : number_of (bit_of row) 0 ≡ 0 = number_of_none (bit_of row) in
     let all : number_of (bit_of row) 64 ≡ 256 * (256 * (256 * (256 * (256 * (256 * (256 * packed_byte row 0 + packed_byte row 1) + packed_byte row 2) + packed_byte row 3) + packed_byte row 4) + packed_byte row 5) + packed_byte row 6) + packed_byte row 7 =
-    omega (arith, none, byte_more (bit_of row) 0, byte_more (bit_of row) 8, byte_more (bit_of row) 16, byte_more (bit_of row) 24,
-    byte_more (bit_of row) 32, byte_more (bit_of row) 40, byte_more (bit_of row) 48, byte_more (bit_of row) 56) in
+    omega (
+      arith,
+      none,
+      byte_more (bit_of row) 0,
+      byte_more (bit_of row) 8,
+      byte_more (bit_of row) 16,
+      byte_more (bit_of row) 24,
+      byte_more (bit_of row) 32,
+      byte_more (bit_of row) 40,
+      byte_more (bit_of row) 48,
+      byte_more (bit_of row) 56,
+    ) in
     ap (λ n. n % 2 ^ 64) all
     ∙ (joined _ _ _ _ _ _ _ _ (most 0) (most 1) (most 2) (most 3) (most 4) (most 5) (most 6) (most 7)
     ∙ omega arith)

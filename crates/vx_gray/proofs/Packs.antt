@@ -2,7 +2,7 @@
 use Rattle.std.proofs.Common.{◌≡◌, ◌+◌, ◌-◌, ◌*◌, ◌/◌, ◌<◌, ◌≤◌, ℕ, zero, suc, min, Bool, false, List, [], ◌∷◌, ◌++◌, map, length, take, drop, get_or, nat_lt, replicate, ◌^◌, refl, ap, sym, ◌∙◌, arith, inl, inr, append_assoc, append-nil, ap₂, pos, length-take, length-drop, length-append}
 use Rattle.std.specs.List.{range_with_len, flat_map}
 use Rattle.std.proofs.lemmas.Bool.{cases_lt, lt-ltb, ltb-true}
-use Rattle.std.proofs.lemmas.List.{get_or_past, get_or_append_left, get_or-append_right, get_or-replicate, length-replicate, map-append, get_or-take, get_or-drop, get_or-map, take-map, drop-map, flat_map_more, take_more}
+use Rattle.std.proofs.lemmas.List.{get_or_past, get_or_append_left, get_or-append_right, get_or-replicate, length-replicate, map-append, get_or-take, get_or-drop, get_or-map, flat_map_more, take_more}
 use Rattle.std.proofs.lemmas.List.FromFn.{take-map-range_with_len, map-range_with_len_more, length-map-range_with_len, get_or-map-range_with_len}
 use Rattle.vx_base.proofs.Booleans.{same-bool}
 use Rattle.vx_plane.proofs.Pages.{map-same, row_at, length-rows_of}

@@ -31,6 +31,15 @@ greatest_reached (suc n) i f h =
       | inr l ↦ let same : f i ≡ f n = ap f (omega arith) in omega arith
     ]
 
+-- the greatest of some numbers and of those behind them
+pub greatest-add : (m k : ℕ) (f : ℕ → ℕ) → greatest (m + k) f ≡ max (greatest m f) (greatest k (λ i. f (m + i)))
+greatest-add m zero f = ap (λ n. greatest n f) (omega arith) ∙ sym (max-zero (greatest m f))
+greatest-add m (suc k) f =
+    let last : m + suc k ≡ m + k + 1 = omega arith in
+    ap (λ n. greatest n f) last
+    ∙ (greatest_more (m + k) f
+    ∙ (ap (λ x. max x (f (m + k))) (greatest-add m k f) ∙ omega arith))
+
 -- numbers that are 0 at the end don't count
 pub greatest-cut : (m k : ℕ) (f : ℕ → ℕ) → ((i : ℕ) → m ≤ i → i < m + k → f i ≡ 0) → greatest (m + k) f ≡ greatest m f
 greatest-cut m zero f none = ap (λ n. greatest n f) (omega arith)
@@ -126,13 +135,33 @@ tops_more gray first v n old seen row new order inside are same is long all rais
           ∙ ap (λ k. column_top gray first k u) (sym one)));
     })
 
--- the tops of all rows of a band and its neighbours, cut at the frame
+-- the tops of the rows of a band, cut at the frame
 pub tops_all : (gray : Gray) (first all v : ℕ) (tops : List ℕ) → v - first ≡ min (first + all) gray.height - first
     → AreColumnTops gray first (v - first) tops → AreColumnTops gray first all tops
 tops_all gray first all v tops end are = record {
   size = are.size;
   values = λ u. are.values u ∙ sym (column-cut gray first (v - first) all u (omega arith) end);
 }
+
+-- the tops of some rows, raised by those of the rows below them
+pub tops_joined : (gray : Gray) (first rows start more all n : ℕ) (old seen below lower new : List ℕ) → start ≡ first + rows → all ≡ rows + more
+    → AreColumnTops gray first rows old → seen ≡ old → AreColumnTops gray start more below → lower ≡ below → length new ≡ length seen
+    → n ≡ length seen → IsRaised seen lower new → AreColumnTops gray first all (take n (new ++ drop (length new) old))
+tops_joined gray first rows start more all n old seen below lower new starts whole are same behind is long size raised =
+    subst (AreColumnTops gray first all) (sym (ap (λ k. take k (new ++ drop (length new) old)) (size ∙ sym long)
+    ∙ take-append_seam new (drop (length new) old)))
+    (record {
+      size = long ∙ ap length same ∙ are.size;
+      values = λ u.
+          raised u
+          ∙ (ap₂ max (ap (λ s. get_or s u 0) same ∙ are.values u)
+          (ap (λ s. get_or s u 0) is
+          ∙ (behind.values u
+          ∙ greatest-same more (λ j. value_at gray u (start + j)) (λ j. value_at gray u (first + (rows + j)))
+          (λ j h. ap (value_at gray u) (omega arith))))
+          ∙ (sym (greatest-add rows more (λ j. value_at gray u (first + j)))
+          ∙ ap (λ k. column_top gray first k u) (sym whole)));
+    })
 
 -- one tile's number more
 pub halves_more : (f : ℕ → ℕ) (n half : ℕ) (halves : List ℕ) → length halves ≡ n → half ≡ f n → ((a : ℕ) → a < n → get_or halves a 0 ≡ f a) → (a : ℕ)

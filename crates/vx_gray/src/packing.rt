@@ -14,7 +14,10 @@ fn whole_tile(pixels: &[u8], half: u8) -> [u8; 8]
     ensures { result ≡ packed_row (below half pixels.now) }
 {
     let last_first = u8x64::from_slice(pixels).reverse();
-    last_first.simd_lt(u8x64::splat(half)).to_bitmask().to_be_bytes()
+    last_first
+        .simd_lt(u8x64::splat(half))
+        .to_bitmask()
+        .to_be_bytes()
 }
 
 /// Appends the packed pixels of a tile's row: those with a value below a number are dark. After want of

@@ -16,7 +16,7 @@ are_raster gray down rows end is =
 
 pub from_rows-requires-clause-size : goal.from_rows-requires-clause-size
 from_rows-requires-clause-size c =
-    ap length (are_raster c.args.gray.now c.loop-down.down c.loop-down.rows.items (omega arith) c.loop-down.invariant)
+    ap length (are_raster c.args.gray.now c.loop-down.down c.loop-down.rows.items (omega arith) c.loop-down.invariant.packed)
     ∙ c.rasters_show_their_pages.ensures.size (bits_of c.args.gray.now)
     (sym (page_of-dark_at c.args.gray.now.width c.args.gray.now.height (dark_in c.args.gray.now)))
     ∙ ap₂ (λ h w. h * stride_of w) (sym c.height.ensures.value) (sym c.width-2.ensures.value)
@@ -26,6 +26,6 @@ returns c =
     c.from_rows.ensures
     ∙ (ap₂ (λ w h. packed_page w h c.loop-down.rows.items) c.width-2.ensures.value c.height.ensures.value
     ∙ (ap (packed_page c.args.gray.now.width c.args.gray.now.height)
-    (are_raster c.args.gray.now c.loop-down.down c.loop-down.rows.items (omega arith) c.loop-down.invariant)
+    (are_raster c.args.gray.now c.loop-down.down c.loop-down.rows.items (omega arith) c.loop-down.invariant.packed)
     ∙ c.rasters_show_their_pages.ensures.shows (bits_of c.args.gray.now)
     (sym (page_of-dark_at c.args.gray.now.width c.args.gray.now.height (dark_in c.args.gray.now)))))

@@ -1,6 +1,6 @@
 use Rattle.std.proofs.Common.{◌≡◌, ◌+◌, ◌/◌, ◌<◌, ℕ, length, get_or, List}
 use Rattle.vx_gray.specs.Gray.{Gray, top_of}
-use Rattle.vx_gray.proofs.near.halves.Given as goal
+use Rattle.vx_gray.proofs.near.halves_of.Given as goal
 
 -- the halves of the first tiles of a band
 pub record AreFirstHalves (gray : Gray) (down across : ℕ) (halves : List ℕ) : Type 0 where

@@ -1,8 +1,7 @@
 use Rattle.std.proofs.Common.{◌≡◌, ◌+◌, ◌*◌, ◌/◌, ◌%◌, ◌<◌, ℕ, List, length, get_or, min, length-append, refl, ap, sym, subst, ◌∙◌, arith}
-use Rattle.vx_gray.specs.Gray.{near_start, near_size, top_of}
-use Rattle.vx_gray.specs.Near.{AreColumnTops}
+use Rattle.vx_gray.specs.Gray.{top_of}
 use Rattle.vx_gray.proofs.Tops.{top_is, halves_more}
-use Rattle.vx_gray.proofs.near.halves.Goals as goal
+use Rattle.vx_gray.proofs.near.halves_of.Goals as goal
 
 -- half of the greatest, rounded up
 half_is : (half top most : ℕ) → half ≡ top / 2 + top % 2 → top ≡ most → half ≡ (most + 1) / 2
@@ -16,8 +15,7 @@ loop-across-preserved c = record {
       (halves_more (λ a. (top_of c.args.gray.now a c.args.down + 1) / 2) c.loop-across.across _ c.loop-across.halves.items c.loop-across.invariant.size
       (half_is _ c.greatest-top.result (top_of c.args.gray.now c.loop-across.across c.args.down) refl
       (c.greatest-top.ensures
-      ∙ top_is c.args.gray.now c.args.down c.loop-across.across c.near_start.result c.near_end.result c.deref.result.now
-      (subst (AreColumnTops c.args.gray.now (near_start c.args.down) (near_size c.args.down)) (sym c.deref.ensures.value) c.in_ok-tops.ensures)
+      ∙ top_is c.args.gray.now c.args.down c.loop-across.across c.near_start.result c.near_end.result c.args.tops.now c.requires.tops
       c.near_start.ensures (c.near_end.ensures ∙ ap (min (64 * (c.loop-across.across + 2))) c.width-width.ensures.value) (omega arith)))
       c.loop-across.invariant.values);
 }
