@@ -10,7 +10,7 @@ use Rattle.vx_io.specs.Outside.{Files}
 use Rattle.vx_pbm.specs.declared.fault.PbmFault.{PbmFault}
 use Rattle.vx_pbm.specs.Images.{images_of}
 use Rattle.vx_command.specs.declared.halt.Halt.{Halt}
-use Rattle.vx_command.specs.Acts.{Answer, Outcome, goes_on, input_limit, input_of}
+use Rattle.vx_command.specs.Acts.{Answer, Outcome, Write, after, goes_on, input_limit, input_of}
 use Rattle.vx_command.specs.Elections.{election_in, once_planned, plans_in}
 use Rattle.vx_command.specs.Images.{unless_faulty}
 use Rattle.vx_command.specs.Texts.{texts_of}
@@ -23,7 +23,8 @@ use Rattle.vx_desk.specs.Laws.{DataIsNoMarkup}
 use Rattle.vx_desk.specs.Lines.{first_text, last_text, sheet_text}
 use Rattle.vx_desk.specs.Page.{head, tail}
 use Rattle.vx_command_desk.specs.Laws.{PagesShowTheirEnd, ShowsHowItEnded}
-use Rattle.vx_command_desk.specs.Outcome.{SheetTexts, closing_text, opening_text, page_outcome, scan_outcome, scans_outcome, with_images}
+use Rattle.vx_walk.specs.Walk.{SheetStep, scan_outcome, scans_outcome, with_images}
+use Rattle.vx_command_desk.specs.Outcome.{closing_text, end_outcome, opening_text, page_outcome, sheet_step}
 
 joined : (xs ys : List ℕ) → HasNoMarkup xs → HasNoMarkup ys → HasNoMarkup (xs ++ ys)
 joined xs ys first second = rw (list_any-append is_markup xs ys, first) second
@@ -50,35 +51,39 @@ with_more more clean (Ok done) text goes = record {
 }
 with_more more clean (Err cause) text goes = joined more text clean goes
 
-module _ (text : SheetTexts) (clean : (number : ℕ) (first second : Page) → HasNoMarkup (text number first second)) where
-  images_go : (sheets : ℕ) (images : List Page) (rest : ℕ → List Page → Outcome) → ((now : ℕ) (left : List Page) → GoesSo (rest now left)) → GoesSo (with_images text sheets images rest)
-  images_go sheets [] rest goes = goes sheets []
-  images_go sheets (single ∷ []) rest goes = goes sheets (single ∷ [])
-  images_go sheets (first ∷ (second ∷ images)) rest goes =
-      let behind : Outcome = with_images text (sheets + 1) images rest in
-      with_more (text (sheets + 1) first second) (clean (sheets + 1) first second) behind.ends (texts_of behind) (images_go (sheets + 1) images rest goes)
+-- the texts of sheets, of a scan with a name
+abbrev SheetTexts : Type 0
+SheetTexts = List ℕ → ℕ → Page → Page → List ℕ
+
+-- a sheet's text is written
+abbrev writes : SheetTexts → List ℕ → SheetStep
+writes text scan number first second next = after (Write (text scan number first second) ∷ []) next
+
+module _ (text : SheetTexts) (clean : (scan : List ℕ) (number : ℕ) (first second : Page) → HasNoMarkup (text scan number first second)) where
+  images_go : (scan : List ℕ) (sheets : ℕ) (images : List Page) (rest : ℕ → List Page → Outcome) → ((now : ℕ) (left : List Page) → GoesSo (rest now left))
+      → GoesSo (with_images (writes text scan) sheets images rest)
+  images_go scan sheets [] rest goes = goes sheets []
+  images_go scan sheets (single ∷ []) rest goes = goes sheets (single ∷ [])
+  images_go scan sheets (first ∷ (second ∷ images)) rest goes =
+      let behind : Outcome = with_images (writes text scan) (sheets + 1) images rest in
+      with_more (text scan (sheets + 1) first second) (clean scan (sheets + 1) first second) behind.ends (texts_of behind) (images_go scan (sheets + 1) images rest goes)
 
   unless_goes : (word : ℕ) (fault : Option PbmFault) (next : Outcome) → GoesSo next → GoesSo (unless_faulty word fault next)
   unless_goes word None next goes = goes
   unless_goes word (Some fault) next goes = refl
 
-module _ (text : List ℕ → SheetTexts) (clean : (scan : List ℕ) (number : ℕ) (first second : Page) → HasNoMarkup (text scan number first second))
-    (closing : ℕ → List ℕ) (closes : (sheets : ℕ) → Tailed (closing sheets)) (files : Files) where
-  scans_go : (word sheets : ℕ) (waiting : List Page) (names : List (List ℕ)) → GoesSo (scans_outcome text closing files word sheets waiting names)
-  scans_go word sheets waiting [] = record {
-    lines = (closes sheets).lines;
-    is = append-nil (closing sheets) ∙ (closes sheets).is;
-    clean = (closes sheets).clean;
-  }
-  scans_go word sheets waiting (name ∷ names) =
-      by (input_of word input_limit (files name)) (λ now left. scans_go (word + 1) now left names)
-    where
-      by : (given : Result (List ℕ) Halt) → ((now : ℕ) (left : List Page) → GoesSo (scans_outcome text closing files (word + 1) now left names))
-          → GoesSo (goes_on given (λ bytes. scan_outcome (text name) word sheets waiting (images_of bytes) (λ now left. scans_outcome text closing files (word + 1) now left names)))
-      by (Err cause) goes = refl
-      by (Ok bytes) goes =
-          images_go (text name) (clean name) sheets (waiting ++ (images_of bytes).pages) _
-          (λ now left. unless_goes (text name) (clean name) word (images_of bytes).fault (scans_outcome text closing files (word + 1) now left names) (goes now left))
+  module _ (ending : ℕ → List Page → Outcome) (ends : (sheets : ℕ) (left : List Page) → GoesSo (ending sheets left)) (files : Files) where
+    scans_go : (word sheets : ℕ) (waiting : List Page) (names : List (List ℕ)) → GoesSo (scans_outcome (writes text) ending files word sheets waiting names)
+    scans_go word sheets waiting [] = ends sheets waiting
+    scans_go word sheets waiting (name ∷ names) =
+        by (input_of word input_limit (files name)) (λ now left. scans_go (word + 1) now left names)
+      where
+        by : (given : Result (List ℕ) Halt) → ((now : ℕ) (left : List Page) → GoesSo (scans_outcome (writes text) ending files (word + 1) now left names))
+            → GoesSo (goes_on given (λ bytes. scan_outcome (writes text name) word sheets waiting (images_of bytes) (λ now left. scans_outcome (writes text) ending files (word + 1) now left names)))
+        by (Err cause) goes = refl
+        by (Ok bytes) goes =
+            images_go name sheets (waiting ++ (images_of bytes).pages) _
+            (λ now left. unless_goes word (images_of bytes).fault (scans_outcome (writes text) ending files (word + 1) now left names) (goes now left))
 
 -- a page whose head stands before
 with_head : (first : List ℕ) → HasNoMarkup first → (ends : Answer) (text : List ℕ) → Goes ends text → ShowsHowItEnded ends ((head ++ first) ++ text)
@@ -97,9 +102,11 @@ with_head first clean (Err cause) text goes =
     })
 
 module _ (law : DataIsNoMarkup) (batch : List ℕ) (scans : List (List ℕ)) (files : Files) where
-  closes : (election : Election) (events : List Event) (sheets : ℕ) → Tailed (closing_text election events batch sheets)
+  closes : (election : Election) (events : List Event) (sheets : ℕ) (left : List Page) → GoesSo (end_outcome election events batch sheets left)
   unfolding closing_text
-  closes election events sheets = record { lines = last_text election events batch sheets; is = refl; clean = law.last election events batch sheets }
+  closes election events sheets left =
+      let last : List ℕ = last_text election events batch sheets in
+      record { lines = last; is = append-nil (last ++ tail); clean = law.last election events batch sheets }
 
   abbrev Shows : Outcome → Type 0
   Shows outcome = ShowsHowItEnded outcome.ends (texts_of outcome)
@@ -107,10 +114,10 @@ module _ (law : DataIsNoMarkup) (batch : List ℕ) (scans : List (List ℕ)) (fi
   page_shows : (election : Election) (events : List Event) → Shows (page_outcome election batch scans files events)
   unfolding opening_text
   page_shows election events =
-      let behind : Outcome = scans_outcome (sheet_text election events batch) (closing_text election events batch) files 3 0 [] scans in
+      let behind : Outcome = scans_outcome (sheet_step election events batch) (end_outcome election events batch) files 3 0 [] scans in
       with_head (first_text election batch) (law.first election batch) behind.ends (texts_of behind)
       (scans_go (sheet_text election events batch) (λ scan number first second. law.sheet election events batch scan number first second)
-      (closing_text election events batch) (closes election events) files 3 0 [] scans)
+      (end_outcome election events batch) (closes election events) files 3 0 [] scans)
 
   read_shows : (election : Election) (journal : Result Journal Halt) → Shows (goes_on journal (λ given. page_outcome election batch scans files given.center.events))
   read_shows election (Err cause) = inl refl

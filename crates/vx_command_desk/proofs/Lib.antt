@@ -1,5 +1,3 @@
-pub mod ImageActs
-pub mod InputActs
-pub mod ScanActs
+pub mod SheetActs
 pub mod Silent
 mod Ends

@@ -1,5 +1,3 @@
-pub mod First
 pub mod Outcome
 pub mod Setting
-pub mod Steps
 pub mod Laws

@@ -11,7 +11,6 @@ ghost use Rattle.vx_command_desk.specs.Outcome.{desk_outcome, page_outcome};
 ghost use Rattle.vx_command_desk.specs.Setting.{IsSet};
 
 use crate::page::open_page;
-use crate::scans::walk_scans;
 use crate::setting::Setting;
 use std::alloc::Global;
 use vx_center::Center;
@@ -21,6 +20,10 @@ use vx_io::{Inputs, Keeper, Sink};
 use vx_journal::{drop_journal, journals_in_order, read_journal};
 use vx_json::Texts;
 use vx_layout::{CardPlans, drop_plans};
+use vx_walk::walk_scans;
+
+/// The word of the first scan.
+const FIRST_SCAN: u32 = 3;
 
 /// What stays the same over the scans.
 fn set_up<'a>(
@@ -42,23 +45,22 @@ fn set_up<'a>(
         plans,
         center,
         batch,
-        scan: "",
     }
 }
 
 /// Writes the page.
 fn write_page<I: Inputs, S: Sink>(
     alloc: Global,
-    setting: &Setting<'_>,
+    setting: &mut Setting<'_>,
     scans: &Texts,
     inputs: &mut I,
     out: &mut S,
 ) -> Result<(), Halt>
-    requires set { IsSet setting.now }
+    requires set { IsSet setting.old }
     requires few { length scans.now ≤ 64 }
     ensures done { ForSome (I.held inputs.old) (λ files.
-        IsWritten (page_outcome setting.now.election.now setting.now.batch.now scans.now files
-        setting.now.center.now.events) (S.taken out.old) (S.taken out.new) result) }
+        IsWritten (page_outcome setting.old.election.now setting.old.batch.now scans.now files
+        setting.old.center.now.events) (S.taken out.old) (S.taken out.new) result) }
     ensures devices { TouchesInputsAndSink I.Inputs S.Sink inputs.old inputs.new out.old out.new result }
     ensures asked { Asks I.Inputs scans.now inputs.old inputs.new (is_ok result) }
     ensures late { writes_nothing false result ≡ false }
@@ -66,7 +68,7 @@ fn write_page<I: Inputs, S: Sink>(
     asks_in_order::<I>();
     acts_in_order();
     open_page(alloc, setting, out)?;
-    walk_scans(alloc, setting, scans.as_slice(), inputs, out)
+    walk_scans(alloc, setting, scans.as_slice(), FIRST_SCAN, inputs, out)
 }
 
 /// Reads the journal and writes the page.
@@ -96,8 +98,8 @@ fn desk_read<I: Inputs, S: Sink, K: Keeper>(
     asks_in_order::<I>();
     journals_in_order();
     let journal = read_journal(alloc, election, keeper)?;
-    let setting = set_up(election, plans, &journal.center, batch);
-    let done = write_page(alloc, &setting, scans, inputs, out);
+    let mut setting = set_up(election, plans, &journal.center, batch);
+    let done = write_page(alloc, &mut setting, scans, inputs, out);
     drop_journal(journal);
     done
 }

@@ -6,13 +6,11 @@
 #![tactic(auto)]
 
 mod command;
-mod images;
 mod laws;
 mod page;
-mod scans;
 mod setting;
 mod sheets;
-mod walked;
+mod work;
 
 pub use command::desk;
 pub use laws::pages_show_their_end;

@@ -2,13 +2,11 @@ use vx_center::Center;
 use vx_election_model::Election;
 use vx_layout::CardPlans;
 
-/// What stays the same over the images of a scan: the election with the plans of its cards, what the journal
-/// keeps, the batch, and the scan's name, which is empty before the first scan.
-#[derive(Clone, Copy)]
+/// What stays the same over the sheets: the election with the plans of its cards, what the journal keeps, and the
+/// batch.
 pub(crate) struct Setting<'a> {
     pub(crate) election: &'a Election,
     pub(crate) plans: &'a CardPlans,
     pub(crate) center: &'a Center<'a>,
     pub(crate) batch: &'a str,
-    pub(crate) scan: &'a str,
 }

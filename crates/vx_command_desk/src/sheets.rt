@@ -1,9 +1,8 @@
 ghost use Rattle.std.specs.Prelude.{◌≡◌, IfOk, false};
 ghost use Rattle.vx_sheet.specs.Reads.{IsReadOf};
-ghost use Rattle.vx_command.specs.Acts.{writing};
 ghost use Rattle.vx_command.specs.Devices.{TouchesSink, writes_nothing};
-ghost use Rattle.vx_command.specs.Done.{IsWritten};
-ghost use Rattle.vx_command_desk.specs.Setting.{IsSet, texts_of};
+ghost use Rattle.vx_walk.specs.Steps.{WalksSheet};
+ghost use Rattle.vx_command_desk.specs.Setting.{IsSet, step_of, text_in};
 
 use crate::setting::Setting;
 use std::alloc::Global;
@@ -40,12 +39,13 @@ fn read_both(
 fn read_sheet(
     alloc: Global,
     setting: &Setting<'_>,
+    scan: &str,
     number: u64,
     first: &BitView<'_>,
     second: &BitView<'_>,
 ) -> Result<Bytes, OutOfMemory>
     requires { IsSet setting.now }
-    ensures { IfOk result (λ text. text ≡ texts_of setting.now number first.now second.now) }
+    ensures { IfOk result (λ text. text ≡ text_in setting.now scan.now number first.now second.now) }
 {
     let (first_read, second_read) = read_both(alloc, setting, first, second)?;
     let room = first.rows().len().saturating_add(second.rows().len());
@@ -57,7 +57,7 @@ fn read_sheet(
         setting.plans,
         setting.center,
         setting.batch,
-        setting.scan,
+        scan,
         number,
         first,
         &first_read,
@@ -72,37 +72,39 @@ fn read_sheet(
 fn make_text(
     alloc: Global,
     setting: &Setting<'_>,
+    scan: &str,
     number: u64,
     first: &BitView<'_>,
     second: &BitView<'_>,
 ) -> Result<Bytes, OutOfMemory>
     requires { IsSet setting.now }
-    ensures { IfOk result (λ text. text ≡ texts_of setting.now number first.now second.now) }
+    ensures { IfOk result (λ text. text ≡ text_in setting.now scan.now number first.now second.now) }
 {
     if waits(setting.center, setting.batch, number) {
-        read_sheet(alloc, setting, number, first, second)
+        read_sheet(alloc, setting, scan, number, first, second)
     } else {
         Ok(Bytes::new(alloc))
     }
 }
 
-/// Writes the text of the sheet with a number, of its two images. Its memory is let go with it, since reading
+/// Writes the text of the sheet with a number, of its two images in the scan with a name. Its memory is let go with it, since reading
 /// the next sheet takes as much.
 pub(crate) fn write_sheet<S: Sink>(
     alloc: Global,
     setting: &Setting<'_>,
+    scan: &str,
     number: u64,
     first: &BitView<'_>,
     second: &BitView<'_>,
     out: &mut S,
 ) -> Result<(), Halt>
     requires set { IsSet setting.now }
-    ensures done { IsWritten (writing (texts_of setting.now number first.now second.now))
+    ensures done { WalksSheet (step_of setting.now scan.now number first.now second.now)
         (S.taken out.old) (S.taken out.new) result }
     ensures sink { TouchesSink S.Sink out.old out.new result }
     ensures late { writes_nothing false result ≡ false }
 {
     acts_in_order();
-    let text = make_text(alloc, setting, number, first, second)?;
+    let text = make_text(alloc, setting, scan, number, first, second)?;
     write_text(out, text.as_slice())
 }

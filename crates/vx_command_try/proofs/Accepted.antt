@@ -1,7 +1,7 @@
 -- What a `try` that did its work has read: sheets, two by two; and how a `count` of the same scans ends.
-use Rattle.std.proofs.Common.{◌≡◌, ℕ, ◌+◌, ◌*◌, Bool, true, false, cond, List, [], ◌∷◌, ◌++◌, map, length, Option, Some, None, Result, Ok, Err, refl, sym, ap, ap₂, subst, ◌∙◌, append_assoc, arith, length-append}
+use Rattle.std.proofs.Common.{◌≡◌, ℕ, ◌+◌, ◌-◌, ◌*◌, Bool, true, false, cond, List, [], ◌∷◌, ◌++◌, length, Option, Some, None, Result, Ok, Err, refl, sym, ap, ap₂, subst, ◌∙◌, append_assoc, arith, length-append}
 use Rattle.std.specs.Prelude.{nat_lt}
-use Rattle.std.proofs.lemmas.List.{append-nil, map-append}
+use Rattle.std.proofs.lemmas.List.{append-nil}
 use Rattle.vx_plane.specs.Plane.{Page}
 use Rattle.vx_election_model.specs.declared.election.Election.{Election}
 use Rattle.vx_events.specs.declared.event.Event.{Event}
@@ -10,6 +10,8 @@ use Rattle.vx_layout.specs.declared.plan.CardPlan.{CardPlan}
 use Rattle.vx_pbm.specs.declared.fault.PbmFault.{PbmFault}
 use Rattle.vx_pbm.specs.Images.{images_of}
 use Rattle.vx_rules.specs.declared.marks.SheetMarks.{SheetMarks}
+use Rattle.vx_scan_model.specs.declared.fault.PageFault.{PageFault}
+use Rattle.vx_scan_model.specs.declared.reading.PageReading.{PageReading}
 use Rattle.vx_scan_model.specs.Reading.{reading_of}
 use Rattle.vx_sheet.specs.declared.came.Came.{Came}
 use Rattle.vx_sheet.specs.Came.{sheet_read}
@@ -29,7 +31,8 @@ use Rattle.vx_command_count.specs.Outcome.{journal_outcome, read_next, with_imag
 use Rattle.vx_command_count.specs.Sheets.{counted_with}
 use Rattle.vx_command_try.specs.Laws.{Accepted, TriedSheetsAreAdded, sheet_lines}
 use Rattle.vx_command_try.specs.Lines.{sheet_line, tried_line}
-use Rattle.vx_command_try.specs.Outcome.{PageRead, scan_outcome, scans_outcome, sheet_outcome, try_outcome, with_reads}
+use Rattle.vx_command_try.specs.Outcome.{end_outcome, sheet_outcome, sheet_step, tried_outcome, try_outcome}
+use Rattle.vx_walk.specs.Walk as walk
 
 -- lines one after another
 lines-append : (number : ℕ) (xs ys : List SheetMarks) → sheet_lines number (xs ++ ys) ≡ sheet_lines number xs ++ sheet_lines (number + length xs) ys
@@ -72,71 +75,74 @@ AreTaken files word [] = Unit {0}
 AreTaken files word (name ∷ names) = IsTaken files word name × AreTaken files (word + 1) names
 
 module _ (election : Election) where
-  abbrev reads-of : List Page → List PageRead
-  reads-of images = map (reading_of election) images
+  abbrev images-tried : ℕ → List Page → (ℕ → List Page → Outcome) → Outcome
+  images-tried = walk.with_images (sheet_step election)
 
   -- a sheet is one whatever number its images have
-  any-number : (one other : ℕ) (first second : PageRead) (sheet : SheetMarks) → sheet_read election one first second ≡ Ok sheet → sheet_read election other first second ≡ Ok sheet
+  any-number : (one other : ℕ) (first second : Result PageReading PageFault) (sheet : SheetMarks) → sheet_read election one first second ≡ Ok sheet → sheet_read election other first second ≡ Ok sheet
   any-number one other (Err fault) second sheet is = absurd cc
   any-number one other (Ok first) (Err fault) sheet is = absurd cc
   any-number one other (Ok first) (Ok second) sheet is = is
 
   -- images were sheets, behind so many, but for what is left; and what comes next ends well
-  record AreRead (before : ℕ) (images : List Page) (rest : ℕ → List PageRead → Outcome) : Type 0 where
+  record AreRead (before : ℕ) (images : List Page) (rest : ℕ → List Page → Outcome) : Type 0 where
     sheets : List SheetMarks
     left : List Page
     now : ℕ
     counts : now ≡ before + length sheets
     are : (more : List Page) (others : List SheetMarks) → AreSheets election (left ++ more) others → AreSheets election (images ++ more) (sheets ++ others)
-    ends : (rest now (reads-of left)).ends ≡ Ok tt
-    told : texts_of (with_reads election before (reads-of images) rest) ≡ sheet_lines (before + 1) sheets ++ texts_of (rest now (reads-of left))
+    ends : (rest now left).ends ≡ Ok tt
+    told : texts_of (images-tried before images rest) ≡ sheet_lines (before + 1) sheets ++ texts_of (rest now left)
 
-  one-read : (first second : Page) (images : List Page) (before : ℕ) (rest : ℕ → List PageRead → Outcome) (read : Result SheetMarks Came)
-      → sheet_read election (2 * before + 1) (reading_of election first) (reading_of election second) ≡ read
-      → (sheet_outcome (before + 1) read (with_reads election (before + 1) (reads-of images) rest)).ends ≡ Ok tt
-      → ((with_reads election (before + 1) (reads-of images) rest).ends ≡ Ok tt → AreRead (before + 1) images rest)
+  one-read : (first second : Page) (images : List Page) (before : ℕ) (rest : ℕ → List Page → Outcome) (read : Result SheetMarks Came)
+      → sheet_read election (2 * (before + 1) - 1) (reading_of election first) (reading_of election second) ≡ read
+      → (sheet_outcome (before + 1) read (images-tried (before + 1) images rest)).ends ≡ Ok tt
+      → ((images-tried (before + 1) images rest).ends ≡ Ok tt → AreRead (before + 1) images rest)
       → AreRead before (first ∷ (second ∷ images)) rest
   one-read first second images before rest (Err came) is ends further = absurd cc
   one-read first second images before rest (Ok sheet) is ends further =
       let it : AreRead (before + 1) images rest = further ends in
-      let behind : List ℕ = texts_of (rest it.now (reads-of it.left)) in
+      let behind : List ℕ = texts_of (rest it.now it.left) in
       record {
         sheets = sheet ∷ it.sheets;
         left = it.left;
         now = it.now;
         counts = omega (arith, it.counts);
         are = λ more others they.
-            ((λ image. any-number (2 * before + 1) image (reading_of election first) (reading_of election second) sheet is), it.are more others they);
+            ((λ image. any-number (2 * (before + 1) - 1) image (reading_of election first) (reading_of election second) sheet is), it.are more others they);
         ends = it.ends;
         told =
-            ap (λ (some : Result SheetMarks Came). texts_of (sheet_outcome (before + 1) some (with_reads election (before + 1) (reads-of images) rest))) is
+            ap (λ (some : Result SheetMarks Came). texts_of (sheet_outcome (before + 1) some (images-tried (before + 1) images rest))) is
             ∙ ap (λ (more : List ℕ). sheet_line (before + 1) sheet ++ more) it.told
             ∙ sym (append_assoc (sheet_line (before + 1) sheet) (sheet_lines (before + 1 + 1) it.sheets) behind);
       }
 
-  images-read : (images : List Page) (before : ℕ) (rest : ℕ → List PageRead → Outcome) → (with_reads election before (reads-of images) rest).ends ≡ Ok tt → AreRead before images rest
+  images-read : (images : List Page) (before : ℕ) (rest : ℕ → List Page → Outcome) → (images-tried before images rest).ends ≡ Ok tt → AreRead before images rest
   images-read [] before rest ends =
       record { sheets = []; left = []; now = before; counts = omega arith; are = λ more others they. they; ends = ends; told = refl }
   images-read (single ∷ []) before rest ends =
       record { sheets = []; left = single ∷ []; now = before; counts = omega arith; are = λ more others they. they; ends = ends; told = refl }
   images-read (first ∷ (second ∷ images)) before rest ends =
-      one-read first second images before rest (sheet_read election (2 * before + 1) (reading_of election first) (reading_of election second)) refl ends
+      one-read first second images before rest (sheet_read election (2 * (before + 1) - 1) (reading_of election first) (reading_of election second)) refl ends
       (images-read images (before + 1) rest)
 
   module _ (files : Files) where
+    abbrev scans-tried : ℕ → ℕ → List Page → List (List ℕ) → Outcome
+    scans-tried = walk.scans_outcome (λ (scan : List ℕ). sheet_step election) end_outcome files
+
     -- the images of scans, behind some that were left, are sheets, and the text tells them
     record Scans (word before : ℕ) (left : List Page) (names : List (List ℕ)) : Type 0 where
       sheets : List SheetMarks
       are : (other : ℕ) → AreSheets election (left ++ images_in files other names) sheets
-      told : texts_of (scans_outcome election files word before (reads-of left) names) ≡ sheet_lines (before + 1) sheets ++ tried_line (before + length sheets)
+      told : texts_of (scans-tried word before left names) ≡ sheet_lines (before + 1) sheets ++ tried_line (before + length sheets)
       taken : AreTaken files word names
 
     -- what comes behind a scan
-    abbrev next-scans : ℕ → List (List ℕ) → ℕ → List PageRead → Outcome
-    next-scans word names now left = scans_outcome election files (word + 1) now left names
+    abbrev next-scans : ℕ → List (List ℕ) → ℕ → List Page → Outcome
+    next-scans word names now left = scans-tried (word + 1) now left names
 
-    abbrev scan-rest : ℕ → ℕ → List PageRead → List (List ℕ) → List ℕ → Outcome
-    scan-rest word before waiting names bytes = scan_outcome election word before waiting (images_of bytes) (next-scans word names)
+    abbrev scan-rest : ℕ → ℕ → List Page → List (List ℕ) → List ℕ → Outcome
+    scan-rest word before waiting names bytes = walk.scan_outcome (sheet_step election) word before waiting (images_of bytes) (next-scans word names)
 
     -- the images of a scan that was taken, and those behind it
     images-parted : (other : ℕ) (bytes : List ℕ) (left : List Page) (name : List ℕ) (names : List (List ℕ)) → input_of other input_limit (files name) ≡ Ok bytes → (images_of bytes).fault ≡ None
@@ -149,17 +155,15 @@ module _ (election : Election) where
 
     scan-read : (word before : ℕ) (left : List Page) (name : List ℕ) (names : List (List ℕ)) (given : Result (List ℕ) Halt)
         → input_of word input_limit (files name) ≡ given
-        → (goes_on given (scan-rest word before (reads-of left) names)).ends ≡ Ok tt
-        → ((now : ℕ) (over : List Page) → (next-scans word names now (reads-of over)).ends ≡ Ok tt → Scans (word + 1) now over names)
+        → (goes_on given (scan-rest word before left names)).ends ≡ Ok tt
+        → ((now : ℕ) (over : List Page) → (next-scans word names now over).ends ≡ Ok tt → Scans (word + 1) now over names)
         → Scans word before left (name ∷ names)
     scan-read word before left name names (Err cause) there ends further = absurd cc
     scan-read word before left name names (Ok bytes) there ends further =
         let pages : List Page = (images_of bytes).pages in
-        let rest : ℕ → List PageRead → Outcome = λ now over. unless_faulty word (images_of bytes).fault (next-scans word names now over) in
-        let parts : reads-of (left ++ pages) ≡ reads-of left ++ reads-of pages = map-append (reading_of election) left pages in
-        let EndsWell : List PageRead → Type 0 = λ reads. (with_reads election before reads rest).ends ≡ Ok tt in
-        let it : AreRead before (left ++ pages) rest = images-read (left ++ pages) before rest (subst EndsWell (sym parts) ends) in
-        let clean : NotFaulty word (images_of bytes).fault (next-scans word names it.now (reads-of it.left)) = not-faulty word (images_of bytes).fault (next-scans word names it.now (reads-of it.left)) it.ends in
+        let rest : ℕ → List Page → Outcome = λ now over. unless_faulty word (images_of bytes).fault (next-scans word names now over) in
+        let it : AreRead before (left ++ pages) rest = images-read (left ++ pages) before rest ends in
+        let clean : NotFaulty word (images_of bytes).fault (next-scans word names it.now it.left) = not-faulty word (images_of bytes).fault (next-scans word names it.now it.left) it.ends in
         let then : Scans (word + 1) it.now it.left names = further it.now it.left clean.ends in
         let next-number : it.now + 1 ≡ before + 1 + length it.sheets = omega (arith, it.counts) in
         let all : it.now + length then.sheets ≡ before + length (it.sheets ++ then.sheets) = omega (arith, it.counts, length-append it.sheets then.sheets) in
@@ -171,8 +175,7 @@ module _ (election : Election) where
               subst Are (sym (images-parted other bytes left name names (same-input word other (files name) bytes there) clean.none))
               (it.are (images_in files (other + 1) names) then.sheets (then.are (other + 1)));
           told =
-              ap (λ (some : Result (List ℕ) Halt). texts_of (goes_on some (scan-rest word before (reads-of left) names))) there
-              ∙ ap (λ (reads : List PageRead). texts_of (with_reads election before reads rest)) (sym parts)
+              ap (λ (some : Result (List ℕ) Halt). texts_of (goes_on some (scan-rest word before left names))) there
               ∙ it.told
               ∙ ap (λ (more : List ℕ). sheet_lines (before + 1) it.sheets ++ more) (clean.told ∙ then.told)
               ∙ sym (append_assoc (sheet_lines (before + 1) it.sheets) (sheet_lines (it.now + 1) then.sheets) last)
@@ -182,7 +185,7 @@ module _ (election : Election) where
           taken = (record { bytes = bytes; there = there; whole = clean.none }, then.taken);
         }
 
-    scans-read : (names : List (List ℕ)) (word before : ℕ) (left : List Page) → (scans_outcome election files word before (reads-of left) names).ends ≡ Ok tt → Scans word before left names
+    scans-read : (names : List (List ℕ)) (word before : ℕ) (left : List Page) → (scans-tried word before left names).ends ≡ Ok tt → Scans word before left names
     scans-read [] word before [] ends =
         let same : before ≡ before + 0 = omega arith in
         record { sheets = []; are = λ other. tt; told = append-nil (tried_line before) ∙ ap tried_line same; taken = tt }
@@ -227,7 +230,7 @@ module _ (law : SheetsAreAdded) (name : List ℕ) (scans : List (List ℕ)) (fil
       ∙ scans-count election files batch scans 2 4 _ [] taken
 
   once-planned : (election : Election) (planned : Result (List CardPlan) Halt) → election_in (files name) ≡ Ok election → plans_in election ≡ planned
-      → (goes_on planned (λ plans. scans_outcome election files 2 0 [] scans)).ends ≡ Ok tt → Accepted name scans files
+      → (goes_on planned (λ plans. tried_outcome election files scans)).ends ≡ Ok tt → Accepted name scans files
   once-planned election (Err cause) is planned ends = absurd cc
   once-planned election (Ok plans) is planned ends =
       let it : Scans election files 2 0 [] scans = scans-read election files scans 2 0 [] ends in
@@ -238,8 +241,8 @@ module _ (law : SheetsAreAdded) (name : List ℕ) (scans : List (List ℕ)) (fil
         sheets = it.sheets;
         are = it.are 2;
         told =
-            ap (λ (given : Result Election Halt). texts_of (goes_on given (λ some. once_planned some (scans_outcome some files 2 0 [] scans)))) is
-            ∙ ap (λ (given : Result (List CardPlan) Halt). texts_of (goes_on given (λ cards. scans_outcome election files 2 0 [] scans))) planned
+            ap (λ (given : Result Election Halt). texts_of (goes_on given (λ some. once_planned some (tried_outcome some files scans)))) is
+            ∙ ap (λ (given : Result (List CardPlan) Halt). texts_of (goes_on given (λ cards. tried_outcome election files scans))) planned
             ∙ it.told
             ∙ ap (λ (n : ℕ). sheet_lines 1 it.sheets ++ tried_line n) all;
         added = λ batch records events replays may.
@@ -250,7 +253,7 @@ module _ (law : SheetsAreAdded) (name : List ℕ) (scans : List (List ℕ)) (fil
       }
 
   once-taken : (given : Result Election Halt) → election_in (files name) ≡ given
-      → (goes_on given (λ some. once_planned some (scans_outcome some files 2 0 [] scans))).ends ≡ Ok tt → Accepted name scans files
+      → (goes_on given (λ some. once_planned some (tried_outcome some files scans))).ends ≡ Ok tt → Accepted name scans files
   once-taken (Err cause) is ends = absurd cc
   once-taken (Ok election) is ends = once-planned election (plans_in election) is refl ends
 

@@ -9,8 +9,8 @@ use Rattle.vx_command.specs.Acts.{Answer, Outcome, Write, halted, writing}
 use Rattle.vx_command.specs.Done.{Taken, BreaksOff, IsDone, IsWhole, IsWritten}
 use Rattle.vx_command.specs.Laws.{ActLaws}
 use Rattle.vx_command_try.specs.Lines.{cause_of, no_sheet_line, sheet_line}
-use Rattle.vx_command_try.specs.Outcome.{no_sheet}
-use Rattle.vx_command_try.specs.Steps.{TriesSheet}
+use Rattle.vx_walk.specs.Steps.{WalksSheet}
+use Rattle.vx_command_try.specs.Outcome.{no_sheet, sheet_outcome}
 
 -- a command that halts doesn't answer that it did its work
 never-ok : (cause : Halt) (outcome : Outcome) (a b : Taken) → outcome.ends ≡ Err cause → IsWritten outcome a b (Ok tt) → ⊥
@@ -23,12 +23,12 @@ never-ok cause outcome a b halts written = by (written None).ends
 
 module _ (laws : ActLaws) (number : ℕ) (a b : Taken) where
   -- a sheet's line is written, or not whole
-  pub sheet-told : (sheet : SheetMarks) (result : Answer) → IsWritten (writing (sheet_line number sheet)) a b result → TriesSheet number (Ok sheet) a b result
+  pub sheet-told : (sheet : SheetMarks) (result : Answer) → IsWritten (writing (sheet_line number sheet)) a b result → WalksSheet (sheet_outcome number (Ok sheet)) a b result
   sheet-told sheet (Ok done) written = λ rest held. laws.done (Write (sheet_line number sheet) ∷ []) rest a b held held (written held)
   sheet-told sheet (Err cause) written = λ rest held. laws.broken (Write (sheet_line number sheet) ∷ []) rest a b held held cause (written held)
 
   -- images that are none end the command
-  pub none-told : (came : Came) (result : Answer) → IsWritten (no_sheet number came) a b result → TriesSheet number (Err came) a b result
+  pub none-told : (came : Came) (result : Answer) → IsWritten (no_sheet number came) a b result → WalksSheet (sheet_outcome number (Err came)) a b result
   none-told came (Ok done) written = absurd (never-ok (NoSheet number (cause_of came)) (no_sheet number came) a b refl written)
   none-told came (Err cause) written = λ rest. written
 

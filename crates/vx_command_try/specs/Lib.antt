@@ -1,5 +1,4 @@
 pub mod Lines
 pub mod Outcome
 pub mod Setting
-pub mod Steps
 pub mod Laws

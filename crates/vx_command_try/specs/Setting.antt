@@ -1,12 +1,13 @@
--- What stays the same over a `try`, and how far it has come.
-use Rattle.std.specs.Prelude.{ℕ, ◌+◌, ◌*◌, List, [], ◌∷◌, length, IfOk, IfSome, Option, Some, None}
-use Rattle.vx_election_model.specs.declared.election.Election.{Election}
+-- What stays the same over a `try`, and what it does of a sheet and at the end.
+use Rattle.std.specs.Prelude.{ℕ, List}
+use Rattle.vx_plane.specs.Plane.{Page}
 use Rattle.vx_election_model.specs.Valid.{IsValid}
 use Rattle.vx_layout.specs.Plans.{ArePlansOf}
-use Rattle.vx_sheet.specs.Shows.{IsOfPage, PlansShowOptions}
+use Rattle.vx_sheet.specs.Shows.{PlansShowOptions}
+use Rattle.vx_command.specs.Acts.{Outcome}
+use Rattle.vx_walk.specs.Walk.{SheetStep}
 use Rattle.vx_command_try.specs.declared.setting.Setting.{Setting}
-use Rattle.vx_command_try.specs.declared.tried.Tried.{Tried}
-use Rattle.vx_command_try.specs.Outcome.{PageRead}
+use Rattle.vx_command_try.specs.Outcome.{end_outcome, sheet_step}
 
 -- the election is valid, and its cards are planned so
 pub record IsSet (setting : Setting) : Type 0 where
@@ -14,15 +15,10 @@ pub record IsSet (setting : Setting) : Type 0 where
   pub plans : ArePlansOf setting.election.now setting.plans.now
   pub shown : PlansShowOptions setting.election.now
 
--- the list of what an image was read as that may wait
-abbrev pub waits : Option PageRead → List PageRead
-waits None = []
-waits (Some read) = read ∷ []
+-- what a sheet does, of a scan with whatever name
+abbrev pub step_of : Setting → List ℕ → SheetStep
+step_of setting scan = sheet_step setting.election.now
 
--- a reading that waits is of a planned page
-abbrev pub WaitsSo : Election → Tried → Type 0
-WaitsSo election tried = IfSome tried.waiting (λ read. IfOk read (IsOfPage election))
-
--- how many images were read
-abbrev pub images_read : Tried → ℕ
-images_read tried = 2 * tried.sheets + length (waits tried.waiting)
+-- what is done at the end of the scans
+abbrev pub ending_of : Setting → ℕ → List Page → Outcome
+ending_of setting = end_outcome

@@ -1,4 +1,4 @@
-ghost use Rattle.std.specs.Prelude.{◌≡◌, ◌≤◌, ◌∷◌, [], true, false, length, is_ok};
+ghost use Rattle.std.specs.Prelude.{◌≡◌, ◌≤◌, ◌∷◌, true, false, length, is_ok};
 ghost use Rattle.std.specs.Option.{ForSome};
 ghost use Rattle.vx_election_model.specs.Valid.{IsValid};
 ghost use Rattle.vx_layout.specs.Plans.{ArePlansOf};
@@ -6,17 +6,21 @@ ghost use Rattle.vx_command.specs.Asking.{Asks};
 ghost use Rattle.vx_command.specs.Devices.{TouchesInputsAndSink, writes_nothing};
 ghost use Rattle.vx_command.specs.Done.{IsWritten};
 ghost use Rattle.vx_command.specs.Elections.{once_planned};
-ghost use Rattle.vx_command_try.specs.Outcome.{scans_outcome, try_outcome};
+ghost use Rattle.vx_command_try.specs.Outcome.{tried_outcome, try_outcome};
 ghost use Rattle.vx_command_try.specs.Setting.{IsSet};
 
-use crate::scans::try_scans;
 use crate::setting::Setting;
+use crate::work::Trying;
 use std::alloc::Global;
 use vx_command::{Halt, asks_in_order, plan_all, steps_in_order, take_election};
 use vx_election_model::{Election, drop_election};
 use vx_io::{Inputs, Sink};
 use vx_json::Texts;
 use vx_layout::{CardPlans, drop_plans, plans_show_each_option};
+use vx_walk::walk_scans;
+
+/// The word of the first scan.
+const FIRST_SCAN: u32 = 2;
 
 /// What stays the same over a `try` of planned cards.
 fn set_up<'a>(election: &'a Election, plans: &'a CardPlans) -> Setting<'a>
@@ -40,7 +44,7 @@ fn try_planned<I: Inputs, S: Sink>(
     requires election { IsValid election.now }
     requires few { length scans.now ≤ 64 }
     ensures done { ForSome (I.held inputs.old) (λ files.
-        IsWritten (once_planned election.now (scans_outcome election.now files 2 0 [] scans.now))
+        IsWritten (once_planned election.now (tried_outcome election.now files scans.now))
         (S.taken out.old) (S.taken out.new) result) }
     ensures nothing_written { writes_nothing false result ≡ true → S.taken out.new ≡ S.taken out.old }
     ensures devices { TouchesInputsAndSink I.Inputs S.Sink inputs.old inputs.new out.old out.new result }
@@ -49,8 +53,8 @@ fn try_planned<I: Inputs, S: Sink>(
     asks_in_order::<I>();
     steps_in_order::<CardPlans>();
     let plans = plan_all(alloc, election)?;
-    let setting = set_up(election, &plans);
-    let done = try_scans(alloc, &setting, scans.as_slice(), inputs, out);
+    let mut trying = Trying::new(alloc, set_up(election, &plans));
+    let done = walk_scans(alloc, &mut trying, scans.as_slice(), FIRST_SCAN, inputs, out);
     drop_plans(plans);
     done
 }

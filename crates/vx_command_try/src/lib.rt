@@ -7,13 +7,11 @@
 #![tactic(auto)]
 
 mod command;
-mod images;
 mod laws;
 mod lines;
-mod scans;
 mod setting;
 mod sheets;
-mod tried;
+mod work;
 
 pub use command::try_sheets;
 pub use laws::tried_sheets_are_added;

@@ -1,22 +1,24 @@
-ghost use Rattle.std.specs.Prelude.{◌≡◌, ◌<◌, ◌+◌, ◌*◌, ◌^◌, IfOk, false};
+ghost use Rattle.std.specs.Prelude.{◌≡◌, ◌<◌, ◌-◌, ◌*◌, ◌^◌, IfOk, false};
 ghost use Rattle.vx_command.specs.Acts.{writing};
 ghost use Rattle.vx_command.specs.Devices.{TouchesSink, writes_nothing};
 ghost use Rattle.vx_command.specs.Done.{IsWritten};
+ghost use Rattle.vx_walk.specs.Steps.{WalksSheet};
+ghost use Rattle.vx_walk.specs.Walked.{waits};
 ghost use Rattle.vx_sheet.specs.Came.{sheet_read};
 ghost use Rattle.vx_sheet.specs.Shows.{IsOfPage};
 ghost use Rattle.vx_command_try.specs.Lines as lines;
-ghost use Rattle.vx_command_try.specs.Outcome.{end_outcome, no_sheet};
-ghost use Rattle.vx_command_try.specs.Setting.{IsSet, waits};
-ghost use Rattle.vx_command_try.specs.Steps.{TriesSheet};
+ghost use Rattle.vx_command_try.specs.Outcome.{end_outcome, no_sheet, sheet_outcome, sheet_step};
+ghost use Rattle.vx_command_try.specs.Setting.{IsSet};
 
 use crate::lines::{cause_of, push_no_sheet, push_sheet, push_tried};
 use crate::setting::Setting;
-use crate::tried::Tried;
 use std::alloc::Global;
+use vx_bits::BitView;
 use vx_command::{Halt, acts_in_order, write_text};
+use vx_count::CounterMemory;
 use vx_io::Sink;
 use vx_rules::SheetMarks;
-use vx_sheet::{Came, PageRead, read_sheet};
+use vx_sheet::{Came, PageRead, read_image, read_sheet};
 
 /// Writes the line of the sheet with a number.
 fn tell_sheet<S: Sink>(
@@ -65,7 +67,7 @@ fn tell<S: Sink>(
     read: &Result<SheetMarks, Came>,
     out: &mut S,
 ) -> Result<(), Halt>
-    ensures done { TriesSheet number read.now (S.taken out.old) (S.taken out.new) result }
+    ensures done { WalksSheet (sheet_outcome number read.now) (S.taken out.old) (S.taken out.new) result }
     ensures sink { TouchesSink S.Sink out.old out.new result }
     ensures late { writes_nothing false result ≡ false }
 {
@@ -76,29 +78,55 @@ fn tell<S: Sink>(
     }
 }
 
-/// Tries the sheet behind so many by what its two images are read as.
-pub(crate) fn try_pair<S: Sink>(
+/// Tries the sheet with a number by what its two images are read as.
+fn try_pair<S: Sink>(
     alloc: Global,
     setting: &Setting<'_>,
-    sheets: u64,
+    number: u64,
     first: &PageRead,
     second: &PageRead,
     out: &mut S,
 ) -> Result<(), Halt>
     requires set { IsSet setting.now }
-    requires few { sheets < 2 ^ 62 }
+    requires some { 0 < number }
+    requires few { number < 2 ^ 62 }
     requires first { IfOk first.now (IsOfPage setting.now.election.now) }
     requires second { IfOk second.now (IsOfPage setting.now.election.now) }
-    ensures done { TriesSheet (sheets + 1) (sheet_read setting.now.election.now (2 * sheets + 1) first.now second.now)
+    ensures done { WalksSheet (sheet_outcome number (sheet_read setting.now.election.now (2 * number - 1) first.now second.now))
         (S.taken out.old) (S.taken out.new) result }
     ensures sink { TouchesSink S.Sink out.old out.new result }
     ensures late { writes_nothing false result ≡ false }
 {
     acts_in_order();
     let (election, plans) = (setting.election, setting.plans);
-    let image = 2 * sheets + 1;
+    let image = 2 * number - 1;
     let read = read_sheet(alloc, election, plans, image, first, second)?;
-    tell(alloc, sheets + 1, &read, out)
+    tell(alloc, number, &read, out)
+}
+
+/// Reads the two images of the sheet with a number, in the memory of the last counter, and tries it.
+pub(crate) fn try_images<S: Sink>(
+    alloc: Global,
+    counter: &mut CounterMemory,
+    setting: &Setting<'_>,
+    number: u64,
+    first: &BitView<'_>,
+    second: &BitView<'_>,
+    out: &mut S,
+) -> Result<(), Halt>
+    requires set { IsSet setting.now }
+    requires some { 0 < number }
+    requires few { number < 2 ^ 62 }
+    ensures done { WalksSheet (sheet_step setting.now.election.now number first.now second.now)
+        (S.taken out.old) (S.taken out.new) result }
+    ensures sink { TouchesSink S.Sink out.old out.new result }
+    ensures late { writes_nothing false result ≡ false }
+{
+    acts_in_order();
+    let (election, plans) = (setting.election, setting.plans);
+    let first_read = read_image(alloc, counter, election, plans, first)?;
+    let second_read = read_image(alloc, counter, election, plans, second)?;
+    try_pair(alloc, setting, number, &first_read, &second_read, out)
 }
 
 /// Writes the last line: how many sheets there are.
@@ -115,15 +143,19 @@ fn tell_tried<S: Sink>(alloc: Global, sheets: u64, out: &mut S) -> Result<(), Ha
 }
 
 /// Ends a `try`: how many sheets there are; or the last image has no second, and the command halts.
-pub(crate) fn end_try<S: Sink>(alloc: Global, tried: &Tried, out: &mut S) -> Result<(), Halt>
-    requires { tried.now.sheets < 2 ^ 62 }
-    ensures done { IsWritten (end_outcome tried.now.sheets (waits tried.now.waiting))
-        (S.taken out.old) (S.taken out.new) result }
+pub(crate) fn end_try<S: Sink>(
+    alloc: Global,
+    sheets: u64,
+    left: Option<BitView<'_>>,
+    out: &mut S,
+) -> Result<(), Halt>
+    requires { sheets < 2 ^ 62 }
+    ensures done { IsWritten (end_outcome sheets (waits left.entry)) (S.taken out.old) (S.taken out.new) result }
     ensures sink { TouchesSink S.Sink out.old out.new result }
     ensures late { writes_nothing false result ≡ false }
 {
-    match tried.waiting {
-        None => tell_tried(alloc, tried.sheets, out),
-        Some(_) => refuse(alloc, tried.sheets + 1, &Came::Single, out),
+    match left {
+        None => tell_tried(alloc, sheets, out),
+        Some(_) => refuse(alloc, sheets + 1, &Came::Single, out),
     }
 }

@@ -8,7 +8,7 @@ pub returns-else-waits : goal.returns-else-waits
 returns-else-waits c =
     c.new.ensures
     ∙ sym
-    (silent c.args.setting.now.election.now c.args.setting.now.center.now.events c.args.setting.now.batch.now c.args.setting.now.scan.now c.args.number c.args.first.now c.args.second.now
+    (silent c.args.setting.now.election.now c.args.setting.now.center.now.events c.args.setting.now.batch.now c.args.scan.now c.args.number c.args.first.now c.args.second.now
     (ap (λ (election : Election). sheet_waits election c.args.setting.now.center.now.events c.args.setting.now.batch.now c.args.number)
     (sym c.requires.same)
     ∙ sym c.waits.ensures ∙ c.if-waits.false))

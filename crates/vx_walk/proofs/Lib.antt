@@ -1,0 +1,3 @@
+pub mod ImageActs
+pub mod InputActs
+pub mod ScanActs

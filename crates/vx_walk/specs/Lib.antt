@@ -1,0 +1,4 @@
+pub mod First
+pub mod Walk
+pub mod Walked
+pub mod Steps
