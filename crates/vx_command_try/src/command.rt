@@ -54,7 +54,14 @@ fn try_planned<I: Inputs, S: Sink>(
     steps_in_order::<CardPlans>();
     let plans = plan_all(alloc, election)?;
     let mut trying = Trying::new(alloc, set_up(election, &plans));
-    let done = walk_scans(alloc, &mut trying, scans.as_slice(), FIRST_SCAN, inputs, out);
+    let done = walk_scans(
+        alloc,
+        &mut trying,
+        scans.as_slice(),
+        FIRST_SCAN,
+        inputs,
+        out,
+    );
     drop_plans(plans);
     done
 }

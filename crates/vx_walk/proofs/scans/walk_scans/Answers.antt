@@ -51,8 +51,8 @@ loop-scan-preserved g c =
       word = omega (arith, c.loop-scan.invariant.word);
       room = omega (arith, c.loop-scan.invariant.room, c.in_ok-walked.ensures.bound);
       same = c.in_ok-walked.ensures.devices.inputs.same ∙ c.loop-scan.invariant.same;
-      no_read_fault = c.in_ok-walked.ensures.devices.inputs.counts.still refl ∙ c.loop-scan.invariant.no_read_fault;
-      no_write_fault = c.in_ok-walked.ensures.devices.sink.still refl ∙ c.loop-scan.invariant.no_write_fault;
+      no_read_fault = c.in_ok-walked.ensures.devices.inputs.counts.still (refl {a = false}) ∙ c.loop-scan.invariant.no_read_fault;
+      no_write_fault = c.in_ok-walked.ensures.devices.sink.still (refl {a = false}) ∙ c.loop-scan.invariant.no_write_fault;
       asked =
           c.asks_in_order.ensures.one_more names i c.as_str-name.result.now _ c.args.inputs.now c.loop-scan.inputs c.walk_input.new.inputs c.loop-scan-test.true (c.as_str-name.ensures ∙ c.scan-item.is)
           c.loop-scan.invariant.asked c.in_ok-walked.ensures.asked;
