@@ -33,6 +33,33 @@ fn set_up<'a>(election: &'a Election, plans: &'a CardPlans) -> Setting<'a>
     Setting { election, plans }
 }
 
+/// Tries the scans.
+fn try_scans<I: Inputs, S: Sink>(
+    alloc: Global,
+    setting: &Setting<'_>,
+    scans: &Texts,
+    inputs: &mut I,
+    out: &mut S,
+) -> Result<(), Halt>
+    requires set { IsSet setting.now }
+    requires few { length scans.now ≤ 64 }
+    ensures done { ForSome (I.held inputs.old) (λ files.
+        IsWritten (tried_outcome setting.now.election.now files scans.now) (S.taken out.old) (S.taken out.new) result) }
+    ensures devices { TouchesInputsAndSink I.Inputs S.Sink inputs.old inputs.new out.old out.new result }
+    ensures asked { Asks I.Inputs scans.now inputs.old inputs.new (is_ok result) }
+    ensures late { writes_nothing false result ≡ false }
+{
+    let mut trying = Trying::new(alloc, *setting);
+    walk_scans(
+        alloc,
+        &mut trying,
+        scans.as_slice(),
+        FIRST_SCAN,
+        inputs,
+        out,
+    )
+}
+
 /// Plans all cards of the election and tries the scans.
 fn try_planned<I: Inputs, S: Sink>(
     alloc: Global,
@@ -53,15 +80,8 @@ fn try_planned<I: Inputs, S: Sink>(
     asks_in_order::<I>();
     steps_in_order::<CardPlans>();
     let plans = plan_all(alloc, election)?;
-    let mut trying = Trying::new(alloc, set_up(election, &plans));
-    let done = walk_scans(
-        alloc,
-        &mut trying,
-        scans.as_slice(),
-        FIRST_SCAN,
-        inputs,
-        out,
-    );
+    let setting = set_up(election, &plans);
+    let done = try_scans(alloc, &setting, scans, inputs, out);
     drop_plans(plans);
     done
 }

@@ -1,3 +1,5 @@
+ghost use Rattle.std.specs.Prelude.{◌≡◌};
+
 use crate::setting::Setting;
 use crate::sheets::{end_try, try_images};
 use std::alloc::Global;
