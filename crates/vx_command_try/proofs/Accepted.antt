@@ -1,5 +1,5 @@
 -- What a `try` that did its work has read: sheets, two by two; and how a `count` of the same scans ends.
-use Rattle.std.proofs.Common.{◌≡◌, ℕ, ◌+◌, ◌-◌, ◌*◌, Bool, true, false, cond, List, [], ◌∷◌, ◌++◌, length, Option, Some, None, Result, Ok, Err, refl, sym, ap, ap₂, subst, ◌∙◌, append_assoc, arith, length-append}
+use Rattle.std.proofs.Common.{◌≡◌, ℕ, ◌+◌, ◌-◌, ◌*◌, Bool, true, false, cond, List, [], ◌∷◌, ◌++◌, length, Option, Some, None, Result, Ok, Err, refl, sym, ap, subst, ◌∙◌, append_assoc, arith, length-append}
 use Rattle.std.specs.Prelude.{nat_lt}
 use Rattle.std.proofs.lemmas.List.{append-nil}
 use Rattle.vx_plane.specs.Plane.{Page}
@@ -25,13 +25,13 @@ use Rattle.vx_journal.specs.declared.journal.Journal.{Journal}
 use Rattle.vx_journal.specs.Keeping.{has_none, journal_in, journal_read}
 use Rattle.vx_journal.specs.Replay.{replay_of}
 use Rattle.vx_journal.specs.Steps.{once_read}
-use Rattle.vx_command_count.specs.Added.{AreSheets, IsSheet, SheetsAreAdded}
+use Rattle.vx_command_count.specs.Added.{AreSheets, SheetsAreAdded}
 use Rattle.vx_command_count.specs.Outcome as count
 use Rattle.vx_command_count.specs.Outcome.{journal_outcome, read_next, with_images}
 use Rattle.vx_command_count.specs.Sheets.{counted_with}
 use Rattle.vx_command_try.specs.Laws.{Accepted, TriedSheetsAreAdded, sheet_lines}
 use Rattle.vx_command_try.specs.Lines.{sheet_line, tried_line}
-use Rattle.vx_command_try.specs.Outcome.{end_outcome, sheet_outcome, sheet_step, tried_outcome, try_outcome}
+use Rattle.vx_command_try.specs.Outcome.{end_outcome, sheet_outcome, sheet_step, tried_outcome}
 use Rattle.vx_walk.specs.Walk as walk
 
 -- lines one after another

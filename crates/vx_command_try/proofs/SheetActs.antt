@@ -1,5 +1,5 @@
 -- A sheet whose line is written, and images that are none.
-use Rattle.std.proofs.Common.{◌≡◌, ◌⊎◌, inl, inr, ℕ, List, [], ◌∷◌, Result, Ok, Err, None, refl, sym, subst}
+use Rattle.std.proofs.Common.{◌≡◌, ◌⊎◌, inl, inr, ℕ, [], ◌∷◌, Ok, Err, None, refl, sym, subst}
 use Rattle.vx_rules.specs.declared.marks.SheetMarks.{SheetMarks}
 use Rattle.vx_sheet.specs.declared.came.Came.{Came}
 use Rattle.vx_command.specs.declared.causes.SheetCause.{SheetCause}

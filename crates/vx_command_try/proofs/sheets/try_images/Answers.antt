@@ -1,10 +1,9 @@
-use Rattle.std.proofs.Common.{◌*◌, ◌-◌, Result, Err, ap, subst, ◌∙◌}
-use Rattle.std.proofs.lemmas.Result.{err_from_is_err_and}
+use Rattle.std.proofs.Common.{◌*◌, ◌-◌, Result, subst}
 use Rattle.vx_scan_model.specs.declared.fault.PageFault.{PageFault}
 use Rattle.vx_scan_model.specs.declared.reading.PageReading.{PageReading}
 use Rattle.vx_sheet.specs.Came.{sheet_read}
 use Rattle.vx_walk.specs.Steps.{WalksSheet}
-use Rattle.vx_command_try.specs.Outcome.{sheet_outcome, sheet_step}
+use Rattle.vx_command_try.specs.Outcome.{sheet_outcome}
 use Rattle.vx_command_try.proofs.sheets.try_images.Goals as goal
 
 pub returns-clause-done : goal.returns-clause-done
