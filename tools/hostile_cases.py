@@ -1,11 +1,14 @@
 """The cases of tools/hostile, each by its number: good inputs, ways to break them, and what each command may answer then."""
+import functools
 import gzip
 import hashlib
 import json
 import os
+import pickle
 import random
 import re
 import sqlite3
+import struct
 import subprocess
 
 TOP = os.path.dirname(os.path.dirname(os.path.abspath(__file__)))
@@ -59,7 +62,7 @@ def found(folder, begin):
 
 
 def put(room, name, text):
-    with open(os.path.join(room, name), "wb") as file:
+    with open(f"{room}/{name}", "wb", buffering=0) as file:
         file.write(text)
 
 
@@ -80,9 +83,40 @@ def journal_of(path, records):
     return journal
 
 
+@functools.lru_cache(64)
+def journal_file(room, records):
+    """The bytes of a journal's file, without a log, which is made in a folder; those that come again are kept."""
+    path = os.path.join(room, "J")
+    journal_of(path, records).close()
+    with open(path, "rb") as file:
+        return file.read()
+
+
 def put_journal(room, records):
     """A journal in a file, without a log."""
-    journal_of(os.path.join(room, "J"), records).close()
+    put(room, "J", journal_file(room, tuple(records)))
+
+
+def log_sum(sums, text):
+    """The two sums of a log that SQLite has made on this machine, after some more bytes: over words of 32 bits, each with the other."""
+    one, other = sums
+    for even, odd in struct.iter_unpack("=II", text):
+        one = one + even + other & 0xFFFFFFFF
+        other = other + odd + one & 0xFFFFFFFF
+    return one, other
+
+
+def without_salt(log):
+    """A good log whose two salts are zero: SQLite draws them, and the cases of a number have to be the same ones."""
+    made = log[:16] + bytes(8)
+    sums = log_sum((0, 0), made)
+    made += struct.pack(">II", *sums)
+    frame = 24 + struct.unpack(">I", log[8:12])[0]
+    for at in range(32, len(log), frame):
+        head, page = log[at : at + 8], log[at + 24 : at + frame]
+        sums = log_sum(sums, head + page)
+        made += head + bytes(8) + struct.pack(">II", *sums) + page
+    return made
 
 
 def records_in(room):
@@ -132,7 +166,8 @@ class Good:
         put(room, "K", b'{"ranked":[{"id":"office","contests":["mayor"]}]}')
         self.reports += [unpacked(name) for number in (1, 2, 3) for name in found(f"days/totals-{number}", "R")]
         self.scans = self.all_scans()
-        self.file, self.log_file, self.log = self.journals()
+        self.file = journal_file(room, tuple(self.records))
+        self.log_file, self.log = self.with_log()
 
     def run(self, *words):
         """What the program writes of words that it takes."""
@@ -163,19 +198,15 @@ class Good:
         put(self.room, "A", self.prints)
         return all_
 
-    def journals(self):
-        """The bytes of a journal's file; and of one whose later records are still in its log, with the log's."""
+    def with_log(self):
+        """The bytes of a journal's file whose later records are still in its log, and the log's."""
         path = os.path.join(self.room, "journal")
-        journal_of(path, self.records).close()
-        with open(path, "rb") as file:
-            whole = file.read()
-        os.remove(path)
         journal = journal_of(path, self.records[:2])
         journal.execute("PRAGMA wal_checkpoint(TRUNCATE)")
         journal.executemany("INSERT INTO journal VALUES (?, ?)", list(enumerate(self.records))[2:])
         journal.commit()
         with open(path, "rb") as file, open(path + "-wal", "rb") as log:
-            parts = whole, file.read(), log.read()
+            parts = file.read(), without_salt(log.read())
         journal.close()
         return parts
 
@@ -279,10 +310,16 @@ def alter(pick, places):
         pass
 
 
+@functools.lru_cache
+def taken_apart(text):
+    """A JSON text's value and its places, packed: so they are made anew for each case without reading the text again."""
+    value = json.loads(text)
+    return pickle.dumps((value, places_in(value)), pickle.HIGHEST_PROTOCOL)
+
+
 def altered(pick, text):
     """A JSON text that says something else; another change where it has grown round itself."""
-    value = json.loads(text)
-    places = places_in(value)
+    value, places = pickle.loads(taken_apart(text))
     for _ in range(pick.choice((1, 1, 2, 3))):
         alter(pick, places)
     try:
@@ -301,23 +338,31 @@ def stained(pick, text):
     for _ in range(pick.choice((1, 3, 30, 300))):
         wide, high = pick.choice(((1, 1), (1, 20), (4, 20), (30, 3), (2, 400)))
         at, how = pick.randrange(len(made)), pick.randrange(3)
-        for row in range(high):
-            for place in range(at + row * stride, min(len(made), at + row * stride + wide)):
-                made[place] = 0 if how == 0 else 255 if how == 1 else made[place] ^ 1 << pick.randrange(8)
+        for first in range(at, min(len(made), at + high * stride), stride):
+            last = min(len(made), first + wide)
+            if how == 2:
+                for place in range(first, last):
+                    made[place] ^= 1 << pick.randrange(8)
+            else:
+                made[first:last] = (b"\x00", b"\xff")[how] * (last - first)
     made[: head.end()] = text[: head.end()]
     return bytes(made)
 
 
+@functools.lru_cache(256)
+def numbers_in(text):
+    """Where the numbers of a text stand."""
+    return [it.span() for it in re.finditer(rb"\d+", text)]
+
+
 def nudged(pick, text):
     """A text of lines in which some numbers are one more or less, or stand elsewhere."""
-    found = [it.span() for it in re.finditer(rb"\d+", text)]
-    if not found:
+    if not numbers_in(text):
         return changed(pick, text)
     for _ in range(pick.choice((1, 1, 2))):
-        first, last = found[pick.randrange(len(found))]
+        first, last = pick.choice(numbers_in(text))
         number = int(text[first:last]) + pick.choice((-1, 1, 1, 7))
         text = text[:first] + b"%d" % max(0, number) + text[last:]
-        found = [it.span() for it in re.finditer(rb"\d+", text)]
     return text
 
 
@@ -397,7 +442,8 @@ def of_election(pick, room, good):
     if command not in OF_JOURNAL or pick.randrange(2):
         return case_of("election", command, "-", may)
     records = [header_of(text), *good.records[1:]]
-    put_journal(room, records)
+    # (the same file but for the header)
+    put(room, "J", good.file.replace(good.records[0], records[0]))
     return case_of("election", command, "J", may | {9}, front=records)
 
 
