@@ -1,4 +1,5 @@
 """The cases of tools/hostile, each by its number: good inputs, ways to break them, and what each command may answer then."""
+import contextlib
 import functools
 import gzip
 import hashlib
@@ -328,6 +329,14 @@ def altered(pick, text):
         return changed(pick, text)
 
 
+def bit(pick):
+    """One of the eight bits of a byte: what `1 << pick.randrange(8)` gives, in a third of the time."""
+    drawn = pick.getrandbits(4)
+    while drawn > 7:
+        drawn = pick.getrandbits(4)
+    return 1 << drawn
+
+
 def stained(pick, text):
     """A raw bitmap or grayscale image with stains: bytes of its rows that are light, dark, or turned over, in some columns."""
     head = re.match(rb"P[45][^0-9]+(\d+)\s+(\d+)\s", text)
@@ -342,7 +351,7 @@ def stained(pick, text):
             last = min(len(made), first + wide)
             if how == 2:
                 for place in range(first, last):
-                    made[place] ^= 1 << pick.randrange(8)
+                    made[place] ^= bit(pick)
             else:
                 made[first:last] = (b"\x00", b"\xff")[how] * (last - first)
     made[: head.end()] = text[: head.end()]
@@ -608,7 +617,8 @@ def laid_out(seed, number, room, good):
     case = pick.choices(list(KINDS), KINDS.values())[0](pick, room, good)
     made = [name for _, name, _ in case.first]
     for name in FILES:
-        path = os.path.join(room, name)
-        if name != case.odd and name not in made and not os.path.lexists(path):
-            os.link(os.path.join(good.room, name), path)
+        if name != case.odd and name not in made:
+            # (the case's own file stays)
+            with contextlib.suppress(FileExistsError):
+                os.link(f"{good.room}/{name}", f"{room}/{name}")
     return case
